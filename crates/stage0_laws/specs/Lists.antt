@@ -1,0 +1,25 @@
+-- Lists: what holds of every member, and the first answer of two. The laws of lists themselves are the library's.
+use mathlib.Core.Bool.{Bool, true, false, _&&_}
+use mathlib.Core.List.{List, [], _∷_}
+use mathlib.Core.Option.{Option, none, some}
+use Prim.Native.Nat.{ℕ, zero, suc, _+_}
+
+-- Every member of the list is so.
+abbrev pub All : {A : Type 0} → (A → Type 0) → List A → Type 0
+All P [] = Unit
+All P (a ∷ l) = P a × All P l
+
+-- The sum of what a function gives for each member.
+abbrev pub sum : {A : Type 0} → (A → ℕ) → List A → ℕ
+sum f [] = 0
+sum f (a ∷ l) = f a + sum f l
+
+-- The first answer, or the second where there is none.
+abbrev pub or-else : {A : Type 0} → Option A → Option A → Option A
+or-else none b = b
+or-else (some a) b = some a
+
+-- A step taken so many times, but no further once it changes nothing.
+unfoldable pub settle : {A : Type 0} → (A → A → Bool) → (A → A) → ℕ → A → A
+settle same step zero a = a
+settle same step (suc k) a = let b = step a in elim (same a b) [ true ↦ a | false ↦ settle same step k b ]

@@ -1,0 +1,1 @@
+// Laws that several stages share: definitions and proofs alone, in specs/. This crate has no code.

@@ -1,0 +1,4 @@
+pub enum Number {
+    Read(u64, usize),
+    Refused,
+}

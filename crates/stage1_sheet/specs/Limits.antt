@@ -1,0 +1,26 @@
+-- The limits that document 01 sets, each named once. A limit counts what is still allowed.
+use Prim.Native.Nat.{ℕ, _+_, _*_}
+
+-- "The sheet": token count 1 to 24, rule count 1 to 32.
+abbrev pub most-tokens : ℕ
+most-tokens = 24
+
+abbrev pub most-rules : ℕ
+most-rules = 32
+
+-- "At most 64 byte classes and 256 regex nodes over all rules, 64 expression nodes, 4,096 bytes."
+abbrev pub most-classes : ℕ
+most-classes = 64
+
+abbrev pub most-regex-nodes : ℕ
+most-regex-nodes = 256
+
+abbrev pub most-expression-nodes : ℕ
+most-expression-nodes = 64
+
+abbrev pub most-sheet-bytes : ℕ
+most-sheet-bytes = 4096
+
+-- A byte, as a class's low and high bytes are.
+abbrev pub most-byte : ℕ
+most-byte = 255

@@ -1,0 +1,46 @@
+-- How a sheet is written: "A sheet is numbers only", one after the other, in the order of the page's list.
+-- This says what a sheet's bytes are, not how they are read.
+use mathlib.Core.List.{List, [], _∷_, _++_}
+use Prim.Native.Nat.{ℕ}
+use lib.ListN.{length}
+use Rattle.stage0_number.specs.Number.{encode}
+use Rattle.stage1_sheet.specs.Regex.{Regex, empty, class, concat, union, star}
+use Rattle.stage1_sheet.specs.Expression.{Expression, epsilon, bottom, token, sequence, alternative, fixed-point, variable}
+use Rattle.stage1_sheet.specs.Sheet.{Rule, Sheet}
+
+-- Numbers, one after the other, as bytes.
+unfoldable pub spell : List ℕ → List ℕ
+spell [] = []
+spell (n ∷ ns) = encode n ++ spell ns
+
+-- "a regex in prefix order: 0 empty word; 1 byte class, followed by its low byte and high byte; 2 sequence; 3 alternative; 4 star"
+unfoldable pub regex-numbers : Regex → List ℕ
+regex-numbers empty = 0 ∷ []
+regex-numbers (class low high) = 1 ∷ low ∷ high ∷ []
+regex-numbers (concat r s) = 2 ∷ (regex-numbers r ++ regex-numbers s)
+regex-numbers (union r s) = 3 ∷ (regex-numbers r ++ regex-numbers s)
+regex-numbers (star r) = 4 ∷ regex-numbers r
+
+-- "per rule: action, then a regex"
+unfoldable pub rule-numbers : List Rule → List ℕ
+rule-numbers [] = []
+rule-numbers (r ∷ rs) = r .action ∷ (regex-numbers (r .regex) ++ rule-numbers rs)
+
+-- "one expression in prefix order: 0 ε; 1 ⊥; 2 token, followed by its number; 3 sequence; 4 alternative; 5 fixed point;
+-- 6 variable, followed by how many open fixed points lie between it and its own"
+unfoldable pub expression-numbers : Expression → List ℕ
+expression-numbers epsilon = 0 ∷ []
+expression-numbers bottom = 1 ∷ []
+expression-numbers (token k) = 2 ∷ k ∷ []
+expression-numbers (sequence g h) = 3 ∷ (expression-numbers g ++ expression-numbers h)
+expression-numbers (alternative g h) = 4 ∷ (expression-numbers g ++ expression-numbers h)
+expression-numbers (fixed-point g) = 5 ∷ expression-numbers g
+expression-numbers (variable n) = 6 ∷ n ∷ []
+
+-- "version, 1; token count T; rule count R; per rule ..; one expression"
+unfoldable pub sheet-numbers : Sheet → List ℕ
+sheet-numbers s = 1 ∷ s .tokens ∷ length (s .rules) ∷ (rule-numbers (s .rules) ++ expression-numbers (s .expression))
+
+-- A sheet's bytes.
+unfoldable pub sheet-bytes : Sheet → List ℕ
+sheet-bytes s = spell (sheet-numbers s)

@@ -1,0 +1,58 @@
+-- When bytes are a well-formed sheet: they spell a sheet that keeps the page's ranges and limits. No reader is named here.
+use mathlib.Core.Path.{_≡_}
+use mathlib.Core.List.{List}
+use Prim.Native.Nat.{ℕ, suc, _≤_, _<_}
+use lib.ListN.{length}
+use Rattle.stage0_laws.specs.Lists.{All, sum}
+use Rattle.stage1_sheet.specs.Limits.{most-tokens, most-rules, most-classes, most-regex-nodes, most-expression-nodes, most-sheet-bytes, most-byte}
+use Rattle.stage1_sheet.specs.Regex.{Regex, empty, class, concat, union, star, regex-nodes, class-count}
+use Rattle.stage1_sheet.specs.Expression.{Expression, epsilon, bottom, token, sequence, alternative, fixed-point, variable, size}
+use Rattle.stage1_sheet.specs.Sheet.{Rule, Sheet}
+use Rattle.stage1_sheet.specs.Spelling.{sheet-bytes}
+
+-- "its low byte (0 to 255) and high byte (low to 255)"
+abbrev pub BytesInRange : Regex → Type 0
+BytesInRange empty = Unit
+BytesInRange (class low high) = (low ≤ high) × (high ≤ most-byte)
+BytesInRange (concat r s) = BytesInRange r × BytesInRange s
+BytesInRange (union r s) = BytesInRange r × BytesInRange s
+BytesInRange (star r) = BytesInRange r
+
+-- Every token is below the token count, and every variable counts fixed points that are open where it stands:
+-- `Closed tokens open g` for an expression g inside so many open fixed points.
+abbrev pub Closed : ℕ → ℕ → Expression → Type 0
+Closed tokens opened epsilon = Unit
+Closed tokens opened bottom = Unit
+Closed tokens opened (token k) = k < tokens
+Closed tokens opened (sequence g h) = Closed tokens opened g × Closed tokens opened h
+Closed tokens opened (alternative g h) = Closed tokens opened g × Closed tokens opened h
+Closed tokens opened (fixed-point g) = Closed tokens (suc opened) g
+Closed tokens opened (variable n) = n < opened
+
+-- "action (0 skips, k + 1 returns token k, k below T), then a regex"
+pub record RuleInRange (tokens : ℕ) (r : Rule) : Type 0 where
+  pub action-allowed : r .action ≤ tokens
+  pub bytes-allowed : BytesInRange (r .regex)
+
+-- "token count T, 1 to 24; rule count R, 1 to 32", the fields of its rules and its expression, and
+-- "at most 64 byte classes and 256 regex nodes over all rules, 64 expression nodes"
+pub record WithinLimits (s : Sheet) : Type 0 where
+  pub tokens-least : 1 ≤ s .tokens
+  pub tokens-most : s .tokens ≤ most-tokens
+  pub rules-least : 1 ≤ length (s .rules)
+  pub rules-most : length (s .rules) ≤ most-rules
+  pub rules-allowed : All (RuleInRange (s .tokens)) (s .rules)
+  pub regex-nodes-most : sum (λ r. regex-nodes (r .regex)) (s .rules) ≤ most-regex-nodes
+  pub classes-most : sum (λ r. class-count (r .regex)) (s .rules) ≤ most-classes
+  pub closed : Closed (s .tokens) 0 (s .expression)
+  pub nodes-most : size (s .expression) ≤ most-expression-nodes
+
+-- The bytes are those of the sheet s, which keeps the limits, "4,096 bytes" among them.
+pub record Spells (bytes : List ℕ) (s : Sheet) : Type 0 where
+  pub spelled : bytes ≡ sheet-bytes s
+  pub limits : WithinLimits s
+  pub bytes-most : length bytes ≤ most-sheet-bytes
+
+-- Bytes are a well-formed sheet when they spell some sheet.
+abbrev pub WellFormed : List ℕ → Type 0
+WellFormed bytes = (s : Sheet) × Spells bytes s

@@ -1,0 +1,49 @@
+-- "Each expression node has the least type (nullable, first set, follow-last set) that solves Figure 2's equations over the
+-- whole expression": all nodes start with ⊥'s type, and the equations are applied to all of them until nothing changes.
+use mathlib.Core.Bool.{Bool, true, false, _&&_, Bool·beq}
+use mathlib.Core.List.{List, [], _∷_, map}
+use Prim.Native.Nat.{ℕ, _*_}
+use lib.ListN.{getD, length, replicate}
+use lib.Dec.{eqb}
+use Rattle.stage0_laws.specs.Lists.{settle}
+use Rattle.stage1_sheet.specs.Expression.{Expression}
+use Rattle.stage2_types.specs.Types.{LanguageType, epsilon-type, bottom-type, token-type, sequence-type, alternative-type}
+use Rattle.stage2_types.specs.Nodes.{Node, epsilon-node, bottom-node, token-node, sequence-node, alternative-node, fixed-point-node, variable-node, nodes}
+
+-- The type of a node in a list of all nodes' types.
+abbrev pub type-of : List LanguageType → ℕ → LanguageType
+type-of types n = getD types n bottom-type
+
+-- Figure 2's equation at a node. A fixed point has its body's type, and a variable its fixed point's.
+unfoldable pub node-type : List LanguageType → Node → LanguageType
+node-type types epsilon-node = epsilon-type
+node-type types bottom-node = bottom-type
+node-type types (token-node t) = token-type t
+node-type types (sequence-node l r) = sequence-type (type-of types l) (type-of types r)
+node-type types (alternative-node l r) = alternative-type (type-of types l) (type-of types r)
+node-type types (fixed-point-node b) = type-of types b
+node-type types (variable-node f guarded) = type-of types f
+
+-- All equations at once.
+unfoldable pub next-types : List Node → List LanguageType → List LanguageType
+next-types ns types = map (node-type types) ns
+
+unfoldable pub same-type : LanguageType → LanguageType → Bool
+same-type a b = Bool·beq (a .null) (b .null) && (eqb (a .first) (b .first) && eqb (a .flast) (b .flast))
+
+unfoldable pub same-types : List LanguageType → List LanguageType → Bool
+same-types [] [] = true
+same-types [] (b ∷ ys) = false
+same-types (a ∷ xs) [] = false
+same-types (a ∷ xs) (b ∷ ys) = same-type a b && same-types xs ys
+
+-- A node's type can grow 49 times: once to nullable, and by each of 24 tokens in each set. So this many rounds are enough.
+unfoldable pub type-rounds : List Node → ℕ
+type-rounds ns = 49 * length ns
+
+unfoldable pub types-of : List Node → List LanguageType
+types-of ns = settle same-types (next-types ns) (type-rounds ns) (replicate (length ns) bottom-type)
+
+-- The least types of all nodes of an expression, in sheet order.
+unfoldable pub least-types : Expression → List LanguageType
+least-types e = types-of (nodes e)

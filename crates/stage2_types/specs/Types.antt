@@ -1,0 +1,92 @@
+-- Figure 2 of 000: types, the operations on them, separable and apart, and the typing judgement. A set of tokens is one
+-- number, token t being 2^t, as a set of positions is in an image.
+use mathlib.Core.Path.{_≡_}
+use mathlib.Core.Bool.{Bool, true, false, _&&_, _||_, cond}
+use mathlib.Core.List.{List, [], _∷_, map}
+use Prim.Native.Nat.{ℕ, zero, suc, _^_}
+use lib.Bits.{bitOr, bitAnd}
+use Rattle.stage1_sheet.specs.Expression.{Expression, epsilon, bottom, token, sequence, alternative, fixed-point, variable}
+
+-- {NULL; FIRST; FLAST}. Document 01 calls FLAST the follow-last set.
+pub record LanguageType : Type 0 where
+  pub null : Bool
+  pub first : ℕ
+  pub flast : ℕ
+
+-- b ? S
+abbrev pub if-null : Bool → ℕ → ℕ
+if-null b s = cond b s 0
+
+-- τ_ε, τ_⊥, τ_t
+unfoldable pub epsilon-type : LanguageType
+epsilon-type = record { null = true; first = 0; flast = 0 }
+
+unfoldable pub bottom-type : LanguageType
+bottom-type = record { null = false; first = 0; flast = 0 }
+
+unfoldable pub token-type : ℕ → LanguageType
+token-type t = record { null = false; first = 2 ^ t; flast = 0 }
+
+-- τ₁ · τ₂
+unfoldable pub sequence-type : LanguageType → LanguageType → LanguageType
+sequence-type a b = record {
+  null = a .null && b .null;
+  first = bitOr (a .first) (if-null (a .null) (b .first));
+  flast = bitOr (b .flast) (if-null (b .null) (bitOr (b .first) (a .flast)));
+}
+
+-- τ₁ ∨ τ₂
+unfoldable pub alternative-type : LanguageType → LanguageType → LanguageType
+alternative-type a b = record {
+  null = a .null || b .null;
+  first = bitOr (a .first) (b .first);
+  flast = bitOr (a .flast) (b .flast);
+}
+
+-- τ₁ ⊛ τ₂, separable: FLAST of the first and FIRST of the second have no token in common, and the first is not NULL.
+pub record Separable (a b : LanguageType) : Type 0 where
+  pub disjoint : bitAnd (a .flast) (b .first) ≡ 0
+  pub not-null : a .null ≡ false
+
+-- τ₁ # τ₂, apart: the FIRST sets have no token in common, and not both are NULL.
+pub record Apart (a b : LanguageType) : Type 0 where
+  pub disjoint : bitAnd (a .first) (b .first) ≡ 0
+  pub one-null : (a .null && b .null) ≡ false
+
+-- The two contexts Γ; Δ as one list, the innermost variable first: a variable of Γ may be used, one of Δ may not yet.
+pub record Hypothesis : Type 0 where
+  pub usable : Bool
+  pub type : LanguageType
+
+abbrev pub Context : Type 0
+Context = List Hypothesis
+
+-- Γ, Δ; • : every variable may be used.
+abbrev pub usable-now : Hypothesis → Hypothesis
+usable-now h = record { usable = true; type = h .type }
+
+abbrev pub all-usable : Context → Context
+all-usable = map usable-now
+
+-- α : τ ∈ Γ, for the variable with so many open fixed points between it and its own
+pub data Usable : Context → ℕ → LanguageType → Type 0 where
+  here : {a : LanguageType} {Γ : Context} → Usable (record { usable = true; type = a } ∷ Γ) zero a
+  there : {h : Hypothesis} {a : LanguageType} {Γ : Context} {n : ℕ} → Usable Γ n a → Usable (h ∷ Γ) (suc n) a
+
+-- Γ; Δ ⊢ g : τ. A fixed point's annotation is chosen by the derivation: "the sheet carries no types".
+infix 20 _⊢_∶_
+pub data _⊢_∶_ : Context → Expression → LanguageType → Type 0 where
+  type-epsilon : {Γ : Context} → Γ ⊢ epsilon ∶ epsilon-type
+  type-bottom : {Γ : Context} → Γ ⊢ bottom ∶ bottom-type
+  type-token : {Γ : Context} (t : ℕ) → Γ ⊢ token t ∶ token-type t
+  type-variable : {Γ : Context} {n : ℕ} {a : LanguageType} → Usable Γ n a → Γ ⊢ variable n ∶ a
+  type-sequence : {Γ : Context} {g h : Expression} {a b : LanguageType}
+      → Γ ⊢ g ∶ a → all-usable Γ ⊢ h ∶ b → Separable a b → Γ ⊢ sequence g h ∶ sequence-type a b
+  type-alternative : {Γ : Context} {g h : Expression} {a b : LanguageType}
+      → Γ ⊢ g ∶ a → Γ ⊢ h ∶ b → Apart a b → Γ ⊢ alternative g h ∶ alternative-type a b
+  type-fixed-point : {Γ : Context} {g : Expression} {a : LanguageType}
+      → (record { usable = false; type = a } ∷ Γ) ⊢ g ∶ a → Γ ⊢ fixed-point g ∶ a
+
+-- "its expression has a type under the published typing rules"
+abbrev pub HasType : Expression → Type 0
+HasType e = (a : LanguageType) × ([] ⊢ e ∶ a)

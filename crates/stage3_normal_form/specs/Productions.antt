@@ -1,0 +1,56 @@
+-- "The nonterminals are the expression's nodes. A node's productions: ..": Figure 4 of 000 with the variables resolved.
+-- Which productions stay, and under which number a node is written, is said elsewhere.
+use mathlib.Core.Bool.{Bool, true, false, _||_}
+use mathlib.Core.List.{List, [], _∷_, _++_, map}
+use Prim.Native.Nat.{ℕ, zero, suc}
+use lib.ListN.{getD, length, replicate}
+use Rattle.stage1_sheet.specs.Expression.{Expression}
+use Rattle.stage2_types.specs.Nodes.{Node, epsilon-node, bottom-node, token-node, sequence-node, alternative-node, fixed-point-node, variable-node, nodes}
+
+-- A production that begins with a symbol: a token here, a rule in an image. Its tail is a list of nonterminals.
+pub record Production : Type 0 where
+  pub head : ℕ
+  pub tail : List ℕ
+
+-- A nonterminal's productions: whether ε is one of them, and the others.
+pub record Row : Type 0 where
+  pub empty : Bool
+  pub productions : List Production
+
+abbrev pub no-productions : Row
+no-productions = record { empty = false; productions = [] }
+
+-- A nonterminal added at the end of a production's tail.
+unfoldable pub ended-by : ℕ → Production → Production
+ended-by n p = record { head = p .head; tail = p .tail ++ (n ∷ []) }
+
+abbrev pub row-of : List Row → ℕ → Row
+row-of rows n = getD rows n no-productions
+
+-- "ε gives ε; a token gives itself with an empty tail; ⊥ none; a sequence gives its left part's productions, the right node
+-- added at the end of each tail; an alternative gives both parts'; a fixed point its body's; a variable its fixed point's."
+-- No node can be added to ε; a sequence whose left part has ε is turned down by question 9.
+unfoldable pub node-row : List Row → Node → Row
+node-row rows epsilon-node = record { empty = true; productions = [] }
+node-row rows bottom-node = no-productions
+node-row rows (token-node t) = record { empty = false; productions = record { head = t; tail = [] } ∷ [] }
+node-row rows (sequence-node l r) = record { empty = false; productions = map (ended-by r) ((row-of rows l) .productions) }
+node-row rows (alternative-node l r) = record {
+  empty = (row-of rows l) .empty || (row-of rows r) .empty;
+  productions = (row-of rows l) .productions ++ (row-of rows r) .productions;
+}
+node-row rows (fixed-point-node b) = row-of rows b
+node-row rows (variable-node f guarded) = row-of rows f
+
+unfoldable pub next-rows : List Node → List Row → List Row
+next-rows ns rows = map (node-row rows) ns
+
+-- So many rounds of all equations, from no productions at all.
+unfoldable pub rows-after : ℕ → List Node → List Row
+rows-after zero ns = replicate (length ns) no-productions
+rows-after (suc k) ns = next-rows ns (rows-after k ns)
+
+-- The productions of all nodes, in sheet order. A node's productions come down from a left part, an alternative, a body or a
+-- fixed point, and such a descent meets no node twice if every variable is guarded: a round for each node is enough.
+unfoldable pub rows : Expression → List Row
+rows e = rows-after (length (nodes e)) (nodes e)

@@ -1,0 +1,5 @@
+-- The words of a regex, the positions of a sheet's rules, and the walk that finds the longest match.
+pub mod Words
+pub mod Positions
+pub mod Match
+pub mod Walk
