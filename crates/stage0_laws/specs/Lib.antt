@@ -4,3 +4,4 @@ pub mod Order
 pub mod Truth
 pub mod Bits
 pub mod BitLaws
+pub mod Computing

@@ -8,3 +8,4 @@ pub mod WellFormed
 pub mod Field
 pub mod Items
 pub mod Reading
+pub mod Computing

@@ -4,3 +4,4 @@ pub mod Types
 pub mod Nodes
 pub mod LeastTypes
 pub mod Questions
+pub mod Computing

@@ -2,3 +2,4 @@
 pub mod Productions
 pub mod Derives
 pub mod NormalForm
+pub mod Computing

@@ -3,3 +3,4 @@ pub mod Words
 pub mod Positions
 pub mod Match
 pub mod Walk
+pub mod Computing

@@ -1,0 +1,64 @@
+-- An image: what compiling makes of a sheet, as values, as numbers and as bytes ("The image").
+use mathlib.Core.Bool.{Bool, true, false, cond}
+use mathlib.Core.List.{List, [], _∷_, _++_, map}
+use Prim.Native.Nat.{ℕ, zero, suc}
+use lib.ListN.{length}
+use lib.Dec.{eqb}
+use Rattle.stage1_sheet.specs.Sheet.{Rule, Sheet}
+use Rattle.stage1_sheet.specs.Spelling.{spell}
+use Rattle.stage3_normal_form.specs.Productions.{Production, Row}
+use Rattle.stage3_normal_form.specs.NormalForm.{normal-form}
+use Rattle.stage4_lexer.specs.Positions.{Position, positions, first-positions}
+use Rattle.stage5_image.specs.Fusion.{fused}
+use Rattle.stage5_image.specs.Numbering.{numbered}
+
+-- A row is a nonterminal's: its productions begin with a rule, and tails hold nonterminals' numbers.
+pub record Image : Type 0 where
+  pub skips : List Bool
+  pub positions : List Position
+  pub first : ℕ
+  pub rows : List Row
+
+unfoldable pub skips-rule : Rule → Bool
+skips-rule r = eqb (r .action) 0
+
+-- The one normal form of a sheet: drop, fuse, reach, number, in this order.
+unfoldable pub image-of : Sheet → Image
+image-of s = record {
+  skips = map skips-rule (s .rules);
+  positions = positions (s .rules);
+  first = first-positions (s .rules);
+  rows = numbered (fused (s .rules) (normal-form (s .expression)));
+}
+
+unfoldable pub flag : Bool → ℕ
+flag b = cond b 1 0
+
+unfoldable pub flag-numbers : List Bool → List ℕ
+flag-numbers bs = map flag bs
+
+-- "per position low, high, rule, last (0 or 1), follow set"
+unfoldable pub position-numbers : List Position → List ℕ
+position-numbers [] = []
+position-numbers (p ∷ ps) = p .low ∷ p .high ∷ p .rule ∷ flag (p .last) ∷ p .follow ∷ position-numbers ps
+
+-- "productions by rising rule, each as rule, tail length 0 to 31, tail"
+unfoldable pub production-numbers : List Production → List ℕ
+production-numbers [] = []
+production-numbers (p ∷ ps) = p .head ∷ length (p .tail) ∷ (p .tail ++ production-numbers ps)
+
+-- "per nonterminal its ε flag, production count and productions"
+unfoldable pub row-numbers : List Row → List ℕ
+row-numbers [] = []
+row-numbers (r ∷ rs) = flag (r .empty) ∷ length (r .productions) ∷ (production-numbers (r .productions) ++ row-numbers rs)
+
+-- "version 1; R; per rule 1 if it skips, else 0; position count P; per position ..; first set; nonterminal count; per
+-- nonterminal .."
+unfoldable pub image-numbers : Image → List ℕ
+image-numbers i =
+    1 ∷ length (i .skips) ∷ (flag-numbers (i .skips)
+    ++ (length (i .positions) ∷ (position-numbers (i .positions) ++ (i .first ∷ length (i .rows) ∷ row-numbers (i .rows)))))
+
+-- An image's bytes: "Numbers as above".
+unfoldable pub image-bytes : Image → List ℕ
+image-bytes i = spell (image-numbers i)

@@ -1,0 +1,9 @@
+-- Fusion with the lexer rules, the numbering of nonterminals, the image and its bytes, how an image is read back, what it
+-- unfolds to, and compiling as a whole.
+pub mod Fusion
+pub mod Numbering
+pub mod Image
+pub mod ImageReading
+pub mod Unfolding
+pub mod Compile
+pub mod Computing

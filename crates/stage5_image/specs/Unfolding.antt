@@ -1,0 +1,36 @@
+-- What an image's rows unfold to: the expansion relation of 000 (Definition 1), by rule. A list of pending nonterminals unfolds
+-- to a rule sequence.
+use mathlib.Core.Path.{_≡_}
+use mathlib.Core.Bool.{true}
+use mathlib.Core.List.{List, [], _∷_, _++_, List·Memᴰ}
+use Prim.Native.Nat.{ℕ, suc}
+use Rattle.stage1_sheet.specs.Sheet.{Rule, Sheet}
+use Rattle.stage2_types.specs.Denotation.{Denotes}
+use Rattle.stage3_normal_form.specs.Productions.{Production, Row, row-of}
+use Rattle.stage4_lexer.specs.Words.{RuleAt}
+
+pub data Unfolds (rows : List Row) : List ℕ → List ℕ → Type 0 where
+  none-pending : Unfolds rows [] []
+  by-epsilon : {n : ℕ} {pending rules : List ℕ}
+      → (row-of rows n) .empty ≡ true → Unfolds rows pending rules → Unfolds rows (n ∷ pending) rules
+  by-production : {n : ℕ} {pending rules : List ℕ} {p : Production}
+      → List·Memᴰ p ((row-of rows n) .productions) → Unfolds rows (p .tail ++ pending) rules → Unfolds rows (n ∷ pending) (p .head ∷ rules)
+
+-- The start unfolds to the rule sequence.
+abbrev pub StartUnfolds : List Row → List ℕ → Type 0
+StartUnfolds rows rules = Unfolds rows (0 ∷ []) rules
+
+-- Rule k returns token t: its action is t + 1.
+pub record Returns (rules : List Rule) (k t : ℕ) : Type 0 where
+  pub rule : Rule
+  pub at : RuleAt rules k rule
+  pub returns : rule .action ≡ suc t
+
+-- A rule sequence spells a token sequence, "each token spelled by any rule that returns it".
+pub data SpellsTokens (rules : List Rule) : List ℕ → List ℕ → Type 0 where
+  no-tokens : SpellsTokens rules [] []
+  one-more : {k t : ℕ} {ks ts : List ℕ} → Returns rules k t → SpellsTokens rules ks ts → SpellsTokens rules (k ∷ ks) (t ∷ ts)
+
+-- Demand 2: "the rule sequences that spell a token sequence which the expression denotes"
+abbrev pub DenotedRules : Sheet → List ℕ → Type 0
+DenotedRules s ks = (ts : List ℕ) × Denotes (s .expression) ts × SpellsTokens (s .rules) ks ts

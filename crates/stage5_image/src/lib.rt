@@ -1,0 +1,1 @@
+// The image: definitions and their laws alone, in specs/. This crate has no code.

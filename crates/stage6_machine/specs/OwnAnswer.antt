@@ -1,0 +1,46 @@
+-- "The sheet's own answer. It comes from the sheet's rules and expression and from the text, and from nothing in the image or the
+-- run." A relation, step by step as the page has it.
+use mathlib.Core.Path.{_≡_}
+use mathlib.Core.List.{List, [], _∷_, _++_}
+use Prim.Native.Nat.{ℕ, zero, suc, _+_, _<_}
+use lib.ListN.{length, drop}
+use Rattle.stage1_sheet.specs.Sheet.{Rule, Sheet}
+use Rattle.stage2_types.specs.Denotation.{Denotes}
+use Rattle.stage4_lexer.specs.Words.{RuleAt, LongestMatch, NoMatch}
+use Rattle.stage6_machine.specs.Answer.{Answer, answer}
+
+-- "some denoted sequence begins with the tokens so far and then k"
+abbrev pub Allowed : Sheet → List ℕ → ℕ → Type 0
+Allowed s tokens k = (more : List ℕ) × Denotes (s .expression) (tokens ++ (k ∷ more))
+
+-- Rule k of the sheet has the action.
+abbrev pub ActionOf : Sheet → ℕ → ℕ → Type 0
+ActionOf s k action = (r : Rule) × RuleAt (s .rules) k r × (r .action ≡ action)
+
+-- From a place p and the tokens so far, the answer. "The answer's place is p, its count the number of tokens so far."
+pub data AnswersFrom (s : Sheet) (text : List ℕ) : ℕ → List ℕ → Answer → Type 0 where
+  -- "p is the text's length: if the expression denotes the tokens so far, the answer is number 0, else 16."
+  accepts : {p : ℕ} {tokens : List ℕ}
+      → p ≡ length text → Denotes (s .expression) tokens → AnswersFrom s text p tokens (answer 0 p (length tokens))
+  ends-early : {p : ℕ} {tokens : List ℕ}
+      → p ≡ length text → (Denotes (s .expression) tokens → ⊥) → AnswersFrom s text p tokens (answer 16 p (length tokens))
+  -- "Otherwise the longest front of the text from p that is a word of any rule is found, and the lowest rule that has it.
+  -- None: 14."
+  no-rule : {p : ℕ} {tokens : List ℕ}
+      → p < length text → NoMatch (s .rules) (drop p text) → AnswersFrom s text p tokens (answer 14 p (length tokens))
+  -- "That rule skips: p moves past the front."
+  skips : {p : ℕ} {tokens : List ℕ} {a : Answer} (k n : ℕ)
+      → p < length text → LongestMatch (s .rules) (drop p text) k n → ActionOf s k 0
+      → AnswersFrom s text (p + n) tokens a → AnswersFrom s text p tokens a
+  -- "It returns token k: if some denoted sequence begins with the tokens so far and then k, k joins them and p moves past the
+  -- front. If none does: 15."
+  takes : {p : ℕ} {tokens : List ℕ} {a : Answer} (k n t : ℕ)
+      → p < length text → LongestMatch (s .rules) (drop p text) k n → ActionOf s k (suc t) → Allowed s tokens t
+      → AnswersFrom s text (p + n) (tokens ++ (t ∷ [])) a → AnswersFrom s text p tokens a
+  refuses : {p : ℕ} {tokens : List ℕ} (k n t : ℕ)
+      → p < length text → LongestMatch (s .rules) (drop p text) k n → ActionOf s k (suc t) → (Allowed s tokens t → ⊥)
+      → AnswersFrom s text p tokens (answer 15 p (length tokens))
+
+-- "Kept are a place p, at first 0, and the tokens so far, at first none."
+abbrev pub OwnAnswer : Sheet → List ℕ → Answer → Type 0
+OwnAnswer s text a = AnswersFrom s text 0 [] a

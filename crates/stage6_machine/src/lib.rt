@@ -1,0 +1,1 @@
+// The machine: definitions and their laws alone, in specs/. This crate has no code.

@@ -1,0 +1,74 @@
+-- The cases that document 01 marks with ★, as rows of one table, and the theorem that covers all rows. A row gives what the
+-- page gives; a text is written as its bytes.
+use mathlib.Core.Path.{_≡_, refl}
+use mathlib.Core.List.{List, [], _∷_, _++_}
+use Prim.Native.Nat.{ℕ, zero, suc, _+_, _*_}
+use lib.ListN.{length}
+use Rattle.stage0_laws.specs.Lists.{All}
+use Rattle.stage1_sheet.specs.Expression.{Expression, token, sequence, fixed-point, variable}
+use Rattle.stage2_types.specs.Denotation.{Denotes, denotation, iterate}
+use Rattle.stage5_image.specs.Compile.{Compiled, refused, compiled, compile, written-part}
+use Rattle.stage6_machine.specs.Answer.{Answer, answer}
+use Rattle.stage6_machine.specs.Run.{run}
+use Rattle.stage6_machine.specs.Computing.{computing-machine}
+use Rattle.stage7_demands.specs.SheetD.{with-expression, sheet-D, rules-of-image-D, image-D}
+
+pub data Case : Type 0 where
+  -- a sheet, and how compiling it ends
+  compiles : List ℕ → Compiled → Case
+  -- a sheet, a text, and the answer of the sheet's image
+  reads : List ℕ → List ℕ → Answer → Case
+  -- an expression that denotes no token sequence
+  denotes-nothing : Expression → Case
+
+-- Compiling with the work area that document 01 names and room for any image.
+unfoldable pub compiled-sheet : List ℕ → Compiled
+compiled-sheet sheet = compile sheet 65536 65536
+
+-- A long enough stack: 1 + 30 × the text's length entries.
+unfoldable pub answer-of : List ℕ → List ℕ → Answer
+answer-of sheet text = run (written-part (compiled-sheet sheet)) text (1 + 30 * length text)
+
+abbrev pub Holds : Case → Type 0
+Holds (compiles sheet c) = compiled-sheet sheet ≡ c
+Holds (reads sheet text a) = answer-of sheet text ≡ a
+Holds (denotes-nothing e) = (tokens : List ℕ) → Denotes e tokens → ⊥
+
+-- μα.N·α
+abbrev pub endless : Expression
+endless = fixed-point (sequence (token 0) (variable 0))
+
+pub cases : List Case
+cases =
+    -- sheet D: its image, and `12 /7`, the empty text, `12/`, `12//7`, `12h`
+    compiles sheet-D (compiled image-D)
+    ∷ reads sheet-D (49 ∷ 50 ∷ 32 ∷ 47 ∷ 55 ∷ []) (answer 0 5 3)
+    ∷ reads sheet-D [] (answer 16 0 0)
+    ∷ reads sheet-D (49 ∷ 50 ∷ 47 ∷ []) (answer 16 3 2)
+    ∷ reads sheet-D (49 ∷ 50 ∷ 47 ∷ 47 ∷ 55 ∷ []) (answer 15 3 2)
+    ∷ reads sheet-D (49 ∷ 50 ∷ 104 ∷ []) (answer 14 2 1)
+    -- N ∨ N
+    ∷ compiles (with-expression (4 ∷ 2 ∷ 0 ∷ 2 ∷ 0 ∷ [])) (refused 10 20)
+    -- (ε ∨ N)·S
+    ∷ compiles (with-expression (3 ∷ 4 ∷ 0 ∷ 2 ∷ 0 ∷ 2 ∷ 1 ∷ [])) (refused 9 20)
+    -- μα.α
+    ∷ compiles (with-expression (5 ∷ 6 ∷ 0 ∷ [])) (refused 8 21)
+    -- μα.(α ∨ (N ∨ N))
+    ∷ compiles (with-expression (5 ∷ 4 ∷ 6 ∷ 0 ∷ 4 ∷ 2 ∷ 0 ∷ 2 ∷ 0 ∷ [])) (refused 10 21)
+    -- μα.N·α: one bare nonterminal, and it denotes nothing
+    ∷ compiles (with-expression (5 ∷ 3 ∷ 2 ∷ 0 ∷ 6 ∷ 0 ∷ [])) (compiled (rules-of-image-D ++ (1 ∷ 0 ∷ 0 ∷ [])))
+    ∷ denotes-nothing endless
+    -- (S·μβ.(ε ∨ N·β))·N, and with S last
+    ∷ compiles (with-expression (3 ∷ 3 ∷ 2 ∷ 1 ∷ 5 ∷ 4 ∷ 0 ∷ 3 ∷ 2 ∷ 0 ∷ 6 ∷ 0 ∷ 2 ∷ 0 ∷ [])) (refused 9 20)
+    ∷ compiles (with-expression (3 ∷ 3 ∷ 2 ∷ 1 ∷ 5 ∷ 4 ∷ 0 ∷ 3 ∷ 2 ∷ 0 ∷ 6 ∷ 0 ∷ 2 ∷ 1 ∷ []))
+        (compiled (rules-of-image-D ++ (4 ∷ 0 ∷ 1 ∷ 1 ∷ 2 ∷ 1 ∷ 2 ∷ 1 ∷ 1 ∷ 0 ∷ 1 ∷ 3 ∷ 0 ∷ 1 ∷ 1 ∷ 0 ∷ 1 ∷ 1 ∷ 0 ∷ 1 ∷ 3 ∷ [])))
+    ∷ []
+
+-- No iterate of μα.N·α has a word: its right part is the iterate before.
+endless-iterate : (i : ℕ) (w : List ℕ) → iterate (λ L. denotation (sequence (token 0) (variable 0)) (L ∷ [])) i w → ⊥
+endless-iterate zero w h = h
+endless-iterate (suc i) w h = endless-iterate i (h .1) (h .4)
+
+pub cases-hold : All Holds cases
+unfolding cases compiled-sheet answer-of computing-machine
+cases-hold = (refl, (refl, (refl, (refl, (refl, (refl, (refl, (refl, (refl, (refl, (refl, ((λ w h. endless-iterate (h .0) w (h .1)), (refl, (refl, tt))))))))))))))
