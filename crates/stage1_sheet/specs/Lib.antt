@@ -8,4 +8,8 @@ pub mod WellFormed
 pub mod Field
 pub mod Items
 pub mod Reading
+pub mod ListLaws
+pub mod FieldLaws
+pub mod RegexItems
+pub mod ExpressionItems
 pub mod Computing
