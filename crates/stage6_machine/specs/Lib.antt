@@ -2,4 +2,5 @@
 pub mod Answer
 pub mod Run
 pub mod OwnAnswer
+pub mod RunAnswers
 pub mod Computing
