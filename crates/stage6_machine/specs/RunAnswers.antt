@@ -18,15 +18,11 @@ use Rattle.stage2_types.specs.Denotation.{Denotes}
 use Rattle.stage4_lexer.specs.Words.{RuleAt, WordOf, LongestMatch, NoMatch}
 use Rattle.stage4_lexer.specs.Match.{Match, no-match, matched}
 use Rattle.stage4_lexer.specs.Walk.{longest-match}
+use Rattle.stage4_lexer.specs.LongestMatchLaws.{Right}
 use Rattle.stage5_image.specs.Image.{Image}
 use Rattle.stage6_machine.specs.Answer.{Answer, answer}
 use Rattle.stage6_machine.specs.Run.{take-rule, all-nullable, at-text-end, run-from, run-image}
 use Rattle.stage6_machine.specs.OwnAnswer.{Allowed, ActionOf, AnswersFrom, accepts, ends-early, no-rule, skips, takes, refuses, OwnAnswer}
-
--- What matching finds at the front of a text is right: the longest match, of one byte at least, or none.
-abbrev pub MatchIs : List Rule → List ℕ → Match → Type 0
-MatchIs rules text no-match = NoMatch rules text
-MatchIs rules text (matched k n) = LongestMatch rules text k n × (0 < n)
 
 -- What taking a token's rule answers: refused, and no denoted sequence goes on with the token; or taken, some does, and the
 -- pending ones that are left stand for the tokens with it. `Stands pending tokens` is what they stand for.
@@ -37,7 +33,7 @@ TakenIs s Stands pending tokens t (some next) =
 
 -- The four facts about an image of a sheet.
 pub record Faithful (s : Sheet) (image : Image) (Stands : List ℕ → List ℕ → Type 0) : Type 0 where
-  pub matching : (text : List ℕ) → MatchIs (s .rules) text (longest-match (image .positions) (image .first) text)
+  pub matching : (text : List ℕ) → Right (s .rules) text (longest-match (image .positions) (image .first) text)
   pub skipping : (k : ℕ) (r : Rule) → RuleAt (s .rules) k r → getD (image .skips) k false ≡ eqb (r .action) 0
   pub taking : (pending tokens : List ℕ) (k t : ℕ) → Stands pending tokens → ActionOf s k (suc t)
       → TakenIs s Stands pending tokens t (take-rule (image .rows) pending k)
@@ -153,7 +149,7 @@ module _ (s : Sheet) (text : List ℕ) (image : Image) (entries : ℕ) (Stands :
           rw (faithful .skipping k r a ∙ ne-eqb (r .action) 0 (λ z. omega arith))
           (taken t (r, a, e) (take-rule (image .rows) pending k) (faithful .taking pending tokens k t (h .stands) (r, a, e)))
 
-    turn : (m : Match) → MatchIs (s .rules) (b ∷ more) m
+    turn : (m : Match) → Right (s .rules) (b ∷ more) m
         → AnswersFrom s text p tokens (elim m [
           | no-match ↦ answer 14 p count
           | matched rule n ↦
