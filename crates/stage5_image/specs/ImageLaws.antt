@@ -58,10 +58,9 @@ unfolding image-of
 image-denotes s c d ks =
     let e = s .expression in
     let image = image-unfolds (s .rules) (normal-form e) (normal-form-inside e (s .tokens) c) (normal-form-some e) (normal-form-one d) ks in
-    let expands = unfolds-expands (normal-form e) (0 ∷ []) in
-    (
+    let expands = unfolds-expands (normal-form e) (0 ∷ []) in (
       λ u. let r = image .0 u in (r .0, normalization-sound d (r .0) .1 (expands (r .0) .0 (r .1)), r .2),
-      λ r. image .1 (r .0, expands (r .0) .1 (normalization-sound d (r .0) .0 (r .1)), r .2)
+      λ r. image .1 (r .0, expands (r .0) .1 (normalization-sound d (r .0) .0 (r .1)), r .2),
     )
 
 -- ---- ranges
@@ -89,7 +88,7 @@ image-in-range s w m d =
       some-positions = p .count-least;
       position-count = p .count-most;
       positions-in-range = subst (λ (r : ℕ). All (PositionInRange r (length (positions (s .rules)))) (positions (s .rules))) (sym l)
-        (position-ranges (length (s .rules)) (length (positions (s .rules))) (positions (s .rules)) (p .byte-classes) (p .rules-under) (p .follows-under));
+          (position-ranges (length (s .rules)) (length (positions (s .rules))) (positions (s .rules)) (p .byte-classes) (p .rules-under) (p .follows-under));
       never-falling = p .rules-rising;
       first-below = p .first-under;
       some-rows = some-image-rows (s .rules) (normal-form e) inside (normal-form-some e) short rm;

@@ -21,8 +21,20 @@ use Rattle.stage4_lexer.specs.Positions.{Position}
 use Rattle.stage4_lexer.specs.PositionBounds.{NeverFalling}
 use Rattle.stage5_image.specs.Image.{Image, flag, flag-numbers, position-numbers, production-numbers, row-numbers, image-numbers, image-bytes}
 use Rattle.stage5_image.specs.ImageReading.{most-tail, image-field, read-flag, read-list, read-position, read-production, read-row, image-end, read-image}
-use Rattle.stage5_image.specs.ImageNumbers.{all-numbers, just, flag-number, one-position-numbers, one-production-numbers, one-row-numbers, tail-is,
-  flags-are, positions-are, productions-are, rows-are, EachFrom}
+use Rattle.stage5_image.specs.ImageNumbers.{
+  all-numbers,
+  just,
+  flag-number,
+  one-position-numbers,
+  one-production-numbers,
+  one-row-numbers,
+  tail-is,
+  flags-are,
+  positions-are,
+  productions-are,
+  rows-are,
+  EachFrom,
+}
 use Rattle.stage5_image.specs.ReadableImages.{read-in-range, read-exact}
 use Rattle.stage5_image.specs.ImageRanges.{PositionInRange, ProductionInRange, Rising, RowInRange, InRange}
 
@@ -188,5 +200,5 @@ read-back i g = image-stands (image-bytes i) i g (stands-whole (image-bytes i) (
 pub readable-iff : (bytes : List ℕ) → Bytes bytes → (i : Image) → (read-image bytes ≡ got i (length bytes)) ↔ (InRange i × (bytes ≡ image-bytes i))
 readable-iff bytes b i = (
   λ e. (read-in-range bytes i (length bytes) e .0, read-exact bytes b i (length bytes) e),
-  λ g. subst (λ (l : List ℕ). read-image l ≡ got i (length l)) (sym (g .1)) (read-back i (g .0))
+  λ g. subst (λ (l : List ℕ). read-image l ≡ got i (length l)) (sym (g .1)) (read-back i (g .0)),
 )

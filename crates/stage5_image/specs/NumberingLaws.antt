@@ -2,8 +2,24 @@
 -- the rows; a node's number is its place among them, both ways. Then the rows by number.
 use mathlib.Core.Path.{_≡_, refl, sym, ap, ap₂, subst, _∙_}
 use mathlib.Core.Bool.{Bool, true, false, not, _||_, cond}
-use mathlib.Core.List.{List, [], _∷_, _++_, map, append-assoc, append-nil, flatMap, List·Memᴰ, List·Memᴰ·head, List·Memᴰ·tail, List·Memᴰ·not-nil,
-  List·Memᴰ·cases-cons, List·Memᴰ·append-cases, Memᴰ·append-left, Memᴰ·append-right}
+use mathlib.Core.List.{
+  List,
+  [],
+  _∷_,
+  _++_,
+  map,
+  append-assoc,
+  append-nil,
+  flatMap,
+  List·Memᴰ,
+  List·Memᴰ·head,
+  List·Memᴰ·tail,
+  List·Memᴰ·not-nil,
+  List·Memᴰ·cases-cons,
+  List·Memᴰ·append-cases,
+  Memᴰ·append-left,
+  Memᴰ·append-right,
+}
 use mathlib.Core.Logic.{_⊎_, inl, inr, ⊎-elim}
 use Prim.Native.Nat.{ℕ, zero, suc, _+_, _≤_, _<_}
 use native.Mathlib.Omega.{arith}
@@ -393,8 +409,14 @@ module _ (rows : List Row) (inside : TailsInside rows) where
   reached-is h = go (walked (length rows) 0 (0 ∷ []) (omega arith) start)
     where
       start : Walked 0 (0 ∷ [])
-      start = record { counted = counted-start (length rows) h; some = omega arith; first = refl; once = once-start; done = λ j l k x m. absurd (not-suc-le-zero l);
-        ordered = unfold meet-all flatMap in refl }
+      start = record {
+        counted = counted-start (length rows) h;
+        some = omega arith;
+        first = refl;
+        once = once-start;
+        done = λ j l k x m. absurd (not-suc-le-zero l);
+        ordered = unfold meet-all flatMap in refl;
+      }
 
       go : (j : ℕ) × (length (meet-rows rows (length rows) 0 (0 ∷ [])) ≤ j) × Walked j (meet-rows rows (length rows) 0 (0 ∷ []))
           → Reached rows (meet-rows rows (length rows) 0 (0 ∷ []))
@@ -405,11 +427,11 @@ module _ (rows : List Row) (inside : TailsInside rows) where
             start-number = ap (number-of met) (sym (w .first)) ∙ w .once 0 (w .some);
             once = w .once;
             closed = λ n t x m. let b = number-below n met t in
-              w .done (number-of met n) (let l = b .0 in let k = r .1 in omega arith) (b .0) x
-              (subst (λ (z : ℕ). List·Memᴰ x (tail-members ((row-of rows z) .productions))) (sym (b .1)) m);
+                w .done (number-of met n) (let l = b .0 in let k = r .1 in omega arith) (b .0) x
+                (subst (λ (z : ℕ). List·Memᴰ x (tail-members ((row-of rows z) .productions))) (sym (b .1)) m);
             few = let c = w .counted in omega arith;
             in-order = w .ordered ∙ ap (λ (l : List ℕ). meet-all (0 ∷ []) (row-by-row rows l)) (take-all (r .0) met (r .1))
-              ∙ meet-all-order (0 ∷ []) (row-by-row rows met) ∙ (unfold is-met in refl);
+                ∙ meet-all-order (0 ∷ []) (row-by-row rows met) ∙ (unfold is-met in refl);
           }
 
 -- ---- the rows by number

@@ -18,16 +18,42 @@ use Rattle.stage0_number.specs.declared.Number.the-variants.{Read, Refused}
 use Rattle.stage1_sheet.specs.Limits.{most-rules, most-classes, most-expression-nodes, most-byte}
 use Rattle.stage1_sheet.specs.Spelling.{spell}
 use Rattle.stage1_sheet.specs.Field.{Reading, stop, got, and-then, between, field-of, read-field, read-many}
-use Rattle.stage1_sheet.specs.FieldLaws.{Bytes, Stands, stands-none, stands-append, stands-whole, Outcome, refused, accepted, then-outcome, outcome-imply, outcome-got,
-  outcome-stop, FieldRead,
-  field-outcome, true-between}
+use Rattle.stage1_sheet.specs.FieldLaws.{
+  Bytes,
+  Stands,
+  stands-none,
+  stands-append,
+  stands-whole,
+  Outcome,
+  refused,
+  accepted,
+  then-outcome,
+  outcome-imply,
+  outcome-got,
+  outcome-stop,
+  FieldRead,
+  field-outcome,
+  true-between,
+}
 use Rattle.stage3_normal_form.specs.Productions.{Production, Row}
 use Rattle.stage4_lexer.specs.Positions.{Position}
 use Rattle.stage4_lexer.specs.PositionBounds.{NeverFalling}
 use Rattle.stage5_image.specs.Image.{Image, flag, flag-numbers, position-numbers, production-numbers, row-numbers, image-numbers, image-bytes}
 use Rattle.stage5_image.specs.ImageReading.{most-tail, image-field, read-flag, read-list, read-position, read-production, read-row, image-end, read-image}
-use Rattle.stage5_image.specs.ImageNumbers.{all-numbers, just, flag-number, one-position-numbers, one-production-numbers, one-row-numbers, tail-is,
-  flags-are, positions-are, productions-are, rows-are, EachFrom}
+use Rattle.stage5_image.specs.ImageNumbers.{
+  all-numbers,
+  just,
+  flag-number,
+  one-position-numbers,
+  one-production-numbers,
+  one-row-numbers,
+  tail-is,
+  flags-are,
+  positions-are,
+  productions-are,
+  rows-are,
+  EachFrom,
+}
 use Rattle.stage5_image.specs.ImageRanges.{PositionInRange, ProductionInRange, Rising, RowInRange, InRange}
 
 -- Numbers were read from a place on: their end lies within the bytes, and if these are bytes, the numbers stand there.
@@ -70,10 +96,13 @@ module _ (bytes : List ℕ) where
 
       chosen : (v used : ℕ) → decode bytes at ≡ Read v used → (c : Bool) → allowed v ≡ c
           → Gives (λ v. allowed v ≡ true) just at (cond c (got v (at + used)) (stop 13 at))
-      chosen v used e true a = accepted v (at + used) (a, record {
-        inside = decode-within bytes at e .inside;
-        stands = λ b. stands v (at + used) b (ap (field-of 13 13 allowed at) e ∙ ap (λ (c : Bool). cond c (got v (at + used)) (stop 13 at)) a);
-      })
+      chosen v used e true a = accepted v (at + used) (
+        a,
+        record {
+          inside = decode-within bytes at e .inside;
+          stands = λ b. stands v (at + used) b (ap (field-of 13 13 allowed at) e ∙ ap (λ (c : Bool). cond c (got v (at + used)) (stop 13 at)) a);
+        },
+      )
       chosen v used e false a = refused 13 at (refl, h)
 
       go : (n : Number) → decode bytes at ≡ n → Gives (λ v. allowed v ≡ true) just at (field-of 13 13 allowed at n)
@@ -133,12 +162,18 @@ module _ (bytes : List ℕ) where
       (λ last m₄ a₄ t₄. then-field _ m₄ _ Q (t₄ .inside)
       (λ follow m₅ a₅ t₅.
       let range = true-between low most-byte high a₂ in
-      accepted _ m₅ ((leb→le before rule (true-holds (leb before rule) (and-true-first (leb before rule) (ltb rule rules) a₃)), record {
-        low-high = range .0;
-        high-byte = range .1;
-        rule-below = ltb-true rule rules (and-true-second (leb before rule) (ltb rule rules) a₃);
-        follow-below = ltb-true follow (2 ^ count) a₅;
-      }), taken-append t₁ (taken-append t₂ (taken-append t₃ (taken-append t₄ t₅)))))))))
+      accepted _ m₅ (
+        (
+          leb→le before rule (true-holds (leb before rule) (and-true-first (leb before rule) (ltb rule rules) a₃)),
+          record {
+            low-high = range .0;
+            high-byte = range .1;
+            rule-below = ltb-true rule rules (and-true-second (leb before rule) (ltb rule rules) a₃);
+            follow-below = ltb-true follow (2 ^ count) a₅;
+          },
+        ),
+        taken-append t₁ (taken-append t₂ (taken-append t₃ (taken-append t₄ t₅))),
+      ))))))
 
   production-gives : (skips : List Bool) (count least at : ℕ) → at ≤ length bytes
       → Gives (λ p. (least ≤ p .head) × ProductionInRange skips count p) one-production-numbers at (read-production bytes skips count least at)
@@ -154,12 +189,18 @@ module _ (bytes : List ℕ) where
       let below = and-true-second (leb least rule) (ltb rule (length skips) && not (getD skips rule true)) a₁ in
       let short : size ≤ most-tail = true-between 0 most-tail size a₂ .1 in
       let same = g .0 in
-      accepted _ m₃ ((leb→le least rule (true-holds (leb least rule) (and-true-first (leb least rule) (ltb rule (length skips) && not (getD skips rule true)) a₁)), record {
-        rule-below = ltb-true rule (length skips) (and-true-first (ltb rule (length skips)) (not (getD skips rule true)) below);
-        not-skipping = negated (getD skips rule true) (and-true-second (ltb rule (length skips)) (not (getD skips rule true)) below);
-        tail-length = omega arith;
-        members-below = each tail (g .1);
-      }), taken-append t₁ (taken-append (taken-as (ap just (sym same)) t₂) (taken-as (tail-is tail) t₃))))))
+      accepted _ m₃ (
+        (
+          leb→le least rule (true-holds (leb least rule) (and-true-first (leb least rule) (ltb rule (length skips) && not (getD skips rule true)) a₁)),
+          record {
+            rule-below = ltb-true rule (length skips) (and-true-first (ltb rule (length skips)) (not (getD skips rule true)) below);
+            not-skipping = negated (getD skips rule true) (and-true-second (ltb rule (length skips)) (not (getD skips rule true)) below);
+            tail-length = omega arith;
+            members-below = each tail (g .1);
+          },
+        ),
+        taken-append t₁ (taken-append (taken-as (ap just (sym same)) t₂) (taken-as (tail-is tail) t₃)),
+      ))))
     where
       negated : (b : Bool) → not b ≡ true → b ≡ false
       negated true e = sym e
@@ -182,8 +223,10 @@ module _ (bytes : List ℕ) where
       (λ ps m₃ g t₃.
       let few : size ≤ most-rules = true-between 0 most-rules size a₂ .1 in
       let same = g .0 in
-      accepted _ m₃ (record { production-count = omega arith; productions-in-range = ranges 0 ps (g .1); rising = rises 0 ps (g .1) },
-      taken-append t₁ (taken-append (taken-as (ap just (sym same)) t₂) (taken-as (productions-are ps) t₃))))))
+      accepted _ m₃ (
+        record { production-count = omega arith; productions-in-range = ranges 0 ps (g .1); rising = rises 0 ps (g .1) },
+        taken-append t₁ (taken-append (taken-as (ap just (sym same)) t₂) (taken-as (productions-are ps) t₃)),
+      ))))
     where
       ranges : (least : ℕ) (ps : List Production)
           → EachFrom (λ least p. (least ≤ p .head) × ProductionInRange skips count p) (λ least p. suc (p .head)) least ps → All (ProductionInRange skips count) ps

@@ -15,8 +15,17 @@ use Rattle.stage5_image.specs.Fusion.{production-of, by-rule, fused-from
 use Rattle.stage5_image.specs.FusionLaws.{Found, production-found, as-rule, rule-production, FusedOf, fused-of}
 use Rattle.stage5_image.specs.Members.{all-of}
 use Rattle.stage5_image.specs.Numbering.{tail-members, reached, number-of, renumbered, renumbered-row, numbered}
-use Rattle.stage5_image.specs.NumberingLaws.{Met, TailsInside, Reached, reached-is, row-at-number, tail-member, of-tail-members, numbered-count,
-  number-below as node-number}
+use Rattle.stage5_image.specs.NumberingLaws.{
+  Met,
+  TailsInside,
+  Reached,
+  reached-is,
+  row-at-number,
+  tail-member,
+  of-tail-members,
+  numbered-count,
+  number-below as node-number,
+}
 use Rattle.stage5_image.specs.Unfolding.{Returns}
 
 -- ---- fusion of all rows
@@ -150,12 +159,15 @@ module _ (rules : List Rule) (rows : List Row) (inside : TailsInside rows) (some
   sources n t p m =
       let o = Memᴰ·of-map (renumbered met) ((row-of all-fused n) .productions) (subst (λ (w : Row). List·Memᴰ p (w .productions)) (image-row n t) m) in
       let f = fused-member rules rows n (o .0) (o .1) in
-      let at : p .head ≡ f .offset = ap (λ (z : Production). z .head) (sym (o .2)) ∙ f .rule ∙ (let z : 0 + f .offset ≡ f .offset = omega arith in z) in
-      (f .source, f .member, subst (λ (z : ℕ). Returns rules z (f .source .head)) (sym at) (f .returned),
-      ap (λ (z : Production). z .tail) (sym (o .2)) ∙ ap (map (number-of met)) (f .same-tail),
-      all-of (λ x. Met x met) (f .source .tail)
-      (λ x k. reached-fused .closed n t x (tail-member (o .0) x ((row-of all-fused n) .productions) (o .1)
-      (subst (λ (l : List ℕ). List·Memᴰ x l) (sym (f .same-tail)) k))))
+      let at : p .head ≡ f .offset = ap (λ (z : Production). z .head) (sym (o .2)) ∙ f .rule ∙ (let z : 0 + f .offset ≡ f .offset = omega arith in z) in (
+        f .source,
+        f .member,
+        subst (λ (z : ℕ). Returns rules z (f .source .head)) (sym at) (f .returned),
+        ap (λ (z : Production). z .tail) (sym (o .2)) ∙ ap (map (number-of met)) (f .same-tail),
+        all-of (λ x. Met x met) (f .source .tail)
+            (λ x k. reached-fused .closed n t x (tail-member (o .0) x ((row-of all-fused n) .productions) (o .1)
+            (subst (λ (l : List ℕ). List·Memᴰ x l) (sym (f .same-tail)) k))),
+      )
 
   -- The image's rows, made by fusion, reaching and numbering, do what the rows by token do.
   pub image-simulates : Simulates rules rows (numbered (fused rules rows)) (number-of (reached (fused rules rows))) (λ n. Met n (reached (fused rules rows)))

@@ -84,10 +84,9 @@ module _ (rules : List Rule) (rows image : List Row) (number : ℕ → ℕ) (Kno
   -- The image's start unfolds to the rule sequences that spell what the rows by token unfold to.
   pub start-unfolds : OnePerToken rows → (ks : List ℕ) → StartUnfolds image ks ↔ SpellsUnfolded rules rows (0 ∷ []) ks
   start-unfolds one ks =
-      let start : 0 ∷ [] ≡ map number (0 ∷ []) = ap (λ (n : ℕ). n ∷ []) (sym (s .start-number)) in
-      (
+      let start : 0 ∷ [] ≡ map number (0 ∷ []) = ap (λ (n : ℕ). n ∷ []) (sym (s .start-number)) in (
         λ u. to-tokens u (0 ∷ []) start (s .start-known, tt),
-        λ r. subst (λ (l : List ℕ). Unfolds image l ks) (sym start) (from-tokens one (r .1) (r .2) (s .start-known, tt))
+        λ r. subst (λ (l : List ℕ). Unfolds image l ks) (sym start) (from-tokens one (r .1) (r .2) (s .start-known, tt)),
       )
 
 -- For the image's rows as they are made.
