@@ -9,3 +9,4 @@ pub mod Field
 pub mod Items
 pub mod Reading
 pub mod Computing
+pub mod FieldLaws

@@ -1,0 +1,189 @@
+-- The laws of fields: where numbers stand among bytes, and that a field is read exactly where its number stands.
+-- What a sheet asks of its fields is not said here.
+use mathlib.Core.Path.{_≡_, refl, sym, ap, ap₂, subst, _∙_}
+use mathlib.Core.Bool.{Bool, true, false, cond, _&&_}
+use mathlib.Core.List.{List, [], _∷_, _++_, append-assoc, append-nil}
+use mathlib.Core.Logic.{_↔_}
+use Prim.Native.Nat.{ℕ, zero, suc, _+_, _-_, _^_, _≤_, _<_}
+use native.Mathlib.Omega.{arith}
+use lib.Dec.{leb, leb→le, le→leb}
+use lib.ListN.{length, getD, take, drop, length-append, length-drop, take-append-drop}
+use lib.Seq.{drop-length, drop-append-seam, take-append-seam, drop-drop}
+use Rattle.stage0_laws.specs.Truth.{holds-true, true-holds, and-both, and-true-first, and-true-second}
+use Rattle.stage0_number.specs.Number.{encode, decode}
+use Rattle.stage0_number.specs.Laws.{Within, decode-within, decode-there, decode-bytes, decode-width, encode-there}
+use Rattle.stage0_number.specs.declared.Number.{Number}
+use Rattle.stage0_number.specs.declared.Number.the-variants.{Read, Refused}
+use Rattle.stage1_sheet.specs.Spelling.{spell}
+use Rattle.stage1_sheet.specs.Field.{Reading, stop, got, and-then, between, field-of, read-field, read-many}
+
+-- ---- where numbers stand
+
+-- Every byte is below 256.
+abbrev pub Bytes : List ℕ → Type 0
+Bytes bytes = (i : ℕ) → getD bytes i 0 < 256
+
+-- The place after some numbers that stand from a place on.
+abbrev pub after : ℕ → List ℕ → ℕ
+after at ns = at + length (spell ns)
+
+-- From a place to an end, the bytes are those of the numbers.
+pub record Stands (bytes : List ℕ) (at : ℕ) (ns : List ℕ) (end : ℕ) : Type 0 where
+  pub there : drop at bytes ≡ spell ns ++ drop end bytes
+  pub until : end ≡ after at ns
+  pub inside : end ≤ length bytes
+
+pub spell-append : (ms ns : List ℕ) → spell (ms ++ ns) ≡ spell ms ++ spell ns
+unfolding spell
+spell-append [] ns = refl
+spell-append (m ∷ ms) ns = ap (λ (l : List ℕ). encode m ++ l) (spell-append ms ns) ∙ sym (append-assoc (encode m) (spell ms) (spell ns))
+
+pub spell-there : (n : ℕ) (ns : List ℕ) → 1 ≤ length (spell (n ∷ ns))
+unfolding spell
+spell-there n ns = omega (arith, length-append (encode n) (spell ns), encode-there n)
+
+pub after-append : (at : ℕ) (ms ns : List ℕ) → after at (ms ++ ns) ≡ after (after at ms) ns
+after-append at ms ns = omega (arith, ap length (spell-append ms ns), length-append (spell ms) (spell ns))
+
+pub stands-none : (bytes : List ℕ) (at : ℕ) → at ≤ length bytes → Stands bytes at [] at
+unfolding spell
+stands-none bytes at h = record { there = refl; until = omega arith; inside = h }
+
+pub stands-append : {bytes ms ns : List ℕ} {at mid end : ℕ} → Stands bytes at ms mid → Stands bytes mid ns end → Stands bytes at (ms ++ ns) end
+stands-append {bytes} {ms} {ns} {at} {mid} {end} a b =
+    let e = after-append at ms ns in record {
+      there = a .there ∙ ap (λ (l : List ℕ). spell ms ++ l) (b .there) ∙ sym (append-assoc (spell ms) (spell ns) (drop end bytes))
+        ∙ ap (λ (l : List ℕ). l ++ drop end bytes) (sym (spell-append ms ns));
+      until = omega (arith, a .until, b .until);
+      inside = b .inside;
+    }
+
+module _ (bytes : List ℕ) (at : ℕ) (ms ns : List ℕ) (end : ℕ) (s : Stands bytes at (ms ++ ns) end) where
+  -- The bytes after the first numbers are those of the others.
+  beyond : drop (after at ms) bytes ≡ spell ns ++ drop end bytes
+  beyond =
+      sym (drop-drop (length (spell ms)) at bytes)
+      ∙ ap (drop (length (spell ms))) (s .there ∙ ap (λ (l : List ℕ). l ++ drop end bytes) (spell-append ms ns) ∙ append-assoc (spell ms) (spell ns) (drop end bytes))
+      ∙ drop-append-seam (spell ms) (spell ns ++ drop end bytes)
+
+  pub stands-rest : Stands bytes (after at ms) ns end
+  stands-rest = record { there = beyond; until = s .until ∙ after-append at ms ns; inside = s .inside }
+
+  pub stands-first : Stands bytes at ms (after at ms)
+  stands-first = record {
+    there = s .there ∙ ap (λ (l : List ℕ). l ++ drop end bytes) (spell-append ms ns) ∙ append-assoc (spell ms) (spell ns) (drop end bytes)
+      ∙ ap (λ (l : List ℕ). spell ms ++ l) (sym beyond);
+    until = refl;
+    inside = omega (arith, s .until, s .inside, after-append at ms ns);
+  }
+
+-- From the first byte to the last.
+pub stands-whole : (bytes ns : List ℕ) → Stands bytes 0 ns (length bytes) ↔ (bytes ≡ spell ns)
+stands-whole bytes ns = (
+  λ s. s .there ∙ ap (λ (l : List ℕ). spell ns ++ l) (drop-length bytes) ∙ append-nil (spell ns),
+  λ e. record {
+    there = e ∙ sym (append-nil (spell ns)) ∙ ap (λ (l : List ℕ). spell ns ++ l) (sym (drop-length bytes));
+    until = omega (arith, ap length e);
+    inside = omega arith;
+  }
+)
+
+-- ---- outcomes
+
+-- What holds of a refusal, by its number and place, or of what was read and its next place.
+abbrev pub Outcome : {A : Type 0} → (ℕ → ℕ → Type 0) → (A → ℕ → Type 0) → Reading A → Type 0
+Outcome R Q (stop question place) = R question place
+Outcome R Q (got a end) = Q a end
+
+pub then-outcome : {A B : Type 0} (R : ℕ → ℕ → Type 0) (P : A → ℕ → Type 0) (Q : B → ℕ → Type 0) (r : Reading A) (next : A → ℕ → Reading B)
+    → Outcome R P r → ((a : A) (place : ℕ) → P a place → Outcome R Q (next a place)) → Outcome R Q (and-then r next)
+then-outcome R P Q (stop question place) next h k = h
+then-outcome R P Q (got a place) next h k = k a place h
+
+pub outcome-got : {A : Type 0} (R : ℕ → ℕ → Type 0) (Q : A → ℕ → Type 0) {r : Reading A} {a : A} {end : ℕ} → Outcome R Q r → r ≡ got a end → Q a end
+outcome-got R Q {r} {a} {end} h e = subst (Outcome R Q) e h
+
+pub outcome-stop : {A : Type 0} (R : ℕ → ℕ → Type 0) (Q : A → ℕ → Type 0) {r : Reading A} {question place : ℕ} → Outcome R Q r
+    → r ≡ stop question place → R question place
+outcome-stop R Q {r} {question} {place} h e = subst (Outcome R Q) e h
+
+-- ---- one field
+
+pub between-true : (least most v : ℕ) → least ≤ v → v ≤ most → between least most v ≡ true
+unfolding between
+between-true least most v l m = holds-true (between least most v) (and-both (leb least v) (leb v most) (le→leb least v l) (le→leb v most m))
+
+pub true-between : (least most v : ℕ) → between least most v ≡ true → (least ≤ v) × (v ≤ most)
+unfolding between
+true-between least most v e = (
+  leb→le least v (true-holds (leb least v) (and-true-first (leb least v) (leb v most) e)),
+  leb→le v most (true-holds (leb v most) (and-true-second (leb least v) (leb v most) e))
+)
+
+-- What a field that was read is: its number stands there, and its value is allowed.
+pub record FieldRead (allowed : ℕ → Bool) (bytes : List ℕ) (at v end : ℕ) : Type 0 where
+  pub holds : allowed v ≡ true
+  pub stands : Stands bytes at (v ∷ []) end
+
+module _ (unreadable forbidden : ℕ) (allowed : ℕ → Bool) (bytes : List ℕ) (at : ℕ) where
+  number-stands : Bytes bytes → (v used : ℕ) → decode bytes at ≡ Read v used → Stands bytes at (v ∷ []) (at + used)
+  unfolding spell
+  number-stands b v used e =
+      let w = decode-within bytes at e in
+      let same : used ≡ length (encode v) = decode-width bytes at b e in
+      let none : encode v ++ [] ≡ encode v = append-nil (encode v) in record {
+        there = sym (take-append-drop used (drop at bytes)) ∙ ap₂ _++_ (decode-bytes bytes at b e ∙ sym none) (drop-drop used at bytes);
+        until = omega (arith, ap length none);
+        inside = w .inside;
+      }
+
+  -- Whatever a field gives stands there; a refusal is at the field's own place.
+  pub field-outcome : (R : ℕ → ℕ → Type 0) → Bytes bytes → R unreadable at → R forbidden at
+      → Outcome R (FieldRead allowed bytes at) (read-field unreadable forbidden allowed bytes at)
+  unfolding read-field field-of
+  field-outcome R b u f = go (decode bytes at) refl
+    where
+      chosen : (v used : ℕ) → decode bytes at ≡ Read v used → (c : Bool) → allowed v ≡ c
+          → Outcome R (FieldRead allowed bytes at) (cond c (got v (at + used)) (stop forbidden at))
+      chosen v used e true h = record { holds = h; stands = number-stands b v used e }
+      chosen v used e false h = f
+
+      go : (n : Number) → decode bytes at ≡ n → Outcome R (FieldRead allowed bytes at) (field-of unreadable forbidden allowed at n)
+      go Refused e = u
+      go (Read v used) e = chosen v used e (allowed v) refl
+
+  -- Where an allowed number stands, the field gives it.
+  pub field-got : (v : ℕ) (ns : List ℕ) (end : ℕ) → v < 2 ^ 64 → allowed v ≡ true → Stands bytes at (v ∷ ns) end
+      → read-field unreadable forbidden allowed bytes at ≡ got v (after at (v ∷ []))
+  unfolding read-field field-of spell
+  field-got v ns end small h s =
+      let front : take (length (encode v)) (drop at bytes) ≡ encode v =
+      ap (take (length (encode v))) (s .there ∙ append-assoc (encode v) (spell ns) (drop end bytes)) ∙ take-append-seam (encode v) (spell ns ++ drop end bytes) in
+      let width : after at (v ∷ []) ≡ at + length (encode v) = ap (λ (l : List ℕ). at + length l) (append-nil (encode v)) in
+      rw (decode-there bytes at v small front, h, width)
+
+-- ---- several in a row
+
+-- Each member of a list is so from where the one before it ended, in the state that those before it leave.
+abbrev pub Row : {S A : Type 0} → (S → ℕ → A → ℕ → Type 0) → (S → A → S) → S → ℕ → List A → ℕ → Type 0
+Row Q update s at [] end = at ≡ end
+Row Q update s at (a ∷ l) end = (mid : ℕ) × Q s at a mid × Row Q update (update s a) mid l end
+
+-- What one reading gives from an allowed place, with an allowed place after it, several in a row give too.
+module _ {S A : Type 0} (R : ℕ → ℕ → Type 0) (I : ℕ → Type 0) (Q : S → ℕ → A → ℕ → Type 0) (one : S → ℕ → Reading A) (update : S → A → S)
+    (step : (s : S) (at : ℕ) → I at → Outcome R (λ a end. Q s at a end × I end) (one s at)) where
+  pub many-outcome : (n : ℕ) (s : S) (at : ℕ) → I at
+      → Outcome R (λ l end. (length l ≡ n) × Row Q update s at l end × I end) (read-many one update s n at)
+  unfolding read-many
+  many-outcome zero s at i = (refl, refl, i)
+  many-outcome (suc n) s at i =
+      then-outcome R (λ a end. Q s at a end × I end) (λ l end. (length l ≡ suc n) × Row Q update s at l end × I end) (one s at) _ (step s at i)
+      (λ a mid q. then-outcome R (λ l end. (length l ≡ n) × Row Q update (update s a) mid l end × I end)
+      (λ l end. (length l ≡ suc n) × Row Q update s at l end × I end) (read-many one update (update s a) n mid) _
+      (many-outcome n (update s a) mid (q .1)) (λ l end r. (ap suc (r .0), (mid, q .0, r .1), r .2)))
+
+pub many-got : {S A : Type 0} (one : S → ℕ → Reading A) (update : S → A → S) (l : List A) (s : S) (at end : ℕ)
+    → Row (λ t from a mid. one t from ≡ got a mid) update s at l end → read-many one update s (length l) at ≡ got l end
+unfolding read-many
+many-got one update [] s at end h = ap (got []) h
+many-got one update (a ∷ l) s at end h = rw (h .1, many-got one update l (update s a) (h .0) end (h .2))
