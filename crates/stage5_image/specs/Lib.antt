@@ -7,3 +7,4 @@ pub mod ImageReading
 pub mod Unfolding
 pub mod Compile
 pub mod Computing
+pub mod FusionLaws
