@@ -8,3 +8,4 @@ pub mod Unfolding
 pub mod Compile
 pub mod Computing
 pub mod FusionLaws
+pub mod NumberingLaws
