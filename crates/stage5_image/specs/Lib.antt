@@ -9,3 +9,5 @@ pub mod Compile
 pub mod Computing
 pub mod FusionLaws
 pub mod NumberingLaws
+pub mod Members
+pub mod Simulation
