@@ -11,3 +11,4 @@ pub mod FusionLaws
 pub mod NumberingLaws
 pub mod Members
 pub mod Simulation
+pub mod UnfoldingLaws

@@ -169,3 +169,15 @@ module _ (rules : List Rule) (rows : List Row) (inside : TailsInside rows) (some
     closed = closed;
     sources = sources;
   }
+
+-- A number that returns no token, of a rule that skips or of none, has no production.
+pub no-token-production : {rules : List Rule} {rows image : List Row} {number : ℕ → ℕ} {Known : ℕ → Type 0} → Simulates rules rows image number Known
+    → (n : ℕ) → Known n → (r : ℕ) → ((t : ℕ) → Returns rules r t → ⊥) → production-of r ((row-of image (number n)) .productions) ≡ none
+no-token-production {rules} {rows} {image} {number} {Known} s n k r none-returned =
+    go (production-of r ((row-of image (number n)) .productions)) (production-found r ((row-of image (number n)) .productions))
+  where
+    go : (o : Option Production) → Found r ((row-of image (number n)) .productions) o → o ≡ none
+    go none f = refl
+    go (some p) f =
+        let o = s .sources n k p (f .0) in
+        absurd (none-returned (o .0 .head) (subst (λ (z : ℕ). Returns rules z (o .0 .head)) (f .1) (o .2)))

@@ -1,0 +1,185 @@
+-- What the image's start unfolds to: exactly the rule sequences that spell a token sequence of the expression (demand 2).
+-- Two steps: from the image's rows to the rows by token, and from these to the nodes' languages. That the rows by token unfold
+-- the languages in one step, and that a row has at most one production a token, are hypotheses here.
+use mathlib.Core.Path.{_≡_, refl, sym, ap, ap₂, subst, _∙_}
+use mathlib.Core.Bool.{Bool, true, false}
+use mathlib.Core.List.{List, [], _∷_, _++_, map, map-append, append-nil, append-assoc, nil≢cons, cons≢nil, head-eq-of-cons-eq, tail-eq-of-cons-eq, List·Memᴰ, Memᴰ·cast}
+use mathlib.Core.Logic.{_⊎_, inl, inr, _↔_, ⊎-elim}
+use mathlib.Core.Option.{Option, none, some}
+use Prim.Native.Nat.{ℕ, zero, suc, _+_, _≤_, _<_}
+use native.Mathlib.Omega.{arith}
+use lib.ListN.{getD, length, length-append}
+use Rattle.stage0_laws.specs.Lists.{All}
+use Rattle.stage1_sheet.specs.Sheet.{Rule, Sheet}
+use Rattle.stage2_types.specs.Denotation.{Language, followed-by, Denotes}
+use Rattle.stage3_normal_form.specs.Productions.{Production, Row, row-of}
+use Rattle.stage5_image.specs.Fusion.{production-of, fused}
+use Rattle.stage5_image.specs.FusionLaws.{Found, production-found}
+use Rattle.stage5_image.specs.Members.{all-append}
+use Rattle.stage5_image.specs.Numbering.{numbered}
+use Rattle.stage5_image.specs.NumberingLaws.{TailsInside}
+use Rattle.stage5_image.specs.Simulation.{Simulates, tail-of, tail-numbers, TailKnown, image-simulates}
+use Rattle.stage5_image.specs.Unfolding.{Unfolds, none-pending, by-epsilon, by-production, StartUnfolds, Returns, SpellsTokens, no-tokens, one-more, DenotedRules}
+
+-- In each row at most one production begins with a token.
+abbrev pub OnePerToken : List Row → Type 0
+OnePerToken rows =
+    (n : ℕ) (p q : Production) → List·Memᴰ p ((row-of rows n) .productions) → List·Memᴰ q ((row-of rows n) .productions) → p .head ≡ q .head
+    → p .tail ≡ q .tail
+
+-- A rule sequence spells a token sequence to which the rows by token unfold.
+abbrev pub SpellsUnfolded : List Rule → List Row → List ℕ → List ℕ → Type 0
+SpellsUnfolded rules rows pending ks = (ts : List ℕ) × Unfolds rows pending ts × SpellsTokens rules ks ts
+
+-- ---- from the image's rows to the rows by token
+
+module _ (rules : List Rule) (rows image : List Row) (number : ℕ → ℕ) (Known : ℕ → Type 0) (s : Simulates rules rows image number Known) where
+  to-tokens : {pending' ks : List ℕ} → Unfolds image pending' ks → (pending : List ℕ) → pending' ≡ map number pending → All Known pending
+      → SpellsUnfolded rules rows pending ks
+  to-tokens none-pending [] e k = ([], none-pending, no-tokens)
+  to-tokens none-pending (n ∷ pending) e k = absurd (nil≢cons e)
+  to-tokens (by-epsilon empty u) [] e k = absurd (cons≢nil e)
+  to-tokens (by-epsilon {n = m} empty u) (n ∷ pending) e k =
+      let r = to-tokens u pending (tail-eq-of-cons-eq e) (k .1) in
+      (r .0, by-epsilon (sym (s .same-empty n (k .0)) ∙ subst (λ (z : ℕ). (row-of image z) .empty ≡ true) (head-eq-of-cons-eq e) empty) (r .1), r .2)
+  to-tokens (by-production m u) [] e k = absurd (cons≢nil e)
+  to-tokens (by-production {pending = rest'} {p = p} m u) (n ∷ pending) e k =
+      let o = s .sources n (k .0) p (subst (λ (z : ℕ). List·Memᴰ p ((row-of image z) .productions)) (head-eq-of-cons-eq e) m) in
+      let q = o .0 in
+      let same : p .tail ++ rest' ≡ map number (q .tail ++ pending) =
+      ap₂ _++_ (o .3) (tail-eq-of-cons-eq e) ∙ sym (map-append number (q .tail) pending) in
+      let r = to-tokens u (q .tail ++ pending) same (all-append Known (q .tail) pending (o .4) (k .1)) in
+      (q .head ∷ r .0, by-production (o .1) (r .1), one-more (o .2) (r .2))
+
+  -- One production taken: the rule's production in the image is the token's, which is the only one.
+  taken : OnePerToken rows → (n : ℕ) (q : Production) (r : ℕ) (pending ks : List ℕ) → Known n → All Known pending → List·Memᴰ q ((row-of rows n) .productions)
+      → Returns rules r (q .head) → (All Known (q .tail ++ pending) → Unfolds image (map number (q .tail ++ pending)) ks)
+      → Unfolds image (number n ∷ map number pending) (r ∷ ks)
+  taken one n q r pending ks kn kp m h rest =
+      go (production-of (q .head) ((row-of rows n) .productions)) (production-found (q .head) ((row-of rows n) .productions)) (s .closed n kn r (q .head) h)
+      (production-of r ((row-of image (number n)) .productions)) (production-found r ((row-of image (number n)) .productions)) (s .same-production n kn r (q .head) h)
+    where
+      go : (o : Option Production) → Found (q .head) ((row-of rows n) .productions) o → TailKnown Known o
+          → (i : Option Production) → Found r ((row-of image (number n)) .productions) i → tail-of i ≡ tail-numbers number o
+          → Unfolds image (number n ∷ map number pending) (r ∷ ks)
+      go none f k i g e = absurd (f q m refl)
+      go (some p) f k none g e = let x : _≡_ {A = ℕ} 0 1 = cc in absurd (omega arith)
+      go (some p) f k (some p') g e =
+          let same : p .tail ≡ q .tail = one n p q (f .0) m (f .1) in
+          let tails : p' .tail ≡ map number (p .tail) = cc in
+          let joined : p' .tail ++ map number pending ≡ map number (q .tail ++ pending) =
+          ap (λ (l : List ℕ). l ++ map number pending) (tails ∙ ap (map number) same) ∙ sym (map-append number (q .tail) pending) in
+          subst (λ (z : ℕ). Unfolds image (number n ∷ map number pending) (z ∷ ks)) (g .1)
+          (by-production (g .0)
+          (subst (λ (l : List ℕ). Unfolds image l ks) (sym joined) (rest (all-append Known (q .tail) pending (subst (All Known) same k) kp))))
+
+  from-tokens : OnePerToken rows → {pending ts : List ℕ} → Unfolds rows pending ts → {ks : List ℕ} → SpellsTokens rules ks ts → All Known pending
+      → Unfolds image (map number pending) ks
+  from-tokens one none-pending no-tokens k = none-pending
+  from-tokens one (by-epsilon {n = n} empty u) sp k = by-epsilon (s .same-empty n (k .0) ∙ empty) (from-tokens one u sp (k .1))
+  from-tokens one (by-production {n = n} {pending = pending} {p = q} m u) (one-more {k = r} {ks = ks} h sp) k =
+      taken one n q r pending ks (k .0) (k .1) m h (λ known. from-tokens one u sp known)
+
+  -- The image's start unfolds to the rule sequences that spell what the rows by token unfold to.
+  pub start-unfolds : OnePerToken rows → (ks : List ℕ) → StartUnfolds image ks ↔ SpellsUnfolded rules rows (0 ∷ []) ks
+  start-unfolds one ks =
+      let start : 0 ∷ [] ≡ map number (0 ∷ []) = ap (λ (n : ℕ). n ∷ []) (sym (s .start-number)) in
+      (
+        λ u. to-tokens u (0 ∷ []) start (s .start-known, tt),
+        λ r. subst (λ (l : List ℕ). Unfolds image l ks) (sym start) (from-tokens one (r .1) (r .2) (s .start-known, tt))
+      )
+
+-- For the image's rows as they are made.
+pub image-unfolds : (rules : List Rule) (rows : List Row) → TailsInside rows → 0 < length rows → OnePerToken rows → (ks : List ℕ)
+    → StartUnfolds (numbered (fused rules rows)) ks ↔ SpellsUnfolded rules rows (0 ∷ []) ks
+image-unfolds rules rows inside some-rows one ks =
+    start-unfolds rules rows (numbered (fused rules rows)) _ _ (image-simulates rules rows inside some-rows) one ks
+
+-- ---- from the rows by token to the languages of the nodes
+
+-- The concatenation of the nodes' languages.
+abbrev pub concatenation : (ℕ → Language) → List ℕ → Language
+concatenation L [] w = w ≡ []
+concatenation L (n ∷ pending) w = followed-by (L n) (concatenation L pending) w
+
+-- The words that a row gives in one step: the empty one by ε, and t w' by a production of t whose tail has the word w'.
+pub data OneStep (L : ℕ → Language) (row : Row) : List ℕ → Type 0 where
+  empty-step : row .empty ≡ true → OneStep L row []
+  production-step : {p : Production} {w : List ℕ} → List·Memᴰ p (row .productions) → concatenation L (p .tail) w → OneStep L row (p .head ∷ w)
+
+concatenation-join : (L : ℕ → Language) (a b u v : List ℕ) → concatenation L a u → concatenation L b v → concatenation L (a ++ b) (u ++ v)
+concatenation-join L [] b u v x y = rw x y
+concatenation-join L (n ∷ a) b u v x y =
+    (x .0, x .1 ++ v, ap (λ (w : List ℕ). w ++ v) (x .2) ∙ append-assoc (x .0) (x .1) v, x .3, concatenation-join L a b (x .1) v (x .4) y)
+
+concatenation-split : (L : ℕ → Language) (a b w : List ℕ) → concatenation L (a ++ b) w → followed-by (concatenation L a) (concatenation L b) w
+concatenation-split L [] b w x = ([], w, refl, refl, x)
+concatenation-split L (n ∷ a) b w x =
+    let y = concatenation-split L a b (x .1) (x .4) in
+    (x .0 ++ y .0, y .1, x .2 ∙ (ap (λ (z : List ℕ). x .0 ++ z) (y .2) ∙ sym (append-assoc (x .0) (y .0) (y .1))), (x .0, y .0, refl, x .3, y .3), y .4)
+
+module _ (rows : List Row) (L : ℕ → Language) (steps : (n : ℕ) (w : List ℕ) → L n w ↔ OneStep L (row-of rows n) w) where
+  to-language : {pending ts : List ℕ} → Unfolds rows pending ts → concatenation L pending ts
+  to-language none-pending = refl
+  to-language (by-epsilon {n = n} {rules = ts} empty u) = ([], ts, refl, steps n [] .1 (empty-step empty), to-language u)
+  to-language (by-production {n = n} {pending = pending} {rules = ts} {p = p} m u) =
+      let c = concatenation-split L (p .tail) pending ts (to-language u) in
+      (p .head ∷ c .0, c .1, ap (λ (l : List ℕ). p .head ∷ l) (c .2), steps n (p .head ∷ c .0) .1 (production-step m (c .3)), c .4)
+
+  -- One step, and then the rest: ε shortens what is pending, a production shortens the word.
+  stepped : (n : ℕ) (pending v : List ℕ) {u : List ℕ} → OneStep L (row-of rows n) u → concatenation L pending v
+      → Unfolds rows pending v
+      → ((pending' w : List ℕ) → length w < length (u ++ v) → concatenation L pending' w → Unfolds rows pending' w)
+      → Unfolds rows (n ∷ pending) (u ++ v)
+  stepped n pending v (empty-step e) c later shorter = by-epsilon e later
+  stepped n pending v (production-step {p = p} {w = w} m d) c later shorter =
+      by-production m (shorter (p .tail ++ pending) (w ++ v) (omega arith) (concatenation-join L (p .tail) pending w v d c))
+
+  within : (most : ℕ) → ((pending w : List ℕ) → length w < most → concatenation L pending w → Unfolds rows pending w)
+      → (pending ts : List ℕ) → length ts ≤ most → concatenation L pending ts → Unfolds rows pending ts
+  within most shorter [] ts h c = rw c none-pending
+  within most shorter (n ∷ pending) ts h c =
+      let u = c .0 in
+      let v = c .1 in
+      let size : length ts ≡ length u + length v = ap length (c .2) ∙ length-append u v in
+      let joined = length-append u v in
+      subst (Unfolds rows (n ∷ pending)) (sym (c .2))
+      (stepped n pending v (steps n u .0 (c .3)) (c .4) (within most shorter pending v (omega arith) (c .4))
+      (λ pending' w l d. shorter pending' w (omega arith) d))
+
+  from-language : (most : ℕ) (pending ts : List ℕ) → length ts ≤ most → concatenation L pending ts → Unfolds rows pending ts
+  from-language zero = within zero (λ pending w h c. absurd (omega arith))
+  from-language (suc most) = within (suc most) (λ pending w h c. from-language most pending w (omega arith) c)
+
+  -- What is pending unfolds to the words of its nodes' languages, one after the other.
+  pub unfolds-language : (pending ts : List ℕ) → Unfolds rows pending ts ↔ concatenation L pending ts
+  unfolds-language pending ts = (to-language, from-language (length ts) pending ts (omega arith))
+
+  -- The start unfolds to the words of its language.
+  pub start-language : (ts : List ℕ) → Unfolds rows (0 ∷ []) ts ↔ L 0 ts
+  start-language ts =
+      (
+        λ u. let c = to-language u in subst (L 0) (sym (c .2 ∙ (ap (λ (v : List ℕ). c .0 ++ v) (c .4) ∙ append-nil (c .0)))) (c .3),
+        λ w. from-language (length ts) (0 ∷ []) ts (omega arith) (ts, [], sym (append-nil ts), w, refl)
+      )
+
+-- ---- the whole
+
+-- What the rows by token are to be: tails inside, at most one production a token, and one step unfolds each node's language; the
+-- start's language is the expression's.
+pub record RowsOf (s : Sheet) (rows : List Row) (L : ℕ → Language) : Type 1 where
+  pub inside : TailsInside rows
+  pub some-rows : 0 < length rows
+  pub one-per-token : OnePerToken rows
+  pub steps : (n : ℕ) (w : List ℕ) → L n w ↔ OneStep L (row-of rows n) w
+  pub start : (w : List ℕ) → L 0 w ↔ Denotes (s .expression) w
+
+-- The image's start unfolds to exactly the rule sequences that spell a token sequence which the expression denotes.
+pub denoted-unfolds : (s : Sheet) (rows : List Row) (L : ℕ → Language) → RowsOf s rows L → (ks : List ℕ)
+    → StartUnfolds (numbered (fused (s .rules) rows)) ks ↔ DenotedRules s ks
+denoted-unfolds s rows L h ks =
+    let image = image-unfolds (s .rules) rows (h .inside) (h .some-rows) (h .one-per-token) ks in
+    (
+      λ u. let r = image .0 u in (r .0, h .start (r .0) .0 (start-language rows L (h .steps) (r .0) .0 (r .1)), r .2),
+      λ d. image .1 (d .0, start-language rows L (h .steps) (d .0) .1 (h .start (d .0) .1 (d .1)), d .2)
+    )
