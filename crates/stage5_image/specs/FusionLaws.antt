@@ -15,6 +15,7 @@ use Rattle.stage1_sheet.specs.Sheet.{Rule}
 use Rattle.stage3_normal_form.specs.Productions.{Production, Row}
 use Rattle.stage4_lexer.specs.Words.{RuleAt, first-rule, later-rule}
 use Rattle.stage5_image.specs.Fusion.{production-of, by-rule, fused-from, fused-row, fused}
+use Rattle.stage5_image.specs.ImageRanges.{Rising}
 use Rattle.stage5_image.specs.Unfolding.{Returns}
 
 -- ---- the production that begins with a symbol
@@ -168,11 +169,6 @@ fused-of (rule ∷ rules) r ps p m = go (λ k. later-fused rule rules r ps p (fu
     go later (suc t) e k = found later t e (production-of t ps) (production-found t ps) k
 
 -- ---- rising, and how many
-
--- Rules rise: each is above the one before it, the first is at least so much.
-abbrev pub Rising : ℕ → List Production → Type 0
-Rising least [] = Unit
-Rising least (p ∷ ps) = (least ≤ p .head) × Rising (suc (p .head)) ps
 
 rising-from : (least more : ℕ) (ps : List Production) → more ≤ least → Rising least ps → Rising more ps
 rising-from least more [] h r = tt

@@ -7,8 +7,10 @@ pub mod ImageReading
 pub mod Unfolding
 pub mod Compile
 pub mod Computing
+pub mod ImageRanges
 pub mod FusionLaws
 pub mod NumberingLaws
 pub mod Members
 pub mod Simulation
 pub mod UnfoldingLaws
+pub mod ImageRoundTrip
