@@ -14,3 +14,4 @@ pub mod Members
 pub mod Simulation
 pub mod UnfoldingLaws
 pub mod ImageRoundTrip
+pub mod ReadableImages

@@ -1,0 +1,287 @@
+-- What reading bytes as an image gives: an image in range whose numbers are those bytes, with nothing after; or 13 at a place
+-- within the bytes or at their end.
+use mathlib.Core.Path.{_≡_, refl, sym, ap, ap₂, subst, subst₂, _∙_}
+use mathlib.Core.Bool.{Bool, true, false, not, _&&_, cond}
+use mathlib.Core.List.{List, [], _∷_, _++_, append-nil, append-assoc}
+use mathlib.Core.Logic.{_↔_}
+use Prim.Native.Nat.{ℕ, zero, suc, _+_, _^_, _≤_, _<_}
+use native.Mathlib.Omega.{arith}
+use lib.Dec.{eqb, ltb, leb, leb→le, ltb→lt}
+use lib.ListN.{length, getD}
+use borrow.Author.Tests.{eqb-true, ltb-true}
+use Rattle.stage0_laws.specs.Lists.{All}
+use Rattle.stage0_laws.specs.Truth.{true-holds, and-true-first, and-true-second}
+use Rattle.stage0_number.specs.Number.{decode}
+use Rattle.stage0_number.specs.Laws.{Within, decode-within}
+use Rattle.stage0_number.specs.declared.Number.{Number}
+use Rattle.stage0_number.specs.declared.Number.the-variants.{Read, Refused}
+use Rattle.stage1_sheet.specs.Limits.{most-rules, most-classes, most-expression-nodes, most-byte}
+use Rattle.stage1_sheet.specs.Spelling.{spell}
+use Rattle.stage1_sheet.specs.Field.{Reading, stop, got, and-then, between, field-of, read-field, read-many}
+use Rattle.stage1_sheet.specs.FieldLaws.{Bytes, Stands, stands-none, stands-append, stands-whole, Outcome, then-outcome, outcome-got, outcome-stop, FieldRead,
+  field-outcome, true-between}
+use Rattle.stage3_normal_form.specs.Productions.{Production, Row}
+use Rattle.stage4_lexer.specs.Positions.{Position}
+use Rattle.stage5_image.specs.Image.{Image, flag, flag-numbers, position-numbers, production-numbers, row-numbers, image-numbers, image-bytes}
+use Rattle.stage5_image.specs.ImageReading.{most-tail, image-field, read-flag, read-list, read-position, read-production, read-row, image-end, read-image}
+use Rattle.stage5_image.specs.ImageRanges.{PositionInRange, NeverFalling, ProductionInRange, Rising, RowInRange, InRange}
+use Rattle.stage5_image.specs.ImageRoundTrip.{all-numbers, just, flag-number, one-position-numbers, one-production-numbers, one-row-numbers, tail-is,
+  flags-are, positions-are, productions-are, rows-are, EachFrom, read-back}
+
+-- Numbers were read from a place on: their end lies within the bytes, and if these are bytes, the numbers stand there.
+pub record Taken (bytes : List ℕ) (at : ℕ) (numbers : List ℕ) (end : ℕ) : Type 0 where
+  pub inside : end ≤ length bytes
+  pub stands : Bytes bytes → Stands bytes at numbers end
+
+-- A refusal of an image: 13, at a place within the bytes or at their end.
+abbrev pub Refusal : List ℕ → ℕ → ℕ → Type 0
+Refusal bytes question place = (question ≡ 13) × (place ≤ length bytes)
+
+module _ (bytes : List ℕ) where
+  -- What reading a thing from a place gives: a good one, whose numbers were read, or a refusal.
+  abbrev Gives : {A : Type 0} → (A → Type 0) → (A → List ℕ) → ℕ → Reading A → Type 0
+  Gives Good numbers at r = Outcome (Refusal bytes) (λ a end. Good a × Taken bytes at (numbers a) end) r
+
+  taken-none : (at : ℕ) → at ≤ length bytes → Taken bytes at [] at
+  taken-none at h = record { inside = h; stands = λ b. stands-none bytes at h }
+
+  taken-append : {ms ns : List ℕ} {at mid end : ℕ} → Taken bytes at ms mid → Taken bytes mid ns end → Taken bytes at (ms ++ ns) end
+  taken-append s t = record { inside = t .inside; stands = λ b. stands-append (s .stands b) (t .stands b) }
+
+  taken-as : {ms ns : List ℕ} {at end : ℕ} → ms ≡ ns → Taken bytes at ms end → Taken bytes at ns end
+  taken-as {ms} {ns} {at} {end} e t = subst (λ (l : List ℕ). Taken bytes at l end) e t
+
+  -- Going on with what was given.
+  then-gives : {A B : Type 0} (Good : A → Type 0) (numbers : A → List ℕ) (at : ℕ) (r : Reading A) (next : A → ℕ → Reading B) (Q : B → ℕ → Type 0)
+      → Gives Good numbers at r → ((a : A) (mid : ℕ) → Good a → Taken bytes at (numbers a) mid → Outcome (Refusal bytes) Q (next a mid))
+      → Outcome (Refusal bytes) Q (and-then r next)
+  then-gives Good numbers at r next Q h k =
+      then-outcome (Refusal bytes) (λ a end. Good a × Taken bytes at (numbers a) end) Q r next h (λ a mid g. k a mid (g .0) (g .1))
+
+  field-gives : (allowed : ℕ → Bool) (at : ℕ) → at ≤ length bytes → Gives (λ v. allowed v ≡ true) just at (image-field allowed bytes at)
+  unfolding image-field read-field field-of
+  field-gives allowed at h = go (decode bytes at) refl
+    where
+      stands : (v end : ℕ) → Bytes bytes → read-field 13 13 allowed bytes at ≡ got v end → Stands bytes at (v ∷ []) end
+      stands v end b e =
+          outcome-got (λ question place. Unit {0}) (FieldRead allowed bytes at) (field-outcome 13 13 allowed bytes at (λ question place. Unit {0}) b tt tt) e .stands
+
+      chosen : (v used : ℕ) → decode bytes at ≡ Read v used → (c : Bool) → allowed v ≡ c
+          → Gives (λ v. allowed v ≡ true) just at (cond c (got v (at + used)) (stop 13 at))
+      chosen v used e true a = (a, record {
+        inside = decode-within bytes at e .inside;
+        stands = λ b. stands v (at + used) b (ap (field-of 13 13 allowed at) e ∙ ap (λ (c : Bool). cond c (got v (at + used)) (stop 13 at)) a);
+      })
+      chosen v used e false a = (refl, h)
+
+      go : (n : Number) → decode bytes at ≡ n → Gives (λ v. allowed v ≡ true) just at (field-of 13 13 allowed at n)
+      go Refused e = (refl, h)
+      go (Read v used) e = chosen v used e (allowed v) refl
+
+  flag-gives : (at : ℕ) → at ≤ length bytes → Gives (λ (b : Bool). Unit {0}) flag-number at (read-flag bytes at)
+  unfolding read-flag flag
+  flag-gives at h =
+      then-gives (λ v. between 0 1 v ≡ true) just at (image-field (between 0 1) bytes at) _ (λ b end. Unit {0} × Taken bytes at (flag-number b) end) (field-gives (between 0 1) at h)
+      (λ v mid a t. (tt, taken-as (ap (λ (n : ℕ). n ∷ []) (same v (true-between 0 1 v a .1))) t))
+    where
+      same : (v : ℕ) → v ≤ 1 → v ≡ flag (eqb v 1)
+      same zero h = refl
+      same (suc zero) h = refl
+      same (suc (suc v)) h = absurd (omega arith)
+
+  many-gives : {S A : Type 0} (Good : S → A → Type 0) (numbers : A → List ℕ) (one : S → ℕ → Reading A) (update : S → A → S)
+      → ((s : S) (at : ℕ) → at ≤ length bytes → Gives (Good s) numbers at (one s at))
+      → (n : ℕ) (s : S) (at : ℕ) → at ≤ length bytes
+      → Gives (λ l. (length l ≡ n) × EachFrom Good update s l) (all-numbers numbers) at (read-many one update s n at)
+  unfolding read-many
+  many-gives Good numbers one update step zero s at h = ((refl, tt), taken-none at h)
+  many-gives Good numbers one update step (suc n) s at h =
+      then-gives (Good s) numbers at (one s at) _ (λ l end. ((length l ≡ suc n) × EachFrom Good update s l) × Taken bytes at (all-numbers numbers l) end) (step s at h)
+      (λ a mid g t. then-gives (λ l. (length l ≡ n) × EachFrom Good update (update s a) l) (all-numbers numbers) mid (read-many one update (update s a) n mid) _
+      (λ l end. ((length l ≡ suc n) × EachFrom Good update s l) × Taken bytes at (all-numbers numbers l) end)
+      (many-gives Good numbers one update step n (update s a) mid (t .inside))
+      (λ l end gs ts. ((ap suc (gs .0), (g, gs .1)), taken-append t ts)))
+
+  list-gives : {A : Type 0} (Good : A → Type 0) (numbers : A → List ℕ) (one : ℕ → Reading A) → ((at : ℕ) → at ≤ length bytes → Gives Good numbers at (one at))
+      → (n at : ℕ) → at ≤ length bytes → Gives (λ l. (length l ≡ n) × All Good l) (all-numbers numbers) at (read-list one n at)
+  unfolding read-list
+  list-gives Good numbers one step n at h =
+      go (read-many (λ (s : Bool) at. one at) (λ s a. s) true n at)
+      (many-gives (λ (s : Bool) a. Good a) numbers (λ (s : Bool) at. one at) (λ s a. s) (λ s. step) n true at h)
+    where
+      each : (l : List _) → EachFrom (λ (s : Bool) a. Good a) (λ s a. s) true l → All Good l
+      each [] g = tt
+      each (a ∷ l) g = (g .0, each l (g .1))
+
+      go : (r : Reading (List _)) → Gives (λ l. (length l ≡ n) × EachFrom (λ (s : Bool) a. Good a) (λ s a. s) true l) (all-numbers numbers) at r
+          → Gives (λ l. (length l ≡ n) × All Good l) (all-numbers numbers) at r
+      go (stop question place) g = g
+      go (got l end) g = ((g .0 .0, each l (g .0 .1)), g .1)
+
+  -- One number, and then the rest.
+  then-field : {B : Type 0} (allowed : ℕ → Bool) (at : ℕ) (next : ℕ → ℕ → Reading B) (Q : B → ℕ → Type 0) → at ≤ length bytes
+      → ((v mid : ℕ) → allowed v ≡ true → Taken bytes at (v ∷ []) mid → Outcome (Refusal bytes) Q (next v mid))
+      → Outcome (Refusal bytes) Q (and-then (image-field allowed bytes at) next)
+  then-field allowed at next Q h k = then-gives (λ v. allowed v ≡ true) just at (image-field allowed bytes at) next Q (field-gives allowed at h) k
+
+  position-gives : (rules count before at : ℕ) → at ≤ length bytes
+      → Gives (λ p. (before ≤ p .rule) × PositionInRange rules count p) one-position-numbers at (read-position bytes rules count before at)
+  unfolding read-position
+  position-gives rules count before at h =
+      let Q : Position → ℕ → Type 0 = λ p end. ((before ≤ p .rule) × PositionInRange rules count p) × Taken bytes at (one-position-numbers p) end in
+      then-field (between 0 most-byte) at _ Q h
+      (λ low m₁ a₁ t₁. then-field (between low most-byte) m₁ _ Q (t₁ .inside)
+      (λ high m₂ a₂ t₂. then-field (λ v. leb before v && ltb v rules) m₂ _ Q (t₂ .inside)
+      (λ rule m₃ a₃ t₃. then-gives (λ b. Unit {0}) flag-number m₃ (read-flag bytes m₃) _ Q (flag-gives m₃ (t₃ .inside))
+      (λ last m₄ a₄ t₄. then-field (λ v. ltb v (2 ^ count)) m₄ _ Q (t₄ .inside)
+      (λ follow m₅ a₅ t₅.
+      let range = true-between low most-byte high a₂ in
+      ((leb→le before rule (true-holds (leb before rule) (and-true-first (leb before rule) (ltb rule rules) a₃)), record {
+        low-high = range .0;
+        high-byte = range .1;
+        rule-below = ltb-true rule rules (and-true-second (leb before rule) (ltb rule rules) a₃);
+        follow-below = ltb-true follow (2 ^ count) a₅;
+      }), taken-append t₁ (taken-append t₂ (taken-append t₃ (taken-append t₄ t₅)))))))))
+
+  production-gives : (skips : List Bool) (count least at : ℕ) → at ≤ length bytes
+      → Gives (λ p. (least ≤ p .head) × ProductionInRange skips count p) one-production-numbers at (read-production bytes skips count least at)
+  unfolding read-production
+  production-gives skips count least at h =
+      let Q : Production → ℕ → Type 0 = λ p end. ((least ≤ p .head) × ProductionInRange skips count p) × Taken bytes at (one-production-numbers p) end in
+      then-field (λ v. leb least v && (ltb v (length skips) && not (getD skips v true))) at _ Q h
+      (λ rule m₁ a₁ t₁. then-field (between 0 most-tail) m₁ _ Q (t₁ .inside)
+      (λ size m₂ a₂ t₂. then-gives (λ l. (length l ≡ size) × All (λ n. ltb n count ≡ true) l) (all-numbers just) m₂
+      (read-list (image-field (λ v. ltb v count) bytes) size m₂) _ Q
+      (list-gives (λ n. ltb n count ≡ true) just (image-field (λ v. ltb v count) bytes) (field-gives (λ v. ltb v count)) size m₂ (t₂ .inside))
+      (λ tail m₃ g t₃.
+      let below = and-true-second (leb least rule) (ltb rule (length skips) && not (getD skips rule true)) a₁ in
+      let short : size ≤ most-tail = true-between 0 most-tail size a₂ .1 in
+      let same = g .0 in
+      ((leb→le least rule (true-holds (leb least rule) (and-true-first (leb least rule) (ltb rule (length skips) && not (getD skips rule true)) a₁)), record {
+        rule-below = ltb-true rule (length skips) (and-true-first (ltb rule (length skips)) (not (getD skips rule true)) below);
+        not-skipping = negated (getD skips rule true) (and-true-second (ltb rule (length skips)) (not (getD skips rule true)) below);
+        tail-length = omega arith;
+        members-below = each tail (g .1);
+      }), taken-append t₁ (taken-append (taken-as (ap just (sym same)) t₂) (taken-as (tail-is tail) t₃))))))
+    where
+      negated : (b : Bool) → not b ≡ true → b ≡ false
+      negated true e = sym e
+      negated false e = refl
+
+      each : (l : List ℕ) → All (λ n. ltb n count ≡ true) l → All (λ n. n < count) l
+      each [] g = tt
+      each (n ∷ l) g = (ltb-true n count (g .0), each l (g .1))
+
+  row-gives : (skips : List Bool) (count at : ℕ) → at ≤ length bytes → Gives (RowInRange skips count) one-row-numbers at (read-row bytes skips count at)
+  unfolding read-row
+  row-gives skips count at h =
+      let Q : Row → ℕ → Type 0 = λ r end. RowInRange skips count r × Taken bytes at (one-row-numbers r) end in
+      let Good : ℕ → Production → Type 0 = λ least p. (least ≤ p .head) × ProductionInRange skips count p in
+      then-gives (λ b. Unit {0}) flag-number at (read-flag bytes at) _ Q (flag-gives at h)
+      (λ empty m₁ a₁ t₁. then-field (between 0 most-rules) m₁ _ Q (t₁ .inside)
+      (λ size m₂ a₂ t₂. then-gives (λ l. (length l ≡ size) × EachFrom Good (λ least p. suc (p .head)) 0 l) (all-numbers one-production-numbers) m₂
+      (read-many (read-production bytes skips count) (λ least p. suc (p .head)) 0 size m₂) _ Q
+      (many-gives Good one-production-numbers (read-production bytes skips count) (λ least p. suc (p .head)) (production-gives skips count) size 0 m₂ (t₂ .inside))
+      (λ ps m₃ g t₃.
+      let few : size ≤ most-rules = true-between 0 most-rules size a₂ .1 in
+      let same = g .0 in
+      (record { production-count = omega arith; productions-in-range = ranges 0 ps (g .1); rising = rises 0 ps (g .1) },
+      taken-append t₁ (taken-append (taken-as (ap just (sym same)) t₂) (taken-as (productions-are ps) t₃))))))
+    where
+      ranges : (least : ℕ) (ps : List Production)
+          → EachFrom (λ least p. (least ≤ p .head) × ProductionInRange skips count p) (λ least p. suc (p .head)) least ps → All (ProductionInRange skips count) ps
+      ranges least [] g = tt
+      ranges least (p ∷ ps) g = (g .0 .1, ranges (suc (p .head)) ps (g .1))
+
+      rises : (least : ℕ) (ps : List Production)
+          → EachFrom (λ least p. (least ≤ p .head) × ProductionInRange skips count p) (λ least p. suc (p .head)) least ps → Rising least ps
+      rises least [] g = tt
+      rises least (p ∷ ps) g = (g .0 .0, rises (suc (p .head)) ps (g .1))
+
+  -- What a readable image is: in range, to the last byte, and its numbers are the bytes.
+  record Readable (i : Image) (end : ℕ) : Type 0 where
+    in-range : InRange i
+    whole : end ≡ length bytes
+    taken : Taken bytes 0 (image-numbers i) end
+
+  -- "and nothing after"
+  ended : (i : Image) (end : ℕ) → InRange i → Taken bytes 0 (image-numbers i) end → Outcome (Refusal bytes) Readable (image-end bytes i end)
+  unfolding image-end
+  ended i end g t = go (eqb end (length bytes)) refl
+    where
+      go : (b : Bool) → eqb end (length bytes) ≡ b → Outcome (Refusal bytes) Readable (cond b (got i end) (stop 13 end))
+      go true e = record { in-range = g; whole = eqb-true end (length bytes) e; taken = t }
+      go false e = (refl, t .inside)
+
+  position-ranges : (R P before : ℕ) (ps : List Position)
+      → EachFrom (λ before p. (before ≤ p .rule) × PositionInRange R P p) (λ before p. p .rule) before ps → All (PositionInRange R P) ps
+  position-ranges R P before [] g = tt
+  position-ranges R P before (p ∷ ps) g = (g .0 .1, position-ranges R P (p .rule) ps (g .1))
+
+  position-rules : (R P before : ℕ) (ps : List Position)
+      → EachFrom (λ before p. (before ≤ p .rule) × PositionInRange R P p) (λ before p. p .rule) before ps → NeverFalling before ps
+  position-rules R P before [] g = tt
+  position-rules R P before (p ∷ ps) g = (g .0 .0, position-rules R P (p .rule) ps (g .1))
+
+  image-gives : Outcome (Refusal bytes) Readable (read-image bytes)
+  unfolding read-image image-numbers
+  image-gives =
+      then-field (between 1 1) 0 _ Readable (omega arith)
+      (λ version m₁ a₁ t₁. then-field (between 1 most-rules) m₁ _ Readable (t₁ .inside)
+      (λ R m₂ a₂ t₂. then-gives (λ l. (length l ≡ R) × All (λ b. Unit {0}) l) (all-numbers flag-number) m₂ (read-list (read-flag bytes) R m₂) _ Readable
+      (list-gives (λ b. Unit {0}) flag-number (read-flag bytes) flag-gives R m₂ (t₂ .inside))
+      (λ skips m₃ g₃ t₃. then-field (between 1 most-classes) m₃ _ Readable (t₃ .inside)
+      (λ P m₄ a₄ t₄. then-gives (λ l. (length l ≡ P) × EachFrom (λ before p. (before ≤ p .rule) × PositionInRange R P p) (λ before p. p .rule) 0 l)
+      (all-numbers one-position-numbers) m₄ (read-many (read-position bytes R P) (λ before p. p .rule) 0 P m₄) _ Readable
+      (many-gives (λ before p. (before ≤ p .rule) × PositionInRange R P p) one-position-numbers (read-position bytes R P) (λ before p. p .rule) (position-gives R P) P 0 m₄ (t₄ .inside))
+      (λ ps m₅ g₅ t₅. then-field (λ v. ltb v (2 ^ P)) m₅ _ Readable (t₅ .inside)
+      (λ first m₆ a₆ t₆. then-field (between 1 most-expression-nodes) m₆ _ Readable (t₆ .inside)
+      (λ N m₇ a₇ t₇. then-gives (λ l. (length l ≡ N) × All (RowInRange skips N) l) (all-numbers one-row-numbers) m₇ (read-list (read-row bytes skips N) N m₇) _ Readable
+      (list-gives (RowInRange skips N) one-row-numbers (read-row bytes skips N) (row-gives skips N) N m₇ (t₇ .inside))
+      (λ rows m₈ g₈ t₈.
+      let one = true-between 1 1 version a₁ in
+      let rules = true-between 1 most-rules R a₂ in
+      let positions = true-between 1 most-classes P a₄ in
+      let nonterminals = true-between 1 most-expression-nodes N a₇ in
+      let same-R : R ≡ length skips = sym (g₃ .0) in
+      let same-P : P ≡ length ps = sym (g₅ .0) in
+      let same-N : N ≡ length rows = sym (g₈ .0) in
+      let first-small = ltb-true first (2 ^ P) a₆ in
+      ended (record { skips = skips; positions = ps; first = first; rows = rows }) m₈
+      (record {
+        some-rules = omega arith;
+        rule-count = omega arith;
+        some-positions = omega arith;
+        position-count = omega arith;
+        positions-in-range = subst₂ (λ (r p : ℕ). All (PositionInRange r p) ps) same-R same-P (position-ranges R P 0 ps (g₅ .1));
+        never-falling = position-rules R P 0 ps (g₅ .1);
+        first-below = subst (λ (p : ℕ). first < 2 ^ p) same-P first-small;
+        some-rows = omega arith;
+        row-count = omega arith;
+        rows-in-range = subst (λ (n : ℕ). All (RowInRange skips n) rows) same-N (g₈ .1);
+      })
+      (taken-append (taken-as (ap just (let z : version ≡ 1 = omega arith in z)) t₁) (taken-append (taken-as (ap just same-R) t₂)
+      (taken-append (taken-as (flags-are skips) t₃) (taken-append (taken-as (ap just same-P) t₄) (taken-append (taken-as (positions-are ps) t₅)
+      (taken-append t₆ (taken-append (taken-as (ap just same-N) t₇) (taken-as (rows-are rows) t₈))))))))))))))))
+
+-- Whatever is read as an image is in range, and reading ends at the last byte.
+pub read-in-range : (bytes : List ℕ) (i : Image) (end : ℕ) → read-image bytes ≡ got i end → InRange i × (end ≡ length bytes)
+read-in-range bytes i end e = let r = outcome-got (Refusal bytes) (Readable bytes) (image-gives bytes) e in (r .in-range, r .whole)
+
+-- A refusal is 13, at a place within the bytes or at their end.
+pub read-refusal : (bytes : List ℕ) (question place : ℕ) → read-image bytes ≡ stop question place → (question ≡ 13) × (place ≤ length bytes)
+read-refusal bytes question place e = outcome-stop (Refusal bytes) (Readable bytes) (image-gives bytes) e
+
+-- Whatever bytes are read as an image are that image's bytes.
+pub read-exact : (bytes : List ℕ) → Bytes bytes → (i : Image) (end : ℕ) → read-image bytes ≡ got i end → bytes ≡ image-bytes i
+unfolding image-bytes
+read-exact bytes b i end e =
+    let r = outcome-got (Refusal bytes) (Readable bytes) (image-gives bytes) e in
+    stands-whole bytes (image-numbers i) .0 (subst (Stands bytes 0 (image-numbers i)) (r .whole) (r .taken .stands b))
+
+-- Bytes are readable as an image exactly if they are the bytes of an image in range.
+pub readable-iff : (bytes : List ℕ) → Bytes bytes → (i : Image) → (read-image bytes ≡ got i (length bytes)) ↔ (InRange i × (bytes ≡ image-bytes i))
+readable-iff bytes b i = (
+  λ e. (read-in-range bytes i (length bytes) e .0, read-exact bytes b i (length bytes) e),
+  λ g. subst (λ (l : List ℕ). read-image l ≡ got i (length l)) (sym (g .1)) (read-back i (g .0))
+)
