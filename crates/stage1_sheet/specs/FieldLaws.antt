@@ -6,10 +6,10 @@ use mathlib.Core.List.{List, [], _∷_, _++_, append-assoc, append-nil}
 use mathlib.Core.Logic.{_↔_}
 use Prim.Native.Nat.{ℕ, zero, suc, _+_, _-_, _^_, _≤_, _<_}
 use native.Mathlib.Omega.{arith}
-use lib.Dec.{leb, leb→le, le→leb}
+use lib.Dec.{T, leb, ltb, leb→le, le→leb, ltb→lt, lit<}
 use lib.ListN.{length, getD, take, drop, length-append, length-drop, take-append-drop}
 use lib.Seq.{drop-length, drop-append-seam, take-append-seam, drop-drop}
-use Rattle.stage0_laws.specs.Truth.{holds-true, true-holds, and-both, and-true-first, and-true-second}
+use Rattle.stage0_laws.specs.Truth.{holds-true, true-holds, and-both, and-first, and-second, and-true-first, and-true-second}
 use Rattle.stage0_number.specs.Number.{encode, decode}
 use Rattle.stage0_number.specs.Laws.{Within, decode-within, decode-there, decode-bytes, decode-width, encode-there}
 use Rattle.stage0_number.specs.declared.Number.{Number}
@@ -22,6 +22,16 @@ use Rattle.stage1_sheet.specs.Field.{Reading, stop, got, and-then, betwe
 -- Every byte is below 256.
 abbrev pub Bytes : List ℕ → Type 0
 Bytes bytes = (i : ℕ) → getD bytes i 0 < 256
+
+-- The same as a test, for bytes that are written out.
+abbrev pub all-bytes : List ℕ → Bool
+all-bytes [] = true
+all-bytes (b ∷ l) = ltb b 256 && all-bytes l
+
+pub tested-bytes : (l : List ℕ) → T (all-bytes l) → Bytes l
+tested-bytes [] t i = lit< tt
+tested-bytes (b ∷ l) t zero = ltb→lt b 256 (and-first (ltb b 256) (all-bytes l) t)
+tested-bytes (b ∷ l) t (suc i) = tested-bytes l (and-second (ltb b 256) (all-bytes l) t) i
 
 -- The place after some numbers that stand from a place on.
 abbrev pub after : ℕ → List ℕ → ℕ

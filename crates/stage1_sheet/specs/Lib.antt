@@ -8,5 +8,15 @@ pub mod WellFormed
 pub mod Field
 pub mod Items
 pub mod Reading
-pub mod Computing
 pub mod FieldLaws
+pub mod ListLaws
+pub mod RegexItems
+pub mod ExpressionItems
+pub mod SheetFields
+pub mod RegexReading
+pub mod ExpressionReading
+pub mod RuleReading
+pub mod Places
+pub mod ReadingLaws
+pub mod Examples
+pub mod Computing

@@ -4,4 +4,6 @@ pub mod Types
 pub mod Nodes
 pub mod LeastTypes
 pub mod Questions
+pub mod DenotationLaws
+pub mod Soundness
 pub mod Computing

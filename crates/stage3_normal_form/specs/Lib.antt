@@ -2,4 +2,15 @@
 pub mod Productions
 pub mod Derives
 pub mod NormalForm
+pub mod Places
+pub mod Descent
+pub mod RowEquations
+pub mod NodeLanguages
+pub mod Unfolding
+pub mod Pending
+pub mod Settling
+pub mod DerivesExact
+pub mod RowFacts
+pub mod NormalFormLaws
+pub mod Tails
 pub mod Computing

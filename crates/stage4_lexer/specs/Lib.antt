@@ -3,4 +3,13 @@ pub mod Words
 pub mod Positions
 pub mod Match
 pub mod Walk
+pub mod EmptyWord
+pub mod PositionSets
+pub mod Chains
+pub mod PositionList
+pub mod WalkLaws
+pub mod LongestMatchLaws
+pub mod PositionBounds
+pub mod LowestPosition
+pub mod MatchExamples
 pub mod Computing
