@@ -15,3 +15,4 @@ pub mod Simulation
 pub mod UnfoldingLaws
 pub mod ImageRoundTrip
 pub mod ReadableImages
+pub mod RowRanges

@@ -167,6 +167,13 @@ met-at [] i h = absurd (not-suc-le-zero h)
 met-at (m ∷ met) zero h = or-left (eqb m m) (is-met m met) (eqb-refl m)
 met-at (m ∷ met) (suc i) h = or-right (eqb m (getD met i 0)) (is-met (getD met i 0) met) (met-at met i (omega arith))
 
+pub met-member : (n : ℕ) (met : List ℕ) → List·Memᴰ n met → Met n met
+unfolding is-met
+met-member n [] m = absurd (List·Memᴰ·not-nil m)
+met-member n (k ∷ met) m =
+    ⊎-elim (λ e. or-left (eqb k n) (is-met n met) (true-holds (eqb k n) (eq-eqb k n (sym e)))) (λ h. or-right (eqb k n) (is-met n met) (met-member n met h))
+    (List·Memᴰ·cases-cons m)
+
 once-meet : (met : List ℕ) (n : ℕ) → Once met → Once (meet met n)
 unfolding meet
 once-meet met n once = go (is-met n met) refl

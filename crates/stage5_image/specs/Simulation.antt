@@ -112,7 +112,7 @@ module _ (rules : List Rule) (rows : List Row) (inside : TailsInside rows) (some
   abbrev met : List ℕ
   met = reached (fused rules rows)
 
-  reached-fused : Reached (fused rules rows) (reached (fused rules rows))
+  pub reached-fused : Reached (fused rules rows) (reached (fused rules rows))
   reached-fused = reached-is (fused rules rows) (fused-inside rules rows inside) (let l = fused-length rules rows in omega arith)
 
   -- The image's row of a node, in one step.

@@ -1,6 +1,5 @@
--- What the image's start unfolds to: exactly the rule sequences that spell a token sequence of the expression (demand 2).
--- Two steps: from the image's rows to the rows by token, and from these to the nodes' languages. That the rows by token unfold
--- the languages in one step, and that a row has at most one production a token, are hypotheses here.
+-- What rows unfold to: from the image's rows to the rows by token, and from these to the languages of the nodes. That the rows by
+-- token unfold the languages in one step, and that a row has at most one production a token, are hypotheses here.
 use mathlib.Core.Path.{_≡_, refl, sym, ap, ap₂, subst, _∙_}
 use mathlib.Core.Bool.{Bool, true, false}
 use mathlib.Core.List.{List, [], _∷_, _++_, map, map-append, append-nil, append-assoc, nil≢cons, cons≢nil, head-eq-of-cons-eq, tail-eq-of-cons-eq, List·Memᴰ, Memᴰ·cast}
@@ -10,9 +9,12 @@ use Prim.Native.Nat.{ℕ, zero, suc, _+_, _≤_, _<_}
 use native.Mathlib.Omega.{arith}
 use lib.ListN.{getD, length, length-append}
 use Rattle.stage0_laws.specs.Lists.{All}
+use Rattle.stage0_laws.specs.Truth.{holds-true, true-holds}
 use Rattle.stage1_sheet.specs.Sheet.{Rule, Sheet}
 use Rattle.stage2_types.specs.Denotation.{Language, followed-by, Denotes}
 use Rattle.stage3_normal_form.specs.Productions.{Production, Row, row-of}
+use Rattle.stage3_normal_form.specs.Unfolding.{concatenation, concatenation-append, concatenation-split, ByRow, by-epsilon as empty-word, by-production as longer-word,
+  Unfolds as OneStep}
 use Rattle.stage5_image.specs.Fusion.{production-of, fused}
 use Rattle.stage5_image.specs.FusionLaws.{Found, production-found}
 use Rattle.stage5_image.specs.Members.{all-append}
@@ -97,43 +99,22 @@ image-unfolds rules rows inside some-rows one ks =
 
 -- ---- from the rows by token to the languages of the nodes
 
--- The concatenation of the nodes' languages.
-abbrev pub concatenation : (ℕ → Language) → List ℕ → Language
-concatenation L [] w = w ≡ []
-concatenation L (n ∷ pending) w = followed-by (L n) (concatenation L pending) w
-
--- The words that a row gives in one step: the empty one by ε, and t w' by a production of t whose tail has the word w'.
-pub data OneStep (L : ℕ → Language) (row : Row) : List ℕ → Type 0 where
-  empty-step : row .empty ≡ true → OneStep L row []
-  production-step : {p : Production} {w : List ℕ} → List·Memᴰ p (row .productions) → concatenation L (p .tail) w → OneStep L row (p .head ∷ w)
-
-concatenation-join : (L : ℕ → Language) (a b u v : List ℕ) → concatenation L a u → concatenation L b v → concatenation L (a ++ b) (u ++ v)
-concatenation-join L [] b u v x y = rw x y
-concatenation-join L (n ∷ a) b u v x y =
-    (x .0, x .1 ++ v, ap (λ (w : List ℕ). w ++ v) (x .2) ∙ append-assoc (x .0) (x .1) v, x .3, concatenation-join L a b (x .1) v (x .4) y)
-
-concatenation-split : (L : ℕ → Language) (a b w : List ℕ) → concatenation L (a ++ b) w → followed-by (concatenation L a) (concatenation L b) w
-concatenation-split L [] b w x = ([], w, refl, refl, x)
-concatenation-split L (n ∷ a) b w x =
-    let y = concatenation-split L a b (x .1) (x .4) in
-    (x .0 ++ y .0, y .1, x .2 ∙ (ap (λ (z : List ℕ). x .0 ++ z) (y .2) ∙ sym (append-assoc (x .0) (y .0) (y .1))), (x .0, y .0, refl, x .3, y .3), y .4)
-
-module _ (rows : List Row) (L : ℕ → Language) (steps : (n : ℕ) (w : List ℕ) → L n w ↔ OneStep L (row-of rows n) w) where
+module _ (rows : List Row) (L : ℕ → Language) (steps : (n : ℕ) → OneStep L (L n) (row-of rows n)) where
   to-language : {pending ts : List ℕ} → Unfolds rows pending ts → concatenation L pending ts
   to-language none-pending = refl
-  to-language (by-epsilon {n = n} {rules = ts} empty u) = ([], ts, refl, steps n [] .1 (empty-step empty), to-language u)
+  to-language (by-epsilon {n = n} {rules = ts} empty u) = ([], ts, refl, steps n [] .1 (empty-word (true-holds ((row-of rows n) .empty) empty)), to-language u)
   to-language (by-production {n = n} {pending = pending} {rules = ts} {p = p} m u) =
       let c = concatenation-split L (p .tail) pending ts (to-language u) in
-      (p .head ∷ c .0, c .1, ap (λ (l : List ℕ). p .head ∷ l) (c .2), steps n (p .head ∷ c .0) .1 (production-step m (c .3)), c .4)
+      (p .head ∷ c .0, c .1, ap (λ (l : List ℕ). p .head ∷ l) (c .2), steps n (p .head ∷ c .0) .1 (longer-word m (c .3)), c .4)
 
   -- One step, and then the rest: ε shortens what is pending, a production shortens the word.
-  stepped : (n : ℕ) (pending v : List ℕ) {u : List ℕ} → OneStep L (row-of rows n) u → concatenation L pending v
+  stepped : (n : ℕ) (pending v : List ℕ) {u : List ℕ} → ByRow L (row-of rows n) u → concatenation L pending v
       → Unfolds rows pending v
       → ((pending' w : List ℕ) → length w < length (u ++ v) → concatenation L pending' w → Unfolds rows pending' w)
       → Unfolds rows (n ∷ pending) (u ++ v)
-  stepped n pending v (empty-step e) c later shorter = by-epsilon e later
-  stepped n pending v (production-step {p = p} {w = w} m d) c later shorter =
-      by-production m (shorter (p .tail ++ pending) (w ++ v) (omega arith) (concatenation-join L (p .tail) pending w v d c))
+  stepped n pending v (empty-word t) c later shorter = by-epsilon (holds-true ((row-of rows n) .empty) t) later
+  stepped n pending v (longer-word {q = p} {w = w} m d) c later shorter =
+      by-production m (shorter (p .tail ++ pending) (w ++ v) (omega arith) (concatenation-append L (p .tail) pending w v d c))
 
   within : (most : ℕ) → ((pending w : List ℕ) → length w < most → concatenation L pending w → Unfolds rows pending w)
       → (pending ts : List ℕ) → length ts ≤ most → concatenation L pending ts → Unfolds rows pending ts
@@ -154,32 +135,3 @@ module _ (rows : List Row) (L : ℕ → Language) (steps : (n : ℕ) (w : List �
   -- What is pending unfolds to the words of its nodes' languages, one after the other.
   pub unfolds-language : (pending ts : List ℕ) → Unfolds rows pending ts ↔ concatenation L pending ts
   unfolds-language pending ts = (to-language, from-language (length ts) pending ts (omega arith))
-
-  -- The start unfolds to the words of its language.
-  pub start-language : (ts : List ℕ) → Unfolds rows (0 ∷ []) ts ↔ L 0 ts
-  start-language ts =
-      (
-        λ u. let c = to-language u in subst (L 0) (sym (c .2 ∙ (ap (λ (v : List ℕ). c .0 ++ v) (c .4) ∙ append-nil (c .0)))) (c .3),
-        λ w. from-language (length ts) (0 ∷ []) ts (omega arith) (ts, [], sym (append-nil ts), w, refl)
-      )
-
--- ---- the whole
-
--- What the rows by token are to be: tails inside, at most one production a token, and one step unfolds each node's language; the
--- start's language is the expression's.
-pub record RowsOf (s : Sheet) (rows : List Row) (L : ℕ → Language) : Type 1 where
-  pub inside : TailsInside rows
-  pub some-rows : 0 < length rows
-  pub one-per-token : OnePerToken rows
-  pub steps : (n : ℕ) (w : List ℕ) → L n w ↔ OneStep L (row-of rows n) w
-  pub start : (w : List ℕ) → L 0 w ↔ Denotes (s .expression) w
-
--- The image's start unfolds to exactly the rule sequences that spell a token sequence which the expression denotes.
-pub denoted-unfolds : (s : Sheet) (rows : List Row) (L : ℕ → Language) → RowsOf s rows L → (ks : List ℕ)
-    → StartUnfolds (numbered (fused (s .rules) rows)) ks ↔ DenotedRules s ks
-denoted-unfolds s rows L h ks =
-    let image = image-unfolds (s .rules) rows (h .inside) (h .some-rows) (h .one-per-token) ks in
-    (
-      λ u. let r = image .0 u in (r .0, h .start (r .0) .0 (start-language rows L (h .steps) (r .0) .0 (r .1)), r .2),
-      λ d. image .1 (d .0, start-language rows L (h .steps) (d .0) .1 (h .start (d .0) .1 (d .1)), d .2)
-    )
