@@ -10,6 +10,7 @@ use Rattle.stage0_laws.specs.Lists.{All}
 use Rattle.stage1_sheet.specs.Limits.{most-rules, most-classes, most-expression-nodes, most-byte}
 use Rattle.stage3_normal_form.specs.Productions.{Production, Row}
 use Rattle.stage4_lexer.specs.Positions.{Position}
+use Rattle.stage4_lexer.specs.PositionBounds.{NeverFalling}
 use Rattle.stage5_image.specs.Image.{Image}
 use Rattle.stage5_image.specs.ImageReading.{most-tail}
 
@@ -19,11 +20,6 @@ pub record PositionInRange (rules count : ℕ) (p : Position) : Type 0 where
   pub high-byte : p .high ≤ most-byte
   pub rule-below : p .rule < rules
   pub follow-below : p .follow < 2 ^ count
-
--- Rules of positions never fall: each is at least the one before it.
-abbrev pub NeverFalling : ℕ → List Position → Type 0
-NeverFalling before [] = Unit
-NeverFalling before (p ∷ ps) = (before ≤ p .rule) × NeverFalling (p .rule) ps
 
 -- A production, where the rules skip or not as listed and there are so many nonterminals.
 pub record ProductionInRange (skips : List Bool) (count : ℕ) (p : Production) : Type 0 where

@@ -17,9 +17,10 @@ use Rattle.stage1_sheet.specs.Field.{Reading, stop, got, and-then, between, rea
 use Rattle.stage1_sheet.specs.FieldLaws.{Stands, after, stands-first, stands-rest, stands-whole, field-got, between-true}
 use Rattle.stage3_normal_form.specs.Productions.{Production, Row}
 use Rattle.stage4_lexer.specs.Positions.{Position}
+use Rattle.stage4_lexer.specs.PositionBounds.{NeverFalling}
 use Rattle.stage5_image.specs.Image.{Image, flag, flag-numbers, position-numbers, production-numbers, row-numbers, image-numbers, image-bytes}
 use Rattle.stage5_image.specs.ImageReading.{most-tail, image-field, read-flag, read-list, read-position, read-production, read-row, image-end, read-image}
-use Rattle.stage5_image.specs.ImageRanges.{PositionInRange, NeverFalling, ProductionInRange, Rising, RowInRange, InRange}
+use Rattle.stage5_image.specs.ImageRanges.{PositionInRange, ProductionInRange, Rising, RowInRange, InRange}
 
 -- ---- the numbers of one thing, and of several
 

@@ -16,3 +16,4 @@ pub mod UnfoldingLaws
 pub mod ImageRoundTrip
 pub mod ReadableImages
 pub mod RowRanges
+pub mod ImageLaws

@@ -22,9 +22,10 @@ use Rattle.stage1_sheet.specs.FieldLaws.{Bytes, Stands, stands-none, stands-app
   field-outcome, true-between}
 use Rattle.stage3_normal_form.specs.Productions.{Production, Row}
 use Rattle.stage4_lexer.specs.Positions.{Position}
+use Rattle.stage4_lexer.specs.PositionBounds.{NeverFalling}
 use Rattle.stage5_image.specs.Image.{Image, flag, flag-numbers, position-numbers, production-numbers, row-numbers, image-numbers, image-bytes}
 use Rattle.stage5_image.specs.ImageReading.{most-tail, image-field, read-flag, read-list, read-position, read-production, read-row, image-end, read-image}
-use Rattle.stage5_image.specs.ImageRanges.{PositionInRange, NeverFalling, ProductionInRange, Rising, RowInRange, InRange}
+use Rattle.stage5_image.specs.ImageRanges.{PositionInRange, ProductionInRange, Rising, RowInRange, InRange}
 use Rattle.stage5_image.specs.ImageRoundTrip.{all-numbers, just, flag-number, one-position-numbers, one-production-numbers, one-row-numbers, tail-is,
   flags-are, positions-are, productions-are, rows-are, EachFrom, read-back}
 
