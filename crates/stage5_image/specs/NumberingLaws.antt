@@ -2,7 +2,7 @@
 -- the rows; a node's number is its place among them, both ways. Then the rows by number.
 use mathlib.Core.Path.{_≡_, refl, sym, ap, ap₂, subst, _∙_}
 use mathlib.Core.Bool.{Bool, true, false, not, _||_, cond}
-use mathlib.Core.List.{List, [], _∷_, _++_, map, append-assoc, append-nil, List·Memᴰ, List·Memᴰ·head, List·Memᴰ·tail, List·Memᴰ·not-nil,
+use mathlib.Core.List.{List, [], _∷_, _++_, map, append-assoc, append-nil, flatMap, List·Memᴰ, List·Memᴰ·head, List·Memᴰ·tail, List·Memᴰ·not-nil,
   List·Memᴰ·cases-cons, List·Memᴰ·append-cases, Memᴰ·append-left, Memᴰ·append-right}
 use mathlib.Core.Logic.{_⊎_, inl, inr, ⊎-elim}
 use Prim.Native.Nat.{ℕ, zero, suc, _+_, _≤_, _<_}
@@ -10,8 +10,8 @@ use native.Mathlib.Omega.{arith}
 use native.Mathlib.Nat.{not-suc-le-zero}
 use native.Mathlib.Decide.{ℕ-discrete}
 use lib.Dec.{T, eqb, eqb→eq, eqb-refl, ltb, ltb→lt, nltb→le}
-use lib.ListN.{getD, length, length-append, length-map, List·getD-append, List·getD-eq-default}
-use lib.Seq.{getD-append-seam}
+use lib.ListN.{getD, length, take, length-append, length-map, List·getD-append, List·getD-eq-default}
+use lib.Seq.{getD-append-seam, take-append-le, take-suc, take-all}
 use borrow.Author.Tests.{eq-eqb, ne-eqb, ltb-true, ltb-false}
 use Rattle.stage0_laws.specs.Truth.{or-left, or-right, or-cases, holds-true, true-holds}
 use Rattle.stage3_normal_form.specs.Productions.{Production, Row, no-productions, row-of}
@@ -194,6 +194,72 @@ unfolding meet-all
 once-meet-all met [] once = once
 once-meet-all met (n ∷ tail) once = once-meet-all (meet met n) tail (once-meet met n once)
 
+-- ---- the order
+
+meet-all-append : (met a b : List ℕ) → meet-all met (a ++ b) ≡ meet-all (meet-all met a) b
+unfolding meet-all
+meet-all-append met [] b = refl
+meet-all-append met (n ∷ a) b = meet-all-append (meet met n) a b
+
+-- Row by row: the members of all tails of the nodes' rows, from the left.
+abbrev pub row-by-row : List Row → List ℕ → List ℕ
+row-by-row rows met = flatMap (λ n. flatMap (λ p. p .tail) ((row-of rows n) .productions)) met
+
+tails-in-order : (ps : List Production) → tail-members ps ≡ flatMap (λ p. p .tail) ps
+unfolding tail-members flatMap
+tails-in-order [] = refl
+tails-in-order (p ∷ ps) = ap (λ (l : List ℕ). p .tail ++ l) (tails-in-order ps)
+
+row-by-row-last : (rows : List Row) (met : List ℕ) (n : ℕ)
+    → row-by-row rows (met ++ (n ∷ [])) ≡ row-by-row rows met ++ tail-members ((row-of rows n) .productions)
+unfolding flatMap
+row-by-row-last rows [] n = append-nil (flatMap (λ p. p .tail) ((row-of rows n) .productions)) ∙ sym (tails-in-order ((row-of rows n) .productions))
+row-by-row-last rows (m ∷ met) n =
+    let tails = flatMap (λ p. p .tail) ((row-of rows m) .productions) in
+    ap (λ (l : List ℕ). tails ++ l) (row-by-row-last rows met n)
+    ∙ sym (append-assoc tails (row-by-row rows met) (tail-members ((row-of rows n) .productions)))
+
+-- The members of a list that have not been met, each where it is met first.
+abbrev pub first-met : List ℕ → List ℕ → List ℕ
+first-met met [] = []
+first-met met (n ∷ l) = elim (is-met n met) [ true ↦ first-met met l | false ↦ n ∷ first-met (n ∷ met) l ]
+
+first-met-same : (a b l : List ℕ) → ((n : ℕ) → is-met n a ≡ is-met n b) → first-met a l ≡ first-met b l
+unfolding is-met
+first-met-same a b [] e = refl
+first-met-same a b (n ∷ l) e =
+    go (is-met n a) (is-met n b) (e n) (first-met-same a b l e) (first-met-same (n ∷ a) (n ∷ b) l (λ k. ap (λ (c : Bool). eqb n k || c) (e k)))
+  where
+    go : (c d : Bool) → c ≡ d → first-met a l ≡ first-met b l → first-met (n ∷ a) l ≡ first-met (n ∷ b) l
+        → _≡_ {A = List ℕ} (elim c [ true ↦ first-met a l | false ↦ n ∷ first-met (n ∷ a) l ]) (elim d [ true ↦ first-met b l | false ↦ n ∷ first-met (n ∷ b) l ])
+    go true true p x y = x
+    go true false p x y = let z : _≡_ {A = ℕ} 0 1 = cc in absurd (omega arith)
+    go false true p x y = let z : _≡_ {A = ℕ} 0 1 = cc in absurd (omega arith)
+    go false false p x y = ap (λ (k : List ℕ). n ∷ k) y
+
+met-anywhere : (n m : ℕ) (met : List ℕ) → is-met n (met ++ (m ∷ [])) ≡ is-met n (m ∷ met)
+unfolding is-met
+met-anywhere n m met = met-last n m met ∙ go (is-met n met) (eqb m n)
+  where
+    go : (a b : Bool) → (a || b) ≡ (b || a)
+    go true true = refl
+    go true false = refl
+    go false true = refl
+    go false false = refl
+
+-- What joins are the members not met, in the order in which they are met first.
+pub meet-all-order : (met l : List ℕ) → meet-all met l ≡ met ++ first-met met l
+unfolding meet-all meet
+meet-all-order met [] = sym (append-nil met)
+meet-all-order met (n ∷ l) = go (is-met n met) (meet-all-order met l) (meet-all-order (met ++ (n ∷ [])) l)
+  where
+    go : (b : Bool) → meet-all met l ≡ met ++ first-met met l → meet-all (met ++ (n ∷ [])) l ≡ (met ++ (n ∷ [])) ++ first-met (met ++ (n ∷ [])) l
+        → meet-all (cond b met (met ++ (n ∷ []))) l ≡ met ++ elim b [ true ↦ first-met met l | false ↦ n ∷ first-met (n ∷ met) l ]
+    go true x y = x
+    go false x y =
+        y ∙ append-assoc met (n ∷ []) (first-met (met ++ (n ∷ [])) l)
+        ∙ ap (λ (k : List ℕ). met ++ (n ∷ k)) (first-met-same (met ++ (n ∷ [])) (n ∷ met) l (λ k. met-anywhere k n met))
+
 -- ---- the nodes reached
 
 -- The nodes met below n and those not met are all.
@@ -238,6 +304,8 @@ pub record Reached (rows : List Row) (met : List ℕ) : Type 0 where
   pub once : Once met
   pub closed : Closed rows met
   pub few : length met ≤ length rows
+  -- "numbered as first met: start 0, then row by row, productions by rule, tails from the left"
+  pub in-order : met ≡ first-met [] (0 ∷ row-by-row rows met)
 
 -- The walk, row by row, ends with all rows done.
 module _ (rows : List Row) (inside : TailsInside rows) where
@@ -251,6 +319,7 @@ module _ (rows : List Row) (inside : TailsInside rows) where
     first : getD met 0 0 ≡ 0
     once : Once met
     done : Done i met
+    ordered : met ≡ meet-all (0 ∷ []) (row-by-row rows (take i met))
 
   new-at : List ℕ → ℕ → List ℕ
   new-at met i = tail-members ((row-of rows (getD met i 0)) .productions)
@@ -276,6 +345,17 @@ module _ (rows : List Row) (inside : TailsInside rows) where
           meet-all-keeps x met (new-at met i)
           (d j b (omega arith) x (subst (λ (z : ℕ). List·Memᴰ x (tail-members ((row-of rows z) .productions))) (same j (omega arith)) m))
 
+  next-ordered : (i : ℕ) (met : List ℕ) → i < length met → met ≡ meet-all (0 ∷ []) (row-by-row rows (take i met))
+      → meet-all met (new-at met i) ≡ meet-all (0 ∷ []) (row-by-row rows (take (suc i) (meet-all met (new-at met i))))
+  unfolding new-at
+  next-ordered i met h e =
+      let ends = meet-all-ends met (new-at met i) in
+      let first : take (suc i) (meet-all met (new-at met i)) ≡ take i met ++ (getD met i 0 ∷ []) =
+      ap (take (suc i)) (ends .1) ∙ take-append-le (suc i) met (ends .0) h ∙ take-suc met i 0 h in
+      ap (λ (l : List ℕ). meet-all l (new-at met i)) e
+      ∙ sym (meet-all-append (0 ∷ []) (row-by-row rows (take i met)) (new-at met i))
+      ∙ ap (meet-all (0 ∷ [])) (sym (ap (row-by-row rows) first ∙ row-by-row-last rows (take i met) (getD met i 0)))
+
   next-walked : (i : ℕ) (met : List ℕ) → i < length met → Walked i met → Walked (suc i) (meet-all met (new-at met i))
   unfolding new-at
   next-walked i met h w =
@@ -287,6 +367,7 @@ module _ (rows : List Row) (inside : TailsInside rows) where
         first = ap (λ (l : List ℕ). getD l 0 0) (e .1) ∙ List·getD-append met (e .0) 0 0 s ∙ w .first;
         once = once-meet-all met (new-at met i) (w .once);
         done = next-done i met h (w .done);
+        ordered = next-ordered i met h (w .ordered);
       }
 
   walked : (k i : ℕ) (met : List ℕ) → length rows ≤ i + k → Walked i met → (j : ℕ) × (length (meet-rows rows k i met) ≤ j) × Walked j (meet-rows rows k i met)
@@ -312,7 +393,8 @@ module _ (rows : List Row) (inside : TailsInside rows) where
   reached-is h = go (walked (length rows) 0 (0 ∷ []) (omega arith) start)
     where
       start : Walked 0 (0 ∷ [])
-      start = record { counted = counted-start (length rows) h; some = omega arith; first = refl; once = once-start; done = λ j l k x m. absurd (not-suc-le-zero l) }
+      start = record { counted = counted-start (length rows) h; some = omega arith; first = refl; once = once-start; done = λ j l k x m. absurd (not-suc-le-zero l);
+        ordered = unfold meet-all flatMap in refl }
 
       go : (j : ℕ) × (length (meet-rows rows (length rows) 0 (0 ∷ [])) ≤ j) × Walked j (meet-rows rows (length rows) 0 (0 ∷ []))
           → Reached rows (meet-rows rows (length rows) 0 (0 ∷ []))
@@ -326,6 +408,8 @@ module _ (rows : List Row) (inside : TailsInside rows) where
               w .done (number-of met n) (let l = b .0 in let k = r .1 in omega arith) (b .0) x
               (subst (λ (z : ℕ). List·Memᴰ x (tail-members ((row-of rows z) .productions))) (sym (b .1)) m);
             few = let c = w .counted in omega arith;
+            in-order = w .ordered ∙ ap (λ (l : List ℕ). meet-all (0 ∷ []) (row-by-row rows l)) (take-all (r .0) met (r .1))
+              ∙ meet-all-order (0 ∷ []) (row-by-row rows met) ∙ (unfold is-met in refl);
           }
 
 -- ---- the rows by number
