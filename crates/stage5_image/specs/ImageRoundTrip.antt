@@ -1,8 +1,9 @@
--- Round trip: an image in range, written as bytes, is read back as it was, to its last byte.
--- What reading any other bytes gives is said in ReadableImages.
+-- Round trip: an image in range, written as bytes, is read back as it was, to its last byte; and bytes are readable exactly if
+-- they are those of an image in range. What reading any bytes gives is said in ReadableImages.
 use mathlib.Core.Path.{_≡_, refl, sym, ap, ap₂, subst, _∙_}
 use mathlib.Core.Bool.{Bool, true, false, not, _&&_, cond}
 use mathlib.Core.List.{List, [], _∷_, _++_, map, append-nil, append-assoc}
+use mathlib.Core.Logic.{_↔_}
 use Prim.Native.Nat.{ℕ, zero, suc, _+_, _^_, _≤_, _<_}
 use native.Mathlib.Omega.{arith}
 use lib.Dec.{eqb, ltb, leb, le→leb, lt→ltb}
@@ -14,66 +15,16 @@ use Rattle.stage0_laws.specs.Truth.{and-both, holds-true}
 use Rattle.stage1_sheet.specs.Limits.{most-rules, most-classes, most-expression-nodes, most-byte}
 use Rattle.stage1_sheet.specs.Spelling.{spell}
 use Rattle.stage1_sheet.specs.Field.{Reading, stop, got, and-then, between, read-many}
-use Rattle.stage1_sheet.specs.FieldLaws.{Stands, after, stands-first, stands-rest, stands-whole, field-got, between-true}
+use Rattle.stage1_sheet.specs.FieldLaws.{Bytes, Stands, after, stands-first, stands-rest, stands-whole, field-got, between-true}
 use Rattle.stage3_normal_form.specs.Productions.{Production, Row}
 use Rattle.stage4_lexer.specs.Positions.{Position}
 use Rattle.stage4_lexer.specs.PositionBounds.{NeverFalling}
 use Rattle.stage5_image.specs.Image.{Image, flag, flag-numbers, position-numbers, production-numbers, row-numbers, image-numbers, image-bytes}
 use Rattle.stage5_image.specs.ImageReading.{most-tail, image-field, read-flag, read-list, read-position, read-production, read-row, image-end, read-image}
+use Rattle.stage5_image.specs.ImageNumbers.{all-numbers, just, flag-number, one-position-numbers, one-production-numbers, one-row-numbers, tail-is,
+  flags-are, positions-are, productions-are, rows-are, EachFrom}
+use Rattle.stage5_image.specs.ReadableImages.{read-in-range, read-exact}
 use Rattle.stage5_image.specs.ImageRanges.{PositionInRange, ProductionInRange, Rising, RowInRange, InRange}
-
--- ---- the numbers of one thing, and of several
-
--- The numbers of several things, one after the other.
-abbrev pub all-numbers : {A : Type 0} → (A → List ℕ) → List A → List ℕ
-all-numbers numbers [] = []
-all-numbers numbers (a ∷ l) = numbers a ++ all-numbers numbers l
-
-abbrev pub just : ℕ → List ℕ
-just n = n ∷ []
-
-abbrev pub flag-number : Bool → List ℕ
-flag-number b = flag b ∷ []
-
-abbrev pub one-position-numbers : Position → List ℕ
-one-position-numbers p = p .low ∷ p .high ∷ p .rule ∷ flag (p .last) ∷ p .follow ∷ []
-
-abbrev pub one-production-numbers : Production → List ℕ
-one-production-numbers p = p .head ∷ length (p .tail) ∷ p .tail
-
-abbrev pub one-row-numbers : Row → List ℕ
-one-row-numbers r = flag (r .empty) ∷ length (r .productions) ∷ production-numbers (r .productions)
-
-pub tail-is : (l : List ℕ) → all-numbers just l ≡ l
-tail-is [] = refl
-tail-is (n ∷ l) = ap (λ (k : List ℕ). n ∷ k) (tail-is l)
-
-pub flags-are : (bs : List Bool) → all-numbers flag-number bs ≡ flag-numbers bs
-unfolding flag-numbers
-flags-are [] = refl
-flags-are (b ∷ bs) = ap (λ (k : List ℕ). flag b ∷ k) (flags-are bs)
-
-pub positions-are : (ps : List Position) → all-numbers one-position-numbers ps ≡ position-numbers ps
-unfolding position-numbers
-positions-are [] = refl
-positions-are (p ∷ ps) = ap (λ (k : List ℕ). one-position-numbers p ++ k) (positions-are ps)
-
-pub productions-are : (ps : List Production) → all-numbers one-production-numbers ps ≡ production-numbers ps
-unfolding production-numbers
-productions-are [] = refl
-productions-are (p ∷ ps) = ap (λ (k : List ℕ). one-production-numbers p ++ k) (productions-are ps)
-
-pub rows-are : (rs : List Row) → all-numbers one-row-numbers rs ≡ row-numbers rs
-unfolding row-numbers
-rows-are [] = refl
-rows-are (r ∷ rs) = ap (λ (k : List ℕ). one-row-numbers r ++ k) (rows-are rs)
-
--- ---- reading what stands there
-
--- Each member is so in the state that those before it leave.
-abbrev pub EachFrom : {S A : Type 0} → (S → A → Type 0) → (S → A → S) → S → List A → Type 0
-EachFrom Good update s [] = Unit
-EachFrom Good update s (a ∷ l) = Good s a × EachFrom Good update (update s a) l
 
 module _ (bytes : List ℕ) where
   -- Where the numbers of a thing stand, and then others, reading goes on with the thing and those others.
@@ -140,12 +91,12 @@ module _ (bytes : List ℕ) where
       let rb = g .rule-below in
       let fb = g .follow-below in
       let set : 2 ^ count ≤ 2 ^ 64 = pow-mono few in
-      then-field (between 0 most-byte) at (p .low) _ mid _ (got p mid) (omega arith) (between-true 0 most-byte (p .low) (omega arith) (omega arith)) s
-      (λ m₁ s₁. then-field (between (p .low) most-byte) m₁ (p .high) _ mid _ (got p mid) (omega arith) (between-true (p .low) most-byte (p .high) lh hb) s₁
-      (λ m₂ s₂. then-field (λ v. leb before v && ltb v rules) m₂ (p .rule) _ mid _ (got p mid) (omega arith)
+      then-field _ at (p .low) _ mid _ (got p mid) (omega arith) (between-true 0 most-byte (p .low) (omega arith) (omega arith)) s
+      (λ m₁ s₁. then-field _ m₁ (p .high) _ mid _ (got p mid) (omega arith) (between-true (p .low) most-byte (p .high) lh hb) s₁
+      (λ m₂ s₂. then-field _ m₂ (p .rule) _ mid _ (got p mid) (omega arith)
       (holds-true (leb before (p .rule) && ltb (p .rule) rules) (and-both (leb before (p .rule)) (ltb (p .rule) rules) (le→leb before (p .rule) r) (lt→ltb (p .rule) rules rb))) s₂
       (λ m₃ s₃. then-flag m₃ (p .last) _ mid _ (got p mid) s₃
-      (λ m₄ s₄. then-field (λ v. ltb v (2 ^ count)) m₄ (p .follow) [] mid _ (got p mid) (omega arith) (lt-ltb (p .follow) (2 ^ count) fb) s₄
+      (λ m₄ s₄. then-field _ m₄ (p .follow) [] mid _ (got p mid) (omega arith) (lt-ltb (p .follow) (2 ^ count) fb) s₄
       (λ m₅ s₅. got-end p m₅ mid s₅)))))
 
   production-stands : (skips : List Bool) (count least : ℕ) (p : Production) (at mid : ℕ) → length skips ≤ most-rules → count ≤ most-expression-nodes
@@ -157,8 +108,8 @@ module _ (bytes : List ℕ) where
       let tl = g .tail-length in
       let allowed : (leb least (p .head) && (ltb (p .head) (length skips) && not (getD skips (p .head) true))) ≡ true =
       rw (g .not-skipping, holds-true (leb least (p .head)) (le→leb least (p .head) l), lt-ltb (p .head) (length skips) rb) in
-      then-field (λ v. leb least v && (ltb v (length skips) && not (getD skips v true))) at (p .head) _ mid _ (got p mid) (omega arith) allowed s
-      (λ m₁ s₁. then-field (between 0 most-tail) m₁ (length (p .tail)) _ mid _ (got p mid) (omega arith)
+      then-field _ at (p .head) _ mid _ (got p mid) (omega arith) allowed s
+      (λ m₁ s₁. then-field _ m₁ (length (p .tail)) _ mid _ (got p mid) (omega arith)
       (between-true 0 most-tail (length (p .tail)) (omega arith) tl) s₁
       (λ m₂ s₂.
       ap (λ (z : Reading (List ℕ)). and-then z (λ tail end. got (record { head = p .head; tail = tail }) end))
@@ -172,7 +123,7 @@ module _ (bytes : List ℕ) where
   row-stands skips count row at mid few-rules few g s =
       let pc = g .production-count in
       then-flag at (row .empty) _ mid _ (got row mid) s
-      (λ m₁ s₁. then-field (between 0 most-rules) m₁ (length (row .productions)) _ mid _ (got row mid) (omega arith)
+      (λ m₁ s₁. then-field _ m₁ (length (row .productions)) _ mid _ (got row mid) (omega arith)
       (between-true 0 most-rules (length (row .productions)) (omega arith) pc) s₁
       (λ m₂ s₂.
       ap (λ (z : Reading (List Production)). and-then z (λ ps end. got (record { empty = row .empty; productions = ps }) end))
@@ -199,19 +150,19 @@ module _ (bytes : List ℕ) where
       let nc = g .row-count in
       let fb = g .first-below in
       let set : 2 ^ P ≤ 2 ^ 64 = pow-mono pc in
-      then-field (between 1 1) 0 1 _ end _ (got i end) (omega arith) (between-true 1 1 1 (omega arith) (omega arith)) s
-      (λ m₁ s₁. then-field (between 1 most-rules) m₁ R _ end _ (got i end) (omega arith) (between-true 1 most-rules R (g .some-rules) rc) s₁
+      then-field _ 0 1 _ end _ (got i end) (omega arith) (between-true 1 1 1 (omega arith) (omega arith)) s
+      (λ m₁ s₁. then-field _ m₁ R _ end _ (got i end) (omega arith) (between-true 1 most-rules R (g .some-rules) rc) s₁
       (λ m₂ s₂. then-stands (flag-numbers (i .skips)) _ (read-list (read-flag bytes) R m₂) (i .skips) m₂ end _ (got i end)
       (λ m t. list-stands flag-number (read-flag bytes) (λ b. Unit) (λ b from to h. flag-stands from b to) (i .skips) m₂ m (all-flags (i .skips))
       (subst (λ (l : List ℕ). Stands bytes m₂ l m) (sym (flags-are (i .skips))) t)) s₂
-      (λ m₃ s₃. then-field (between 1 most-classes) m₃ P _ end _ (got i end) (omega arith) (between-true 1 most-classes P (g .some-positions) pc) s₃
+      (λ m₃ s₃. then-field _ m₃ P _ end _ (got i end) (omega arith) (between-true 1 most-classes P (g .some-positions) pc) s₃
       (λ m₄ s₄. then-stands (position-numbers (i .positions)) _ (read-many (read-position bytes R P) (λ before p. p .rule) 0 P m₄) (i .positions) m₄ end _ (got i end)
       (λ m t. many-stands one-position-numbers (read-position bytes R P) (λ before p. p .rule) (λ before p. (before ≤ p .rule) × PositionInRange R P p)
       (λ before p from to h. position-stands R P before p from to rc pc (h .0) (h .1))
       (i .positions) 0 m₄ m (each 0 (i .positions) (g .never-falling) (g .positions-in-range))
       (subst (λ (l : List ℕ). Stands bytes m₄ l m) (sym (positions-are (i .positions))) t)) s₄
-      (λ m₅ s₅. then-field (λ v. ltb v (2 ^ P)) m₅ (i .first) _ end _ (got i end) (omega arith) (lt-ltb (i .first) (2 ^ P) fb) s₅
-      (λ m₆ s₆. then-field (between 1 most-expression-nodes) m₆ N _ end _ (got i end) (omega arith) (between-true 1 most-expression-nodes N (g .some-rows) nc) s₆
+      (λ m₅ s₅. then-field _ m₅ (i .first) _ end _ (got i end) (omega arith) (lt-ltb (i .first) (2 ^ P) fb) s₅
+      (λ m₆ s₆. then-field _ m₆ N _ end _ (got i end) (omega arith) (between-true 1 most-expression-nodes N (g .some-rows) nc) s₆
       (λ m₇ s₇.
       ap (λ (z : Reading (List Row)). and-then z (λ rows end. image-end bytes (record { skips = i .skips; positions = i .positions; first = i .first; rows = rows }) end))
       (list-stands one-row-numbers (read-row bytes (i .skips) N) (RowInRange (i .skips) N)
@@ -232,3 +183,10 @@ module _ (bytes : List ℕ) where
 pub read-back : (i : Image) → InRange i → read-image (image-bytes i) ≡ got i (length (image-bytes i))
 unfolding image-bytes
 read-back i g = image-stands (image-bytes i) i g (stands-whole (image-bytes i) (image-numbers i) .1 refl)
+
+-- Bytes are readable as an image exactly if they are the bytes of an image in range.
+pub readable-iff : (bytes : List ℕ) → Bytes bytes → (i : Image) → (read-image bytes ≡ got i (length bytes)) ↔ (InRange i × (bytes ≡ image-bytes i))
+readable-iff bytes b i = (
+  λ e. (read-in-range bytes i (length bytes) e .0, read-exact bytes b i (length bytes) e),
+  λ g. subst (λ (l : List ℕ). read-image l ≡ got i (length l)) (sym (g .1)) (read-back i (g .0))
+)

@@ -13,7 +13,8 @@ pub mod NumberingLaws
 pub mod Members
 pub mod Simulation
 pub mod UnfoldingLaws
-pub mod ImageRoundTrip
+pub mod ImageNumbers
 pub mod ReadableImages
+pub mod ImageRoundTrip
 pub mod RowRanges
 pub mod ImageLaws

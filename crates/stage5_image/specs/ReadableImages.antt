@@ -25,9 +25,9 @@ use Rattle.stage4_lexer.specs.Positions.{Position}
 use Rattle.stage4_lexer.specs.PositionBounds.{NeverFalling}
 use Rattle.stage5_image.specs.Image.{Image, flag, flag-numbers, position-numbers, production-numbers, row-numbers, image-numbers, image-bytes}
 use Rattle.stage5_image.specs.ImageReading.{most-tail, image-field, read-flag, read-list, read-position, read-production, read-row, image-end, read-image}
+use Rattle.stage5_image.specs.ImageNumbers.{all-numbers, just, flag-number, one-position-numbers, one-production-numbers, one-row-numbers, tail-is,
+  flags-are, positions-are, productions-are, rows-are, EachFrom}
 use Rattle.stage5_image.specs.ImageRanges.{PositionInRange, ProductionInRange, Rising, RowInRange, InRange}
-use Rattle.stage5_image.specs.ImageRoundTrip.{all-numbers, just, flag-number, one-position-numbers, one-production-numbers, one-row-numbers, tail-is,
-  flags-are, positions-are, productions-are, rows-are, EachFrom, read-back}
 
 -- Numbers were read from a place on: their end lies within the bytes, and if these are bytes, the numbers stand there.
 pub record Taken (bytes : List ℕ) (at : ℕ) (numbers : List ℕ) (end : ℕ) : Type 0 where
@@ -130,11 +130,11 @@ module _ (bytes : List ℕ) where
   unfolding read-position
   position-gives rules count before at h =
       let Q : Position → ℕ → Type 0 = λ p end. ((before ≤ p .rule) × PositionInRange rules count p) × Taken bytes at (one-position-numbers p) end in
-      then-field (between 0 most-byte) at _ Q h
-      (λ low m₁ a₁ t₁. then-field (between low most-byte) m₁ _ Q (t₁ .inside)
-      (λ high m₂ a₂ t₂. then-field (λ v. leb before v && ltb v rules) m₂ _ Q (t₂ .inside)
+      then-field _ at _ Q h
+      (λ low m₁ a₁ t₁. then-field _ m₁ _ Q (t₁ .inside)
+      (λ high m₂ a₂ t₂. then-field _ m₂ _ Q (t₂ .inside)
       (λ rule m₃ a₃ t₃. then-gives (λ b. Unit {0}) flag-number m₃ (read-flag bytes m₃) _ Q (flag-gives m₃ (t₃ .inside))
-      (λ last m₄ a₄ t₄. then-field (λ v. ltb v (2 ^ count)) m₄ _ Q (t₄ .inside)
+      (λ last m₄ a₄ t₄. then-field _ m₄ _ Q (t₄ .inside)
       (λ follow m₅ a₅ t₅.
       let range = true-between low most-byte high a₂ in
       ((leb→le before rule (true-holds (leb before rule) (and-true-first (leb before rule) (ltb rule rules) a₃)), record {
@@ -149,8 +149,8 @@ module _ (bytes : List ℕ) where
   unfolding read-production
   production-gives skips count least at h =
       let Q : Production → ℕ → Type 0 = λ p end. ((least ≤ p .head) × ProductionInRange skips count p) × Taken bytes at (one-production-numbers p) end in
-      then-field (λ v. leb least v && (ltb v (length skips) && not (getD skips v true))) at _ Q h
-      (λ rule m₁ a₁ t₁. then-field (between 0 most-tail) m₁ _ Q (t₁ .inside)
+      then-field _ at _ Q h
+      (λ rule m₁ a₁ t₁. then-field _ m₁ _ Q (t₁ .inside)
       (λ size m₂ a₂ t₂. then-gives (λ l. (length l ≡ size) × All (λ n. ltb n count ≡ true) l) (all-numbers just) m₂
       (read-list (image-field (λ v. ltb v count) bytes) size m₂) _ Q
       (list-gives (λ n. ltb n count ≡ true) just (image-field (λ v. ltb v count) bytes) (field-gives (λ v. ltb v count)) size m₂ (t₂ .inside))
@@ -179,7 +179,7 @@ module _ (bytes : List ℕ) where
       let Q : Row → ℕ → Type 0 = λ r end. RowInRange skips count r × Taken bytes at (one-row-numbers r) end in
       let Good : ℕ → Production → Type 0 = λ least p. (least ≤ p .head) × ProductionInRange skips count p in
       then-gives (λ b. Unit {0}) flag-number at (read-flag bytes at) _ Q (flag-gives at h)
-      (λ empty m₁ a₁ t₁. then-field (between 0 most-rules) m₁ _ Q (t₁ .inside)
+      (λ empty m₁ a₁ t₁. then-field _ m₁ _ Q (t₁ .inside)
       (λ size m₂ a₂ t₂. then-gives (λ l. (length l ≡ size) × EachFrom Good (λ least p. suc (p .head)) 0 l) (all-numbers one-production-numbers) m₂
       (read-many (read-production bytes skips count) (λ least p. suc (p .head)) 0 size m₂) _ Q
       (many-gives Good one-production-numbers (read-production bytes skips count) (λ least p. suc (p .head)) (production-gives skips count) size 0 m₂ (t₂ .inside))
@@ -227,16 +227,16 @@ module _ (bytes : List ℕ) where
   image-gives : Outcome (Refusal bytes) Readable (read-image bytes)
   unfolding read-image image-numbers
   image-gives =
-      then-field (between 1 1) 0 _ Readable (omega arith)
-      (λ version m₁ a₁ t₁. then-field (between 1 most-rules) m₁ _ Readable (t₁ .inside)
+      then-field _ 0 _ Readable (omega arith)
+      (λ version m₁ a₁ t₁. then-field _ m₁ _ Readable (t₁ .inside)
       (λ R m₂ a₂ t₂. then-gives (λ l. (length l ≡ R) × All (λ b. Unit {0}) l) (all-numbers flag-number) m₂ (read-list (read-flag bytes) R m₂) _ Readable
       (list-gives (λ b. Unit {0}) flag-number (read-flag bytes) flag-gives R m₂ (t₂ .inside))
-      (λ skips m₃ g₃ t₃. then-field (between 1 most-classes) m₃ _ Readable (t₃ .inside)
+      (λ skips m₃ g₃ t₃. then-field _ m₃ _ Readable (t₃ .inside)
       (λ P m₄ a₄ t₄. then-gives (λ l. (length l ≡ P) × EachFrom (λ before p. (before ≤ p .rule) × PositionInRange R P p) (λ before p. p .rule) 0 l)
       (all-numbers one-position-numbers) m₄ (read-many (read-position bytes R P) (λ before p. p .rule) 0 P m₄) _ Readable
       (many-gives (λ before p. (before ≤ p .rule) × PositionInRange R P p) one-position-numbers (read-position bytes R P) (λ before p. p .rule) (position-gives R P) P 0 m₄ (t₄ .inside))
-      (λ ps m₅ g₅ t₅. then-field (λ v. ltb v (2 ^ P)) m₅ _ Readable (t₅ .inside)
-      (λ first m₆ a₆ t₆. then-field (between 1 most-expression-nodes) m₆ _ Readable (t₆ .inside)
+      (λ ps m₅ g₅ t₅. then-field _ m₅ _ Readable (t₅ .inside)
+      (λ first m₆ a₆ t₆. then-field _ m₆ _ Readable (t₆ .inside)
       (λ N m₇ a₇ t₇. then-gives (λ l. (length l ≡ N) × All (RowInRange skips N) l) (all-numbers one-row-numbers) m₇ (read-list (read-row bytes skips N) N m₇) _ Readable
       (list-gives (RowInRange skips N) one-row-numbers (read-row bytes skips N) (row-gives skips N) N m₇ (t₇ .inside))
       (λ rows m₈ g₈ t₈.
@@ -279,10 +279,3 @@ unfolding image-bytes
 read-exact bytes b i end e =
     let r = outcome-got (Refusal bytes) (Readable bytes) (image-gives bytes) e in
     stands-whole bytes (image-numbers i) .0 (subst (Stands bytes 0 (image-numbers i)) (r .whole) (r .taken .stands b))
-
--- Bytes are readable as an image exactly if they are the bytes of an image in range.
-pub readable-iff : (bytes : List ℕ) → Bytes bytes → (i : Image) → (read-image bytes ≡ got i (length bytes)) ↔ (InRange i × (bytes ≡ image-bytes i))
-readable-iff bytes b i = (
-  λ e. (read-in-range bytes i (length bytes) e .0, read-exact bytes b i (length bytes) e),
-  λ g. subst (λ (l : List ℕ). read-image l ≡ got i (length l)) (sym (g .1)) (read-back i (g .0))
-)
