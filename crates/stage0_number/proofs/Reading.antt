@@ -14,7 +14,7 @@ use lib.ListN.{length, getD, drop, drop-of-length-le}
 use lib.Seq.{drop-cons}
 use borrow.Author.Tests.{lt-ltb, le-ltb, lt-leb}
 use Rattle.stage0_number.specs.Number.{count, value, highest}
-use Rattle.stage0_number.specs.Number.{Front, cut, whole, followed, front, fewest, judged, numberOf, decode}
+use Rattle.stage0_number.specs.Number.{Front, cut, whole, followed, front, fewest, judged, number-from, decode}
 use Rattle.stage0_number.specs.Groups.{count-positive}
 use Rattle.stage0_number.specs.declared.Number.{Number}
 use Rattle.stage0_number.specs.declared.Number.the-variants.{Refused}
@@ -75,8 +75,8 @@ unfoldable pub after : ℕ → ℕ → ℕ → Front → Number
 after u scale v cut = Refused
 after u scale v (whole gs) = judged (u + count gs) (highest gs) (v + value gs * scale)
 
-after-none : (f : Front) → numberOf f ≡ after 0 1 0 f
-unfolding after numberOf
+after-none : (f : Front) → number-from f ≡ after 0 1 0 f
+unfolding after number-from
 after-none cut = refl
 after-none (whole gs) =
     let a : count gs ≡ 0 + count gs = omega arith in

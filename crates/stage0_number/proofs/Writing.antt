@@ -11,7 +11,7 @@ use lib.Pow.{shr-lt}
 use lib.ListN.{length, getD, take, drop, set, length-append, length-take, length-drop, drop-of-length-le}
 use lib.Seq.{take-all, take-length, take-suc, drop-cons, set-at, append-snoc, length-take-le}
 use borrow.Author.Tests.{lt-ltb, le-ltb}
-use Rattle.stage0_number.specs.Number.{encodeIn, encode, used, written, usedAt, writtenAt}
+use Rattle.stage0_number.specs.Number.{encode-in, encode, used, written, used-at, written-at}
 use Rattle.stage0_number.specs.Splice.{written-fits, used-fits, written-short, used-short, written-at-short, used-at-short}
 
 -- ---- a list from its i-th element on, which is x
@@ -36,7 +36,7 @@ next-last e i h = omega (arith, length-drop i e, ap length h)
 pub record Left (n i m : ℕ) : Type 0 where
   pub ten : i < 10
   pub below : m < 2 ^ (7 * (10 - i))
-  pub are : drop i (encode n) ≡ encodeIn (10 - i) m
+  pub are : drop i (encode n) ≡ encode-in (10 - i) m
 
 pub left-all : (n : ℕ) → n < 2 ^ 64 → Left n 0 n
 unfolding encode
@@ -47,8 +47,8 @@ module _ (n i m : ℕ) (l : Left n i m) where
   one-less = let h = l .ten in omega arith
 
   -- Another group follows this one.
-  pub left-next : 128 ≤ m → drop i (encode n) ≡ (128 + m % 128) ∷ encodeIn (10 - (i + 1)) (m / 128)
-  unfolding encodeIn
+  pub left-next : 128 ≤ m → drop i (encode n) ≡ (128 + m % 128) ∷ encode-in (10 - (i + 1)) (m / 128)
+  unfolding encode-in
   left-next h = l .are ∙ rw (one-less, le-ltb m 128)
 
   -- Then it is not the tenth.
@@ -69,7 +69,7 @@ module _ (n i m : ℕ) (l : Left n i m) where
 
   -- No other group follows.
   pub left-last : m < 128 → drop i (encode n) ≡ m ∷ []
-  unfolding encodeIn
+  unfolding encode-in
   left-last h = l .are ∙ rw (one-less, lt-ltb m 128)
 
   pub left-width : m < 128 → i + 1 ≡ length (encode n)
@@ -119,13 +119,13 @@ module _ (part : List ℕ) (n : ℕ) {w : ℕ} (e : w ≡ length (encode n)) whe
 -- ---- the part from a cursor on, lent and given back
 
 module _ (d : List ℕ) (at n : ℕ) where
-  pub cursor-past : length d < at → (0 ≡ usedAt d at n) × (d ≡ writtenAt d at n)
+  pub cursor-past : length d < at → (0 ≡ used-at d at n) × (d ≡ written-at d at n)
   cursor-past h = (sym (used-at-short d at n (omega arith)), sym (written-at-short d at n (omega arith)))
 
   pub cursor-within : {r : ℕ} {p : List ℕ} → at ≤ length d → r ≡ used (take (length d - at) (drop at d)) n
       → p ≡ written (take (length d - at) (drop at d)) n
-      → (r ≡ usedAt d at n) × (take at d ++ (p ++ drop (length d - at) (drop at d)) ≡ writtenAt d at n)
-  unfolding usedAt writtenAt
+      → (r ≡ used-at d at n) × (take at d ++ (p ++ drop (length d - at) (drop at d)) ≡ written-at d at n)
+  unfolding used-at written-at
   cursor-within {r} {p} h er ep =
       let t : take (length d - at) (drop at d) ≡ drop at d = take-all (length d - at) (drop at d) (omega (arith, length-drop at d)) in
       let z : drop (length d - at) (drop at d) ≡ [] = drop-of-length-le (drop at d) {i = length d - at} (omega (arith, length-drop at d)) in

@@ -1,22 +1,19 @@
 -- Lemmas behind `Laws`: what the groups at the front of some bytes are, and what an accepted number says of them.
--- Nothing here is meant to be cited by other crates but `lt-or-le`.
+-- Nothing here is meant to be cited by other crates.
 use Prim.Native.Nat.{ℕ, zero, suc, _+_, _*_, _^_, _/_, _%_, _≤_, _<_}
 use mathlib.Core.Path.{_≡_, refl, sym, ap, _∙_}
 use mathlib.Core.List.{List, [], _∷_, _++_}
 use mathlib.Core.Bool.{Bool, true, false, cond, _||_}
 use mathlib.Core.Logic.{_⊎_, inl, inr, ⊎-elim}
 use native.Mathlib.Omega.{arith}
-use native.Mathlib.Decide.{decLt}
 use lib.Pow.{shr-lt}
 use lib.Dec.{leb, ltb, eqb}
 use lib.ListN.{length, getD, take}
 use borrow.Author.Tests.{lt-ltb, le-ltb, le-leb, eq-eqb, ltb-true, ltb-false, leb-true, eqb-true}
+use Rattle.stage0_laws.specs.Order.{lt-or-le}
 use Rattle.stage0_number.specs.Number.{Groups, last, more, count, value, highest}
-use Rattle.stage0_number.specs.Number.{Front, cut, whole, followed, front, fewest, judged, numberOf, encodeIn}
+use Rattle.stage0_number.specs.Number.{Front, cut, whole, followed, front, fewest, judged, number-from, encode-in}
 use Rattle.stage0_number.specs.declared.Number.the-variants.{Read, Refused}
-
-pub lt-or-le : (a b : ℕ) → (a < b) ⊎ (b ≤ a)
-lt-or-le a b = elim (decLt a b) [ yes h ↦ inl h | no h ↦ inr (omega arith) ]
 
 -- ---- groups
 
@@ -88,12 +85,12 @@ pub record Found (s : List ℕ) (v w : ℕ) : Type 0 where
   pub at-front : front s ≡ whole gs
   pub passed : Accepted (count gs) (highest gs) (value gs) v w
 
-found-cases : (f : Front) (s : List ℕ) {v w : ℕ} → front s ≡ f → numberOf f ≡ Read v w → Found s v w
-unfolding numberOf
+found-cases : (f : Front) (s : List ℕ) {v w : ℕ} → front s ≡ f → number-from f ≡ Read v w → Found s v w
+unfolding number-from
 found-cases cut s h e = refused-read e
 found-cases (whole gs) s h e = record { gs = gs; at-front = h; passed = accepted (count gs) (highest gs) (value gs) e }
 
-pub found : (s : List ℕ) {v w : ℕ} → numberOf (front s) ≡ Read v w → Found s v w
+pub found : (s : List ℕ) {v w : ℕ} → number-from (front s) ≡ Read v w → Found s v w
 found s e = found-cases (front s) s refl e
 
 -- ---- the groups at the front, by the first byte
@@ -154,12 +151,12 @@ front-kept (b ∷ rest) t gs e = kept-step b rest t (front-kept rest t) (start b
 -- ---- groups in the fewest bytes are those that the value is written in
 
 module _ (b : ℕ) (rest : List ℕ) (k : ℕ) where
-  sound-last : b < 128 → b ∷ [] ≡ encodeIn (suc k) b
-  unfolding encodeIn
+  sound-last : b < 128 → b ∷ [] ≡ encode-in (suc k) b
+  unfolding encode-in
   sound-last h = rw (lt-ltb b 128)
 
-  sound-more : (m : ℕ) → 128 ≤ b → b < 256 → 0 < m → b ∷ encodeIn k m ≡ encodeIn (suc k) (b % 128 + 128 * m)
-  unfolding encodeIn
+  sound-more : (m : ℕ) → 128 ≤ b → b < 256 → 0 < m → b ∷ encode-in k m ≡ encode-in (suc k) (b % 128 + 128 * m)
+  unfolding encode-in
   sound-more m h l p =
       let q : (b % 128 + 128 * m) / 128 ≡ m = omega arith in
       let r : (b % 128 + 128 * m) % 128 ≡ b % 128 = omega arith in
@@ -167,8 +164,8 @@ module _ (b : ℕ) (rest : List ℕ) (k : ℕ) where
       rw (le-ltb (b % 128 + 128 * m) 128 (omega arith), q, r, f)
 
   sound-step : {gs : Groups} → b < 256
-      → ((hs : Groups) → front rest ≡ whole hs → count hs ≤ k → (highest hs ≡ 0 → count hs ≡ 1) → take (count hs) rest ≡ encodeIn k (value hs))
-      → count gs ≤ suc k → (highest gs ≡ 0 → count gs ≡ 1) → Start b rest gs → take (count gs) (b ∷ rest) ≡ encodeIn (suc k) (value gs)
+      → ((hs : Groups) → front rest ≡ whole hs → count hs ≤ k → (highest hs ≡ 0 → count hs ≡ 1) → take (count hs) rest ≡ encode-in k (value hs))
+      → count gs ≤ suc k → (highest gs ≡ 0 → count gs ≡ 1) → Start b rest gs → take (count gs) (b ∷ rest) ≡ encode-in (suc k) (value gs)
   unfolding count value highest
   sound-step {gs} l ih c s (ends h e) = rw e (sound-last h)
   sound-step {gs} l ih c s (goes-on hs h f e) =
@@ -180,7 +177,7 @@ module _ (b : ℕ) (rest : List ℕ) (k : ℕ) where
       top (suc x) z = omega arith
 
 pub front-sound : (k : ℕ) (s : List ℕ) (gs : Groups) → ((i : ℕ) → getD s i 0 < 256) → front s ≡ whole gs → count gs ≤ k
-    → (highest gs ≡ 0 → count gs ≡ 1) → take (count gs) s ≡ encodeIn k (value gs)
+    → (highest gs ≡ 0 → count gs ≡ 1) → take (count gs) s ≡ encode-in k (value gs)
 unfolding front
 front-sound k [] gs hb e c s = cut-whole e
 front-sound zero (b ∷ rest) gs hb e c s = absurd (omega (arith, count-positive gs))
@@ -191,16 +188,16 @@ front-sound (suc k) (b ∷ rest) gs hb e c s =
 
 pub record Coded (k n : ℕ) (t : List ℕ) : Type 0 where
   pub gs : Groups
-  pub at-front : front (encodeIn k n ++ t) ≡ whole gs
+  pub at-front : front (encode-in k n ++ t) ≡ whole gs
   pub is-value : value gs ≡ n
-  pub is-count : count gs ≡ length (encodeIn k n)
+  pub is-count : count gs ≡ length (encode-in k n)
   pub zero-top : highest gs ≡ 0 → n ≡ 0
   pub alone : n < 128 → count gs ≡ 1
 
 coded-last : (k n : ℕ) (t : List ℕ) → n < 128 → Coded (suc k) n t
-unfolding encodeIn count value highest
+unfolding encode-in count value highest
 coded-last k n t h =
-    let w : encodeIn (suc k) n ≡ n ∷ [] = rw (lt-ltb n 128) in
+    let w : encode-in (suc k) n ≡ n ∷ [] = rw (lt-ltb n 128) in
     record {
       gs = last n;
       at-front = rw w (front-last n t h);
@@ -211,13 +208,13 @@ coded-last k n t h =
     }
 
 coded-more : (k n : ℕ) (t : List ℕ) → 128 ≤ n → Coded k (n / 128) t → Coded (suc k) n t
-unfolding encodeIn count value highest
+unfolding encode-in count value highest
 coded-more k n t h r =
-    let w : encodeIn (suc k) n ≡ (128 + n % 128) ∷ encodeIn k (n / 128) = rw (le-ltb n 128) in
+    let w : encode-in (suc k) n ≡ (128 + n % 128) ∷ encode-in k (n / 128) = rw (le-ltb n 128) in
     let m : (128 + n % 128) % 128 ≡ n % 128 = omega arith in
     record {
       gs = more (n % 128) (r .gs);
-      at-front = rw w (front-more (128 + n % 128) (encodeIn k (n / 128) ++ t) (omega arith) (r .at-front) ∙ rw m);
+      at-front = rw w (front-more (128 + n % 128) (encode-in k (n / 128) ++ t) (omega arith) (r .at-front) ∙ rw m);
       is-value = omega (arith, r .is-value);
       is-count = sym (ap length w ∙ ap suc (sym (r .is-count)));
       zero-top = λ z. absurd (omega (arith, r .zero-top z));
@@ -237,18 +234,18 @@ coded (suc k) n t p h =
 
 -- ---- how long, and of which bytes
 
-pub length-encode-in : (k n : ℕ) → length (encodeIn k n) ≤ k
-unfolding encodeIn
+pub length-encode-in : (k n : ℕ) → length (encode-in k n) ≤ k
+unfolding encode-in
 length-encode-in zero n = omega arith
 length-encode-in (suc k) n =
     ⊎-elim (λ h. rw (lt-ltb n 128 h) (omega arith)) (λ h. rw (le-ltb n 128 h) (omega (arith, length-encode-in k (n / 128)))) (lt-or-le n 128)
 
-pub encode-in-there : (k n : ℕ) → 0 < length (encodeIn (suc k) n)
-unfolding encodeIn
+pub encode-in-there : (k n : ℕ) → 0 < length (encode-in (suc k) n)
+unfolding encode-in
 encode-in-there k n = ⊎-elim (λ h. rw (lt-ltb n 128 h) (omega arith)) (λ h. rw (le-ltb n 128 h) (omega arith)) (lt-or-le n 128)
 
-pub encode-in-bytes : (k n i : ℕ) → getD (encodeIn k n) i 0 < 256
-unfolding encodeIn
+pub encode-in-bytes : (k n i : ℕ) → getD (encode-in k n) i 0 < 256
+unfolding encode-in
 encode-in-bytes zero n i = omega arith
 encode-in-bytes (suc k) n i =
     ⊎-elim (λ h. rw (lt-ltb n 128 h) (one i h)) (λ h. rw (le-ltb n 128 h) (next i (encode-in-bytes k (n / 128)))) (lt-or-le n 128)
@@ -257,6 +254,6 @@ encode-in-bytes (suc k) n i =
     one zero h = omega arith
     one (suc i) h = omega arith
 
-    next : (i : ℕ) → ((j : ℕ) → getD (encodeIn k (n / 128)) j 0 < 256) → getD ((128 + n % 128) ∷ encodeIn k (n / 128)) i 0 < 256
+    next : (i : ℕ) → ((j : ℕ) → getD (encode-in k (n / 128)) j 0 < 256) → getD ((128 + n % 128) ∷ encode-in k (n / 128)) i 0 < 256
     next zero h = omega arith
     next (suc i) h = h i

@@ -6,7 +6,7 @@ use mathlib.Core.List.{List, [], _++_}
 use native.Mathlib.Omega.{arith}
 use lib.ListN.{length, getD, take, drop, length-drop, take-append-drop}
 use lib.Seq.{drop-at, drop-append-add, getD-drop, length-take-le}
-use Rattle.stage0_number.specs.Number.{count, value, highest, front, numberOf, decode, encodeIn, encode}
+use Rattle.stage0_number.specs.Number.{count, value, highest, front, number-from, decode, encode-in, encode}
 use Rattle.stage0_number.specs.Groups.{count-positive, judged-read, fewest-alone, fewest-is, found}
 use Rattle.stage0_number.specs.Groups.{front-within, front-kept, front-sound, coded, length-encode-in, encode-in-there, encode-in-bytes}
 use Rattle.stage0_number.specs.declared.Number.the-variants.{Read}
@@ -67,20 +67,20 @@ decode-kept s at t k {v} {n} e h =
     sym (take-append-drop n (drop k t)) ∙ ap (λ (l : List ℕ). l ++ drop n (drop k t)) (h ∙ ap (λ (i : ℕ). take i (drop at s)) c) in
     let g : front (drop k t) ≡ front (drop at s) =
     ap front a ∙ front-kept (drop at s) (drop n (drop k t)) (f .gs) (f .at-front) ∙ sym (f .at-front) in
-    ap numberOf g ∙ e
+    ap number-from g ∙ e
 
 -- ---- reading what was written
 
 -- At any place of any bytes, what was written is read back.
 pub decode-encode : (p : List ℕ) (n : ℕ) (t : List ℕ) → n < 2 ^ 64 → decode (p ++ (encode n ++ t)) (length p) ≡ Read n (length (encode n))
-unfolding decode encode numberOf
+unfolding decode encode number-from
 decode-encode p n t h =
     let r = coded 10 n t (omega arith) (omega arith) in
     let l = length-encode-in 10 n in
     let c = r .is-count in
     let v = r .is-value in
     let s = fewest-is (count (r .gs)) (highest (r .gs)) (λ z. r .alone (omega (arith, r .zero-top z))) in
-    rw (drop-at p (encodeIn 10 n ++ t) (length p) refl, r .at-front)
+    rw (drop-at p (encode-in 10 n ++ t) (length p) refl, r .at-front)
     (judged-read (count (r .gs)) (highest (r .gs)) (value (r .gs)) (omega arith) s (omega arith) ∙ ap₂ Read v c)
 
 -- The same, said of a place: where the bytes of a number stand, that number is read.
@@ -100,7 +100,7 @@ decode-bytes s at {v} {n} hb e =
     ap (λ (i : ℕ). take i (drop at s)) c
     ∙ front-sound 10 (drop at s) (f .gs) (λ i. rw (getD-drop at s i 0) (hb (at + i))) (f .at-front) (f .passed .ten)
     (fewest-alone (count (f .gs)) (highest (f .gs)) (f .passed .short))
-    ∙ ap (encodeIn 10) (sym (f .passed .is-value))
+    ∙ ap (encode-in 10) (sym (f .passed .is-value))
 
 -- So it takes as many bytes as writing it would.
 pub decode-width : (s : List ℕ) (at : ℕ) {v n : ℕ} → ((i : ℕ) → getD s i 0 < 256) → decode s at ≡ Read v n → n ≡ length (encode v)

@@ -54,22 +54,22 @@ judged groups highest n =
     cond (leb groups 10) (cond (fewest groups highest) (cond (ltb n (2 ^ 64)) (Read n groups) Refused) Refused) Refused
 
 -- The number that the groups at the front make.
-unfoldable pub numberOf : Front → Number
-numberOf cut = Refused
-numberOf (whole gs) = judged (count gs) (highest gs) (value gs)
+unfoldable pub number-from : Front → Number
+number-from cut = Refused
+number-from (whole gs) = judged (count gs) (highest gs) (value gs)
 
 -- The number at a place of some bytes: its value and how many bytes it takes, or no number.
 unfoldable pub decode : List ℕ → ℕ → Number
-decode bytes at = numberOf (front (drop at bytes))
+decode bytes at = number-from (front (drop at bytes))
 
 -- The bytes of a number, in at most so many groups: the lowest seven bits with bit 7 set, then what is above them.
-unfoldable pub encodeIn : ℕ → ℕ → List ℕ
-encodeIn zero n = []
-encodeIn (suc k) n = cond (ltb n 128) (n ∷ []) ((128 + n % 128) ∷ encodeIn k (n / 128))
+unfoldable pub encode-in : ℕ → ℕ → List ℕ
+encode-in zero n = []
+encode-in (suc k) n = cond (ltb n 128) (n ∷ []) ((128 + n % 128) ∷ encode-in k (n / 128))
 
 -- The bytes of a number below 2^64. Ten groups hold 70 bits, so the bound of ten cuts nothing off.
 unfoldable pub encode : ℕ → List ℕ
-encode n = encodeIn 10 n
+encode n = encode-in 10 n
 
 -- A buffer in which the bytes from a place on are replaced by those of a list.
 unfoldable pub splice : List ℕ → ℕ → List ℕ → List ℕ
@@ -84,8 +84,8 @@ unfoldable pub written : List ℕ → ℕ → List ℕ
 written part n = cond (leb (length (encode n)) (length part)) (encode n ++ drop (length (encode n)) part) part
 
 -- "Each number is written into what remains of the image buffer": the same for the part from a cursor on.
-unfoldable pub usedAt : List ℕ → ℕ → ℕ → ℕ
-usedAt d at n = used (drop at d) n
+unfoldable pub used-at : List ℕ → ℕ → ℕ → ℕ
+used-at d at n = used (drop at d) n
 
-unfoldable pub writtenAt : List ℕ → ℕ → ℕ → List ℕ
-writtenAt d at n = take at d ++ written (drop at d) n
+unfoldable pub written-at : List ℕ → ℕ → ℕ → List ℕ
+written-at d at n = take at d ++ written (drop at d) n

@@ -9,8 +9,8 @@ use native.Mathlib.Nat.{add-assoc}
 use lib.ListN.{length, take, drop, length-append, length-take, length-drop, take-append-drop}
 use lib.Seq.{take-at, drop-at, drop-drop}
 use borrow.Author.Tests.{le-leb, lt-leb}
-use Rattle.stage0_number.specs.Number.{encode, splice, used, written, usedAt, writtenAt}
-use Rattle.stage0_number.specs.Groups.{lt-or-le}
+use Rattle.stage0_number.specs.Number.{encode, splice, used, written, used-at, written-at}
+use Rattle.stage0_laws.specs.Order.{lt-or-le}
 use Rattle.stage0_number.specs.Laws.{encode-there}
 
 -- ---- replacing the bytes from a place on
@@ -88,34 +88,34 @@ module _ (part : List ℕ) (n : ℕ) where
 -- ---- writing one number into what remains of a buffer
 
 module _ (d : List ℕ) (at n : ℕ) where
-  pub written-at-fits : at + length (encode n) ≤ length d → writtenAt d at n ≡ splice d at (encode n)
-  unfolding writtenAt splice
+  pub written-at-fits : at + length (encode n) ≤ length d → written-at d at n ≡ splice d at (encode n)
+  unfolding written-at splice
   written-at-fits h =
       let l : length (encode n) ≤ length (drop at d) = rw (length-drop at d) (omega arith) in
       rw (written-fits (drop at d) n l, drop-drop (length (encode n)) at d)
 
-  pub used-at-fits : at + length (encode n) ≤ length d → usedAt d at n ≡ length (encode n)
-  unfolding usedAt
+  pub used-at-fits : at + length (encode n) ≤ length d → used-at d at n ≡ length (encode n)
+  unfolding used-at
   used-at-fits h = used-fits (drop at d) n (rw (length-drop at d) (omega arith))
 
-  pub written-at-short : length d < at + length (encode n) → writtenAt d at n ≡ d
-  unfolding writtenAt
+  pub written-at-short : length d < at + length (encode n) → written-at d at n ≡ d
+  unfolding written-at
   written-at-short h =
       let l : length (drop at d) < length (encode n) = rw (length-drop at d) (omega (arith, encode-there n)) in
       rw (written-short (drop at d) n l) (take-append-drop at d)
 
-  pub used-at-short : length d < at + length (encode n) → usedAt d at n ≡ 0
-  unfolding usedAt
+  pub used-at-short : length d < at + length (encode n) → used-at d at n ≡ 0
+  unfolding used-at
   used-at-short h = used-short (drop at d) n (rw (length-drop at d) (omega (arith, encode-there n)))
 
   -- The answer tells which of the two it was.
-  pub used-at-none : usedAt d at n ≡ 0 → length d < at + length (encode n)
+  pub used-at-none : used-at d at n ≡ 0 → length d < at + length (encode n)
   used-at-none e = ⊎-elim (λ h. h) (λ h. absurd (omega (arith, used-at-fits h, encode-there n))) (lt-or-le (length d) (at + length (encode n)))
 
-  pub used-at-some : 0 < usedAt d at n → at + length (encode n) ≤ length d
+  pub used-at-some : 0 < used-at d at n → at + length (encode n) ≤ length d
   used-at-some e = ⊎-elim (λ h. absurd (omega (arith, used-at-short h))) (λ h. h) (lt-or-le (length d) (at + length (encode n)))
 
-  pub length-written-at : length (writtenAt d at n) ≡ length d
+  pub length-written-at : length (written-at d at n) ≡ length d
   length-written-at = ⊎-elim
       (λ h. ap length (written-at-short h))
       (λ h. ap length (written-at-fits h) ∙ length-splice d at (encode n) h)

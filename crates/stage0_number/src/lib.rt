@@ -4,7 +4,7 @@ ghost use mathlib.Core.Path.{_≡_};
 ghost use mathlib.Core.List.{_++_};
 ghost use Prim.Native.Nat.{_+_, _*_, _≤_, _<_};
 ghost use lib.ListN.{length, drop};
-ghost use Rattle.stage0_number.specs.Number.{fewest, judged, decode, encode, written, used, writtenAt, usedAt};
+ghost use Rattle.stage0_number.specs.Number.{fewest, judged, decode, encode, written, used, written-at, used-at};
 
 // The largest number: 2^64 - 1.
 const LARGEST: u64 = 18446744073709551615;
@@ -111,7 +111,7 @@ pub fn write_number(part: &mut [u8], n: u64) -> usize
 // Writes a number into what remains of a buffer from a cursor on, and answers how many bytes it used.
 // Where it does not fit, or the cursor lies past the end, the buffer stays as it is, and the answer is 0.
 pub fn write_number_at(image: &mut [u8], at: usize, n: u64) -> usize
-    ensures { λ r. ⌜ (r ≡ usedAt (now (image .entry)) at n) × (now (image .exit) ≡ writtenAt (now (image .entry)) at n) ⌝ }
+    ensures { λ r. ⌜ (r ≡ used-at (now (image .entry)) at n) × (now (image .exit) ≡ written-at (now (image .entry)) at n) ⌝ }
 {
     if image.len() < at {
         return 0;

@@ -8,11 +8,13 @@ use lib.ListN.{replicate}
 use Rattle.stage1_sheet.specs.Regex.{class, concat, star}
 use Rattle.stage1_sheet.specs.Expression.{epsilon, token, sequence, alternative, fixed-point, variable}
 use Rattle.stage1_sheet.specs.Sheet.{Sheet}
+use Rattle.stage0_number.specs.declared.Number.{Number}
 use Rattle.stage0_number.specs.Number.{decode, numberOf, judged, fewest, front, followed, count, value, highest}
 use Rattle.stage1_sheet.specs.WellFormed.{Spells}
 use Rattle.stage1_sheet.specs.Field.{Reading, stop, got, between, field-of, read-field, read-many}
-use Rattle.stage1_sheet.specs.Items.{regex-parts, item-classes, regex-before, regexes, part-depths, expression-before, expressions}
-use Rattle.stage1_sheet.specs.Reading.{Contents, sheet-field, class-after, regex-item, regex-items, less-rule, read-rule, expression-item, expression-nodes, contents, at-end, read-sheet}
+use Rattle.stage1_sheet.specs.Items.{RegexItem, regex-parts, item-classes, regex-before, regexes, part-depths, expression-before, expressions}
+use Rattle.stage1_sheet.specs.Reading.{Contents, ReadRule, ReadNode, sheet-field, class-after, regex-item, regex-items, less-rule, read-rule}
+use Rattle.stage1_sheet.specs.Reading.{expression-item, expression-nodes, contents, at-end, read-sheet}
 use Rattle.stage1_sheet.specs.FieldLaws.{tested-bytes}
 use Rattle.stage1_sheet.specs.ReadingLaws.{read-accepted}
 
@@ -21,9 +23,9 @@ abbrev pub sheet-d : Sheet
 sheet-d = record {
   tokens = 2;
   rules = record { action = 1; regex = concat (class 48 57) (star (class 48 57)) }
-    ∷ record { action = 2; regex = class 47 47 }
-    ∷ record { action = 0; regex = class 32 32 }
-    ∷ [];
+      ∷ record { action = 2; regex = class 47 47 }
+      ∷ record { action = 0; regex = class 32 32 }
+      ∷ [];
   expression = sequence (token 0) (fixed-point (alternative epsilon (sequence (token 1) (sequence (token 0) (variable 0)))));
 }
 
@@ -116,9 +118,21 @@ examples =
     ∷ row (d-bytes ++ 0 ∷ []) 6 34
     ∷ []
 
--- Reading, with all that it computes by.
+-- Reading, with all that it computes by: the reading of one number, the trees of the items, and the rest.
+unfoldable pub computed-number : List ℕ → ℕ → Number
+unfolding decode numberOf judged fewest front followed count value highest
+computed-number = decode
+
+unfoldable pub computed-contents : ℕ → List ReadRule → List ReadNode → Contents
+unfolding contents regex-before regexes expression-before expressions
+computed-contents = contents
+
+unfoldable pub computed-items : List ℕ → ℕ → ℕ → ℕ → ℕ → Reading (List RegexItem)
+unfolding sheet-field read-field field-of between regex-items regex-item class-after regex-parts item-classes
+computed-items = regex-items
+
 unfoldable pub computed : List ℕ → Reading Contents
-unfolding read-sheet sheet-field read-rule regex-items regex-item class-after less-rule expression-nodes expression-item contents at-end read-many read-field field-of between regex-parts item-classes regex-before regexes part-depths expression-before expressions decode numberOf judged fewest front followed count value highest
+unfolding computed-number computed-contents computed-items read-sheet read-many read-rule less-rule expression-nodes expression-item part-depths at-end
 computed = read-sheet
 
 -- Each row is what reading answers.
@@ -127,8 +141,11 @@ unfolding computed
 examples-read = refl
 
 -- D is read as the sheet D, with these places.
-pub d-read : read-sheet d-bytes
-    ≡ got (record { sheet = sheet-d; action-places = 3 ∷ 12 ∷ 16 ∷ []; node-places = 20 ∷ 21 ∷ 23 ∷ 24 ∷ 25 ∷ 26 ∷ 27 ∷ 29 ∷ 30 ∷ 32 ∷ [] }) 34
+pub d-read : read-sheet d-bytes ≡ got (record {
+  sheet = sheet-d;
+  action-places = 3 ∷ 12 ∷ 16 ∷ [];
+  node-places = 20 ∷ 21 ∷ 23 ∷ 24 ∷ 25 ∷ 26 ∷ 27 ∷ 29 ∷ 30 ∷ 32 ∷ [];
+}) 34
 unfolding computed
 d-read = refl
 

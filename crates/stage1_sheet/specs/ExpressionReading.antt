@@ -1,20 +1,21 @@
 -- Reading expressions: the nodes that are read stand there, make the expressions that were due and keep the limit; and nodes
 -- that do are read, each with the place of its tag.
-use mathlib.Core.Path.{_≡_, refl, sym, ap, subst, _∙_}
-use mathlib.Core.Bool.{Bool, true, false, cond}
-use mathlib.Core.List.{List, [], _∷_, _++_, append-nil, flatMap, map}
+use mathlib.Core.Path.{_≡_, refl, sym, ap, subst}
+use mathlib.Core.List.{List, [], _∷_, _++_, flatMap, map}
 use Prim.Native.Nat.{ℕ, zero, suc, _+_, _^_, _≤_, _<_}
 use native.Mathlib.Omega.{arith}
-use lib.Dec.{eqb, ltb, ltb→lt, lt→ltb}
+use lib.Dec.{ltb, ltb→lt, lt→ltb}
 use lib.ListN.{length}
 use Rattle.stage0_laws.specs.Lists.{All}
 use Rattle.stage0_laws.specs.Truth.{holds-true, true-holds}
 use Rattle.stage1_sheet.specs.Spelling.{spell}
-use Rattle.stage1_sheet.specs.Field.{Reading, stop, got, and-then, between}
-use Rattle.stage1_sheet.specs.Items.{ExpressionItem, epsilon-item, bottom-item, token-item, sequence-item, alternative-item, fixed-point-item, variable-item, part-depths}
+use Rattle.stage1_sheet.specs.Field.{got, and-then, between}
+use Rattle.stage1_sheet.specs.Items.{ExpressionItem, epsilon-item, bottom-item, token-item, sequence-item, alternative-item}
+use Rattle.stage1_sheet.specs.Items.{fixed-point-item, variable-item, part-depths}
 use Rattle.stage1_sheet.specs.Reading.{sheet-field, ReadNode, expression-item, expression-nodes}
 use Rattle.stage1_sheet.specs.ListLaws.{all-imply}
-use Rattle.stage1_sheet.specs.FieldLaws.{Bytes, after, Stands, after-append, stands-none, stands-append, stands-rest, Outcome, then-outcome, FieldRead, between-true, true-between}
+use Rattle.stage1_sheet.specs.FieldLaws.{Bytes, after, Stands, after-append, stands-none, stands-append, stands-rest, Outcome}
+use Rattle.stage1_sheet.specs.FieldLaws.{refused, accepted, then-outcome, between-true, true-between}
 use Rattle.stage1_sheet.specs.SheetFields.{SheetRefusal, sheet-field-outcome, sheet-field-got}
 use Rattle.stage1_sheet.specs.ExpressionItems.{expression-tag, tag-number, expression-item-numbers, ItemAllowed, MakesExpressions}
 
@@ -47,49 +48,50 @@ module _ (bytes : List ℕ) (b : Bytes bytes) where
       → Outcome (SheetRefusal bytes) (NodeRead bytes tokens opened tag next)
       (and-then (sheet-field (λ k. ltb k bound) bytes next) (λ k end. got (make k) end))
   numbered-outcome tokens opened tag bound next make h made =
-      then-outcome (SheetRefusal bytes) (FieldRead (λ k. ltb k bound) bytes next) (NodeRead bytes tokens opened tag next)
-      (sheet-field (λ k. ltb k bound) bytes next) _ (sheet-field-outcome (λ k. ltb k bound) bytes next b h)
-      (λ k end f. made k end (ltb→lt k bound (true-holds (ltb k bound) (f .holds))) (f .stands))
+      then-outcome (sheet-field-outcome (λ k. ltb k bound) bytes next b h)
+      (λ k end f. accepted (make k) end (made k end (ltb→lt k bound (true-holds (ltb k bound) (f .holds))) (f .stands)))
+
+  -- A tag with nothing after it.
+  bare-outcome : (tokens opened tag next : ℕ) (item : ExpressionItem) → next ≤ length bytes → expression-tag item ≡ tag
+      → ItemAllowed tokens opened item → tag-number item ≡ []
+      → Outcome (SheetRefusal bytes) (NodeRead bytes tokens opened tag next) (got item next)
+  bare-outcome tokens opened tag next item h t a e =
+      accepted item next (record { same-tag = t; allowed = a; stands = rw e (stands-none bytes next h) })
 
   node-outcome : (tokens opened tag next : ℕ) → next ≤ length bytes → tag ≤ 6
       → Outcome (SheetRefusal bytes) (NodeRead bytes tokens opened tag next) (expression-item bytes tokens opened tag next)
   unfolding expression-item expression-tag tag-number
-  node-outcome tokens opened zero next h t = record { same-tag = refl; allowed = tt; stands = stands-none bytes next h }
-  node-outcome tokens opened (suc zero) next h t = record { same-tag = refl; allowed = tt; stands = stands-none bytes next h }
+  node-outcome tokens opened zero next h t = bare-outcome tokens opened 0 next epsilon-item h refl tt refl
+  node-outcome tokens opened (suc zero) next h t = bare-outcome tokens opened 1 next bottom-item h refl tt refl
   node-outcome tokens opened (suc (suc zero)) next h t =
       numbered-outcome tokens opened 2 tokens next token-item h (λ k end l s. record { same-tag = refl; allowed = l; stands = s })
-  node-outcome tokens opened (suc (suc (suc zero))) next h t = record { same-tag = refl; allowed = tt; stands = stands-none bytes next h }
-  node-outcome tokens opened (suc (suc (suc (suc zero)))) next h t = record { same-tag = refl; allowed = tt; stands = stands-none bytes next h }
-  node-outcome tokens opened (suc (suc (suc (suc (suc zero))))) next h t =
-      record { same-tag = refl; allowed = tt; stands = stands-none bytes next h }
+  node-outcome tokens opened (suc (suc (suc zero))) next h t = bare-outcome tokens opened 3 next sequence-item h refl tt refl
+  node-outcome tokens opened (suc (suc (suc (suc zero)))) next h t = bare-outcome tokens opened 4 next alternative-item h refl tt refl
+  node-outcome tokens opened (suc (suc (suc (suc (suc zero))))) next h t = bare-outcome tokens opened 5 next fixed-point-item h refl tt refl
   node-outcome tokens opened (suc (suc (suc (suc (suc (suc zero)))))) next h t =
       numbered-outcome tokens opened 6 opened next variable-item h (λ k end l s. record { same-tag = refl; allowed = l; stands = s })
   node-outcome tokens opened (suc (suc (suc (suc (suc (suc (suc tag))))))) next h t = absurd (omega arith)
 
+  none-outcome : (tokens left at : ℕ) → at ≤ length bytes → Outcome (SheetRefusal bytes) (NodesRead bytes tokens left [] at) (got [] at)
+  unfolding flatMap
+  none-outcome tokens left at h = accepted [] at (record { makes = tt; nodes-kept = omega arith; stands = stands-none bytes at h })
+
   pub expressions-outcome : (tokens left : ℕ) (due : List ℕ) (at : ℕ) → at ≤ length bytes
       → Outcome (SheetRefusal bytes) (NodesRead bytes tokens left due at) (expression-nodes bytes tokens left due at)
   unfolding expression-nodes flatMap
-  expressions-outcome tokens zero [] at h = record { makes = tt; nodes-kept = omega arith; stands = stands-none bytes at h }
+  expressions-outcome tokens zero [] at h = none-outcome tokens zero at h
   expressions-outcome tokens zero (opened ∷ due) at h =
-      then-outcome (SheetRefusal bytes) (FieldRead (between 0 6) bytes at) (NodesRead bytes tokens zero (opened ∷ due) at)
-      (sheet-field (between 0 6) bytes at) _ (sheet-field-outcome (between 0 6) bytes at b h) (λ tag next f. omega arith)
-  expressions-outcome tokens (suc left) [] at h = record { makes = tt; nodes-kept = omega arith; stands = stands-none bytes at h }
+      then-outcome (sheet-field-outcome (between 0 6) bytes at b h) (λ tag next f. refused 5 at (omega arith))
+  expressions-outcome tokens (suc left) [] at h = none-outcome tokens (suc left) at h
   expressions-outcome tokens (suc left) (opened ∷ due) at h =
-      then-outcome (SheetRefusal bytes) (FieldRead (between 0 6) bytes at) (NodesRead bytes tokens (suc left) (opened ∷ due) at)
-      (sheet-field (between 0 6) bytes at) _ (sheet-field-outcome (between 0 6) bytes at b h)
-      (λ tag next f. then-outcome (SheetRefusal bytes) (NodeRead bytes tokens opened tag next) (NodesRead bytes tokens (suc left) (opened ∷ due) at)
-      (expression-item bytes tokens opened tag next) _
-      (node-outcome tokens opened tag next (f .stands .inside) (true-between 0 6 tag (f .holds) .1))
-      (λ item mid g. then-outcome (SheetRefusal bytes) (NodesRead bytes tokens left (part-depths item opened ++ due) mid)
-      (NodesRead bytes tokens (suc left) (opened ∷ due) at) (expression-nodes bytes tokens left (part-depths item opened ++ due) mid) _
-      (expressions-outcome tokens left (part-depths item opened ++ due) mid (g .stands .inside))
-      (λ nodes end r. record {
+      then-outcome (sheet-field-outcome (between 0 6) bytes at b h)
+      (λ tag next f. then-outcome (node-outcome tokens opened tag next (f .stands .inside) (true-between 0 6 tag (f .holds) .1))
+      (λ item mid g. then-outcome (expressions-outcome tokens left (part-depths item opened ++ due) mid (g .stands .inside))
+      (λ nodes end r. accepted (record { place = at; item = item } ∷ nodes) end (record {
         makes = (g .allowed, r .makes);
         nodes-kept = omega (arith, r .nodes-kept);
-        stands = stands-append
-          (subst (λ (n : ℕ). Stands bytes at (n ∷ tag-number item) mid) (sym (g .same-tag)) (stands-append (f .stands) (g .stands)))
-          (r .stands);
-      })))
+        stands = rw (g .same-tag) (stands-append (f .stands) (stands-append (g .stands) (r .stands)));
+      }))))
 
 -- ---- whatever stands there is read
 
@@ -97,9 +99,11 @@ module _ (bytes : List ℕ) (b : Bytes bytes) where
 Small : ℕ → List ℕ → Type 0
 Small left due = All (λ opened. opened + left < 2 ^ 64) due
 
-small-parts : (item : ExpressionItem) (left opened : ℕ) (due : List ℕ) → Small (suc left) (opened ∷ due) → Small left (part-depths item opened ++ due)
+small-parts : (item : ExpressionItem) (left opened : ℕ) (due : List ℕ) → Small (suc left) (opened ∷ due)
+    → Small left (part-depths item opened ++ due)
 unfolding part-depths Small
-small-parts item left opened due s = go item (all-imply (λ d. d + suc left < 2 ^ 64) (λ d. d + left < 2 ^ 64) (λ d h. omega arith) due (s .1))
+small-parts item left opened due s =
+    go item (all-imply (λ d. d + suc left < 2 ^ 64) (λ d. d + left < 2 ^ 64) (λ d h. omega arith) due (s .1))
   where
     go : (i : ExpressionItem) → All (λ d. d + left < 2 ^ 64) due → All (λ d. d + left < 2 ^ 64) (part-depths i opened ++ due)
     go epsilon-item h = h
@@ -121,7 +125,8 @@ tag-most fixed-point-item = omega arith
 tag-most (variable-item n) = omega arith
 
 module _ (bytes : List ℕ) (tokens : ℕ) (few : tokens < 2 ^ 64) where
-  numbered-got : (bound next k end : ℕ) (ns : List ℕ) (make : ℕ → ExpressionItem) → bound < 2 ^ 64 → k < bound → Stands bytes next (k ∷ ns) end
+  numbered-got : (bound next k end : ℕ) (ns : List ℕ) (make : ℕ → ExpressionItem) → bound < 2 ^ 64 → k < bound
+      → Stands bytes next (k ∷ ns) end
       → and-then (sheet-field (λ n. ltb n bound) bytes next) (λ n last. got (make n) last) ≡ got (make k) (after next (k ∷ []))
   numbered-got bound next k end ns make h l s =
       rw (sheet-field-got (λ n. ltb n bound) bytes next k ns end (omega arith) (holds-true (ltb k bound) (lt→ltb k bound l)) s)
@@ -154,21 +159,23 @@ module _ (bytes : List ℕ) (tokens : ℕ) (few : tokens < 2 ^ 64) where
       let t = tag-most item in
       let s = stands-rest bytes at (expression-tag item ∷ []) (tag-number item ++ numbers) end (r .stands) in
       let q = stands-rest bytes next (tag-number item) numbers end s in
-      let same : after next (tag-number item) ≡ after at (expression-item-numbers item) = sym (after-append at (expression-tag item ∷ []) (tag-number item)) in
+      let place : ℕ = after at (expression-item-numbers item) in
+      let same : after next (tag-number item) ≡ place = sym (after-append at (expression-tag item ∷ []) (tag-number item)) in
       rw (
         sheet-field-got (between 0 6) bytes at (expression-tag item) (tag-number item ++ numbers) end (omega arith)
-        (between-true 0 6 (expression-tag item) (omega arith) t) (r .stands),
+            (between-true 0 6 (expression-tag item) (omega arith) t) (r .stands),
         node-got item opened next end numbers (omega (arith, h .0)) (r .makes .0) s,
         same,
-        nodes-got left (part-depths item opened ++ due) (after at (expression-item-numbers item)) items end (small-parts item left opened due h) record {
+        nodes-got left (part-depths item opened ++ due) place items end (small-parts item left opened due h) record {
           makes = r .makes .1;
           nodes-kept = omega (arith, r .nodes-kept);
           stands = subst (λ (p : ℕ). Stands bytes p numbers end) same q;
-        }
+        },
       )
 
   -- One expression with no fixed point open, as a sheet has it.
-  pub expression-got : (left at : ℕ) (items : List ExpressionItem) (end : ℕ) → left < 2 ^ 64 → ExpressionsRead bytes tokens left (0 ∷ []) at items end
+  pub expression-got : (left at : ℕ) (items : List ExpressionItem) (end : ℕ) → left < 2 ^ 64
+      → ExpressionsRead bytes tokens left (0 ∷ []) at items end
       → expression-nodes bytes tokens left (0 ∷ []) at ≡ got (nodes-from at items) end
   unfolding Small
   expression-got left at items end h r = nodes-got left (0 ∷ []) at items end (omega arith, tt) r

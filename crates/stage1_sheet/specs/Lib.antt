@@ -17,6 +17,7 @@ pub mod RegexReading
 pub mod ExpressionReading
 pub mod RuleReading
 pub mod Places
+pub mod SheetReading
 pub mod ReadingLaws
 pub mod Examples
 pub mod Computing

@@ -5,7 +5,7 @@ use mathlib.Core.List.{List, [], _∷_}
 use Prim.Native.Nat.{ℕ, _^_, _≤_, _<_}
 use native.Mathlib.Omega.{arith}
 use lib.ListN.{length}
-use Rattle.stage1_sheet.specs.Field.{got, read-field}
+use Rattle.stage1_sheet.specs.Field.{got}
 use Rattle.stage1_sheet.specs.Reading.{sheet-field}
 use Rattle.stage1_sheet.specs.FieldLaws.{Bytes, after, Stands, Outcome, FieldRead, field-outcome, field-got}
 
@@ -16,7 +16,8 @@ pub record SheetRefusal (bytes : List ℕ) (question place : ℕ) : Type 0 where
   pub within : place ≤ length bytes
 
 module _ (allowed : ℕ → Bool) (bytes : List ℕ) (at : ℕ) where
-  pub sheet-field-outcome : Bytes bytes → at ≤ length bytes → Outcome (SheetRefusal bytes) (FieldRead allowed bytes at) (sheet-field allowed bytes at)
+  pub sheet-field-outcome : Bytes bytes → at ≤ length bytes
+      → Outcome (SheetRefusal bytes) (FieldRead allowed bytes at) (sheet-field allowed bytes at)
   unfolding sheet-field
   sheet-field-outcome b i = field-outcome 3 4 allowed bytes at (SheetRefusal bytes) b (omega arith) (omega arith)
 

@@ -1,7 +1,7 @@
 -- 001's Theorem 4.3: what a typed expression denotes satisfies its type, and a sequence's words are cut in one way only
 -- (its Lemma 3.4). Types that are too large satisfy as well; which types are least is not asked here.
 use mathlib.Core.Path.{_≡_, refl, sym, ap, subst, _∙_}
-use mathlib.Core.Bool.{Bool, true, false, _&&_, _||_, true≢false}
+use mathlib.Core.Bool.{Bool, true, _&&_, _||_, true≢false}
 use mathlib.Core.Bool as B
 use mathlib.Core.List.{List, [], _∷_, _++_, append-assoc, head-eq-of-cons-eq, tail-eq-of-cons-eq, cons≢nil, nil≢cons}
 use mathlib.Core.Logic.{_⊎_, inl, inr}

@@ -1,8 +1,8 @@
 -- The nodes that are found to derive a token sequence are those whose language has a word, at a typed expression.
 use mathlib.Core.Path.{_≡_, refl, sym, ap, subst, _∙_}
-use mathlib.Core.Bool.{Bool, true, false, _&&_, _||_, Bool·beq}
-use mathlib.Core.List.{List, [], _∷_, _++_, map}
-use mathlib.Core.Logic.{_⊎_, inl, inr, _↔_, ⊎-elim}
+use mathlib.Core.Bool.{Bool, true, false}
+use mathlib.Core.List.{List, [], _∷_, _++_}
+use mathlib.Core.Logic.{inl, inr, _↔_, ⊎-elim}
 use Prim.Native.Nat.{ℕ, zero, suc, _+_, _≤_, _<_}
 use native.Mathlib.Omega.{arith}
 use lib.Dec.{T}
@@ -15,7 +15,7 @@ use Rattle.stage2_types.specs.Types.{LanguageType, _⊢_∶_}
 use Rattle.stage2_types.specs.Nodes.{Node, epsilon-node, bottom-node, token-node, sequence-node, alternative-node, fixed-point-node, variable-node, nodes}
 use Rattle.stage3_normal_form.specs.Derives.{derives-at, node-derives, next-derives, same-flags, derives}
 use Rattle.stage3_normal_form.specs.Places.{node-at, Placed, Everywhere, everywhere-all}
-use Rattle.stage3_normal_form.specs.NodeLanguages.{language-of, languages-past, PartsDenote, Site, whole-site, node-language, language-equation}
+use Rattle.stage3_normal_form.specs.NodeLanguages.{language-of, languages-past, PartsDenote, whole-site, node-language, language-equation}
 use Rattle.stage3_normal_form.specs.Settling.{settled}
 
 abbrev pub HasWord : Language → Type 0
@@ -25,6 +25,24 @@ HasWord L = (w : List ℕ) × L w
 next-derives-at : (ns : List Node) (flags : List Bool) (n : ℕ) → derives-at (next-derives ns flags) n ≡ node-derives flags (node-at ns n)
 unfolding next-derives node-derives
 next-derives-at ns flags n = List·getD-map (node-derives flags) ns n bottom-node
+
+-- What is found has a word, if what was found before has one.
+module _ (N : ℕ → Language) where
+  abbrev Found : List Bool → Type 0
+  Found flags = (n : ℕ) → T (derives-at flags n) → HasWord (N n)
+
+  node-found : (flags : List Bool) → Found flags → (x : Node) → T (node-derives flags x) → HasWord (node-language N x)
+  unfolding node-derives
+  node-found flags f epsilon-node t = ([], refl)
+  node-found flags f bottom-node t = absurd t
+  node-found flags f (token-node k) t = (k ∷ [], refl)
+  node-found flags f (sequence-node l r) t =
+      let x = f l (and-first (derives-at flags l) (derives-at flags r) t) in
+      let y = f r (and-second (derives-at flags l) (derives-at flags r) t) in (x .0 ++ y .0, (x .0, y .0, refl, x .1, y .1))
+  node-found flags f (alternative-node l r) t = ⊎-elim (λ a. let x = f l a in (x .0, inl (x .1))) (λ b. let x = f r b in (x .0, inr (x .1)))
+      (or-cases (derives-at flags l) (derives-at flags r) t)
+  node-found flags f (fixed-point-node b) t = f b t
+  node-found flags f (variable-node b guarded) t = f b t
 
 -- Rounds only add nodes.
 abbrev Within : List Bool → List Bool → Type 0
@@ -91,71 +109,57 @@ all-missing : (m : ℕ) → missing (replicate m false) ≡ m
 all-missing zero = refl
 all-missing (suc m) = ap suc (all-missing m)
 
--- What is found has a word.
 module _ (N : ℕ → Language) (ns : List Node) (equation : (n : ℕ) (w : List ℕ) → N n w ↔ node-language N (node-at ns n) w) where
-  abbrev Found : List Bool → Type 0
-  Found flags = (n : ℕ) → T (derives-at flags n) → HasWord (N n)
-
-  node-found : (flags : List Bool) → Found flags → (x : Node) → T (node-derives flags x) → HasWord (node-language N x)
-  unfolding node-derives
-  node-found flags f epsilon-node t = ([], refl)
-  node-found flags f bottom-node t = absurd t
-  node-found flags f (token-node k) t = (k ∷ [], refl)
-  node-found flags f (sequence-node l r) t =
-      let x = f l (and-first (derives-at flags l) (derives-at flags r) t) in
-      let y = f r (and-second (derives-at flags l) (derives-at flags r) t) in (x .0 ++ y .0, (x .0, y .0, refl, x .1, y .1))
-  node-found flags f (alternative-node l r) t = ⊎-elim (λ a. let x = f l a in (x .0, inl (x .1))) (λ b. let x = f r b in (x .0, inr (x .1)))
-      (or-cases (derives-at flags l) (derives-at flags r) t)
-  node-found flags f (fixed-point-node b) t = f b t
-  node-found flags f (variable-node b guarded) t = f b t
-
   -- Kept by each round.
-  pub record Fair (flags : List Bool) : Type 0 where
+  pub record RoundInvariant (flags : List Bool) : Type 0 where
     pub as-many : length flags ≡ length ns
     pub rising : Within flags (next-derives ns flags)
-    pub found : Found flags
+    pub found : Found N flags
 
   next-length : (flags : List Bool) → length (next-derives ns flags) ≡ length ns
   unfolding next-derives
   next-length flags = length-map ns (node-derives flags)
 
-  fair-next : (flags : List Bool) → Fair flags → Fair (next-derives ns flags)
-  fair-next flags f = record {
+  invariant-next : (flags : List Bool) → RoundInvariant flags → RoundInvariant (next-derives ns flags)
+  invariant-next flags f = record {
     as-many = next-length flags;
     rising = within-next ns flags (next-derives ns flags) (f .rising);
-    found = λ n t. let x = node-found flags (f .found) (node-at ns n) (subst T (next-derives-at ns flags n) t) in
+    found = λ n t. let x = node-found N flags (f .found) (node-at ns n) (subst T (next-derives-at ns flags n) t) in
         (x .0, equation n (x .0) .1 (x .1));
   }
 
-  fair-first : Fair (replicate (length ns) false)
-  fair-first = record {
+  invariant-first : RoundInvariant (replicate (length ns) false)
+  invariant-first = record {
     as-many = length-replicate (length ns) false;
     rising = λ n t. absurd (none-found (length ns) n t);
     found = λ n t. absurd (none-found (length ns) n t);
   }
 
-  fair-falls : (flags : List Bool) → Fair flags → same-flags flags (next-derives ns flags) ≡ false → missing (next-derives ns flags) < missing flags
-  fair-falls flags f d = missing-less flags (next-derives ns flags) (f .as-many ∙ sym (next-length flags)) (f .rising) d
+  invariant-falls : (flags : List Bool) → RoundInvariant flags → same-flags flags (next-derives ns flags) ≡ false
+      → missing (next-derives ns flags) < missing flags
+  invariant-falls flags f d = missing-less flags (next-derives ns flags) (f .as-many ∙ sym (next-length flags)) (f .rising) d
 
   abbrev last-flags : List Bool
   last-flags = settle same-flags (next-derives ns) (length ns) (replicate (length ns) false)
 
   -- So many rounds are enough.
-  pub last-settled : Fair last-flags × (same-flags last-flags (next-derives ns last-flags) ≡ true)
-  last-settled = settled same-flags (next-derives ns) Fair missing fair-next fair-falls (length ns) (replicate (length ns) false) fair-first
+  pub last-settled : RoundInvariant last-flags × (same-flags last-flags (next-derives ns last-flags) ≡ true)
+  last-settled = settled same-flags (next-derives ns) RoundInvariant missing invariant-next invariant-falls (length ns) (replicate (length ns) false) invariant-first
       (let a = all-missing (length ns) in omega arith)
 
 -- The flags solve the equations, and what is found has a word.
 pub derives-solve : {e : Expression} {a : LanguageType} → [] ⊢ e ∶ a → derives e ≡ next-derives (nodes e) (derives e)
 unfolding derives
-derives-solve {e} d = same-flags-path (derives e) (next-derives (nodes e) (derives e)) (last-settled (language-of e) (nodes e) (language-equation d) .1)
+derives-solve {e} d = same-flags-path (derives e) (next-derives (nodes e) (derives e))
+    (last-settled (language-of e) (nodes e) (language-equation d) .1)
 
 derives-found : {e : Expression} {a : LanguageType} → [] ⊢ e ∶ a → (n : ℕ) → T (derives-at (derives e) n) → HasWord (language-of e n)
 unfolding derives
 derives-found {e} d = last-settled (language-of e) (nodes e) (language-equation d) .0 .found
 
 -- What has a word is found, by any solution of the equations.
-module _ (N : ℕ → Language) (table : ℕ → Node) (flags : List Bool) (solves : (n : ℕ) → derives-at flags n ≡ node-derives flags (table n)) where
+module _ (N : ℕ → Language) (table : ℕ → Node) (flags : List Bool)
+    (solves : (n : ℕ) → derives-at flags n ≡ node-derives flags (table n)) where
   -- An open variable's language has words only if its fixed point is found.
   abbrev VariablesFound : Environment → List ℕ → Type 0
   VariablesFound γ fs = (n : ℕ) (w : List ℕ) → language-at γ n w → T (derives-at flags (getD fs n 0))
@@ -220,7 +224,8 @@ module _ (N : ℕ → Language) (table : ℕ → Node) (flags : List Bool) (solv
   )
   words-found (variable n) γ p fs t e s k = own-found (variable n) γ p fs t e k
 
-derives-complete : {e : Expression} {a : LanguageType} → [] ⊢ e ∶ a → (n : ℕ) (w : List ℕ) → language-of e n w → T (derives-at (derives e) n)
+derives-complete : {e : Expression} {a : LanguageType} → [] ⊢ e ∶ a → (n : ℕ) (w : List ℕ) → language-of e n w
+    → T (derives-at (derives e) n)
 derives-complete {e} d = everywhere-all (λ n. (w : List ℕ) → language-of e n w → T (derives-at (derives e) n)) e
     (words-found (language-of e) (node-at (nodes e)) (derives e)
     (λ n. ap (λ (l : List Bool). derives-at l n) (derives-solve d) ∙ next-derives-at (nodes e) (derives e) n)
@@ -228,7 +233,8 @@ derives-complete {e} d = everywhere-all (λ n. (w : List ℕ) → language-of e 
     (λ n h w x. absurd (subst (λ L. L w) (languages-past e n h) x))
 
 -- A node is found to derive a token sequence iff its language has one.
-pub derives-exact : {e : Expression} {a : LanguageType} → [] ⊢ e ∶ a → (n : ℕ) → (derives-at (derives e) n ≡ true) ↔ HasWord (language-of e n)
+pub derives-exact : {e : Expression} {a : LanguageType} → [] ⊢ e ∶ a → (n : ℕ)
+    → (derives-at (derives e) n ≡ true) ↔ HasWord (language-of e n)
 derives-exact {e} d n = (
   (λ t. derives-found d n (true-holds (derives-at (derives e) n) t)),
   λ x. holds-true (derives-at (derives e) n) (derives-complete d n (x .0) (x .1)),

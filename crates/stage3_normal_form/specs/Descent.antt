@@ -1,15 +1,15 @@
 -- A node's productions come down in head position: from a left part, an alternative, a body or a variable's fixed point. In a typed
 -- expression such a descent meets no node twice. Here: a bound that grows along it, from a node's usable variables to all nodes.
 use mathlib.Core.Path.{_≡_, refl}
-use mathlib.Core.Bool.{true, false}
-use mathlib.Core.List.{List, [], _∷_}
-use Prim.Native.Nat.{ℕ, zero, suc, _+_, _≤_, max}
+use mathlib.Core.Bool.{false}
+use mathlib.Core.List.{List, _∷_}
+use Prim.Native.Nat.{ℕ, suc, _+_, _≤_, max}
 use native.Mathlib.Omega.{arith}
 use lib.ListN.{getD}
 use Rattle.stage1_sheet.specs.Expression.{Expression, epsilon, bottom, token, sequence, alternative, fixed-point, variable, size}
 use Rattle.stage2_types.specs.Types.{LanguageType, Context, all-usable, Usable, here, there, _⊢_∶_, type-epsilon, type-bottom, type-token, type-variable, type-sequence, type-alternative, type-fixed-point}
 use Rattle.stage2_types.specs.Nodes.{Node}
-use Rattle.stage3_normal_form.specs.Places.{Placed, Everywhere, usable-still, usable-again}
+use Rattle.stage3_normal_form.specs.Places.{Placed, Everywhere, usable-again}
 
 -- The nodes counted, a sequence node as 1 and any other as o: with 1 all nodes are counted, with 0 the sequence nodes.
 abbrev pub weight : ℕ → Expression → ℕ
@@ -73,7 +73,8 @@ module _ (table : ℕ → Node) (o : ℕ) (U : ℕ → ℕ → Type 0) (raise : 
     → VariablesKeep U Γ fs m → U (m + head-weight o g) p) where
   own-bound : {Γ : Context} {g : Expression} {a : LanguageType} → Γ ⊢ g ∶ a → (p : ℕ) (fs : List ℕ) → Placed table g p fs → (m B : ℕ)
       → VariablesKeep U Γ fs m → m + weight o g ≤ B → U B p
-  own-bound {Γ} {g} {a} d p fs t m B k x = let w = weight-parts o g in raise (m + head-weight o g) B p (omega arith) (own Γ g a d p fs t m k)
+  own-bound {Γ} {g} {a} d p fs t m B k x = let w = weight-parts o g in
+      raise (m + head-weight o g) B p (omega arith) (own Γ g a d p fs t m k)
 
   next-bound : (Γ : Context) (fs : List ℕ) (m M p : ℕ) (a : LanguageType) → U m p → VariablesKeep U (all-usable Γ) fs M
       → VariablesKeep U (all-usable (record { usable = false; type = a } ∷ Γ)) (p ∷ fs) (max M m)
@@ -102,5 +103,6 @@ module _ (table : ℕ → Node) (o : ℕ) (U : ℕ → ℕ → Type 0) (raise : 
       let h = head-weight o (fixed-point g) in (
         own-bound (type-fixed-point d) p fs t m B k x,
         bounded d (suc p) (p ∷ fs) (t .1) m (max M (m + h)) B (keep-in-body U Γ fs m p a k)
-            (next-bound Γ fs (m + h) M p a (own Γ (fixed-point g) a (type-fixed-point d) p fs t m k) l) (omega arith) (let w = weight-parts o g in omega arith),
+            (next-bound Γ fs (m + h) M p a (own Γ (fixed-point g) a (type-fixed-point d) p fs t m k) l) (omega arith)
+            (let w = weight-parts o g in omega arith),
       )

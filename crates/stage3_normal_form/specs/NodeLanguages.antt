@@ -1,10 +1,10 @@
 -- The language of each node in its place: its free variables stand for the languages of their own fixed points. One equation a
 -- node holds of them, and each satisfies the node's type. Productions are not spoken of here.
-use mathlib.Core.Path.{_≡_, refl, sym, ap, subst, _∙_}
-use mathlib.Core.Bool.{true, false}
+use mathlib.Core.Path.{_≡_, refl, sym, subst}
+use mathlib.Core.Bool.{false}
 use mathlib.Core.List.{List, [], _∷_, _++_}
-use mathlib.Core.Logic.{_⊎_, inl, inr, _↔_, ⊎-map}
-use Prim.Native.Nat.{ℕ, zero, suc, _+_, _≤_}
+use mathlib.Core.Logic.{_↔_}
+use Prim.Native.Nat.{ℕ, suc, _+_, _≤_}
 use native.Mathlib.Omega.{arith}
 use lib.ListN.{getD, length, length-append, List·getD-eq-default}
 use Rattle.stage1_sheet.specs.Expression.{Expression, epsilon, bottom, token, sequence, alternative, fixed-point, variable, size}
@@ -53,11 +53,11 @@ PartsDenote N epsilon p γ = Unit
 PartsDenote N bottom p γ = Unit
 PartsDenote N (token k) p γ = Unit
 PartsDenote N (sequence g h) p γ =
-  (N (suc p) ≡ denotation g γ) × PartsDenote N g (suc p) γ × (N (suc p + size g) ≡ denotation h γ) × PartsDenote N h (suc p + size g) γ
+    (N (suc p) ≡ denotation g γ) × PartsDenote N g (suc p) γ × (N (suc p + size g) ≡ denotation h γ) × PartsDenote N h (suc p + size g) γ
 PartsDenote N (alternative g h) p γ =
-  (N (suc p) ≡ denotation g γ) × PartsDenote N g (suc p) γ × (N (suc p + size g) ≡ denotation h γ) × PartsDenote N h (suc p + size g) γ
+    (N (suc p) ≡ denotation g γ) × PartsDenote N g (suc p) γ × (N (suc p + size g) ≡ denotation h γ) × PartsDenote N h (suc p + size g) γ
 PartsDenote N (fixed-point g) p γ =
-  (N (suc p) ≡ denotation g (denotation (fixed-point g) γ ∷ γ)) × PartsDenote N g (suc p) (denotation (fixed-point g) γ ∷ γ)
+    (N (suc p) ≡ denotation g (denotation (fixed-point g) γ ∷ γ)) × PartsDenote N g (suc p) (denotation (fixed-point g) γ ∷ γ)
 PartsDenote N (variable n) p γ = Unit
 
 own-language : (N : ℕ → Language) (g : Expression) (p : ℕ) (γ : Environment) → Segment N p (languages-from g γ) → N p ≡ denotation g γ
@@ -80,11 +80,19 @@ parts-denote N epsilon p γ h = tt
 parts-denote N bottom p γ h = tt
 parts-denote N (token k) p γ h = tt
 parts-denote N (sequence g k) p γ h =
-    let l = segment-left N (suc p) (languages-from g γ) (languages-from k γ) (h .1) in let r = right-languages N g k (suc p) γ (h .1) in
-    (own-language N g (suc p) γ l, parts-denote N g (suc p) γ l, own-language N k (suc p + size g) γ r, parts-denote N k (suc p + size g) γ r)
+    let l = segment-left N (suc p) (languages-from g γ) (languages-from k γ) (h .1) in let r = right-languages N g k (suc p) γ (h .1) in (
+      own-language N g (suc p) γ l,
+      parts-denote N g (suc p) γ l,
+      own-language N k (suc p + size g) γ r,
+      parts-denote N k (suc p + size g) γ r,
+    )
 parts-denote N (alternative g k) p γ h =
-    let l = segment-left N (suc p) (languages-from g γ) (languages-from k γ) (h .1) in let r = right-languages N g k (suc p) γ (h .1) in
-    (own-language N g (suc p) γ l, parts-denote N g (suc p) γ l, own-language N k (suc p + size g) γ r, parts-denote N k (suc p + size g) γ r)
+    let l = segment-left N (suc p) (languages-from g γ) (languages-from k γ) (h .1) in let r = right-languages N g k (suc p) γ (h .1) in (
+      own-language N g (suc p) γ l,
+      parts-denote N g (suc p) γ l,
+      own-language N k (suc p + size g) γ r,
+      parts-denote N k (suc p + size g) γ r,
+    )
 parts-denote N (fixed-point g) p γ h =
     (own-language N g (suc p) (denotation (fixed-point g) γ ∷ γ) (h .1), parts-denote N g (suc p) (denotation (fixed-point g) γ ∷ γ) (h .1))
 parts-denote N (variable n) p γ h = tt
@@ -105,23 +113,38 @@ pub record Site (N : ℕ → Language) (table : ℕ → Node) (Γ : Context) (g 
 module _ {N : ℕ → Language} {table : ℕ → Node} {Γ : Context} {γ : Environment} {p : ℕ} {fs : List ℕ} where
   pub at-left : {g h : Expression} → Site N table Γ (sequence g h) γ p fs → Site N table Γ g γ (suc p) fs
   at-left s = record {
-    satisfied = s .satisfied; placed = s .placed .1; denoted = s .parts .0; parts = s .parts .1; bound = s .bound;
+    satisfied = s .satisfied;
+    placed = s .placed .1;
+    denoted = s .parts .0;
+    parts = s .parts .1;
+    bound = s .bound;
   }
 
   pub at-right : {g h : Expression} → Site N table Γ (sequence g h) γ p fs → Site N table (all-usable Γ) h γ (suc p + size g) fs
   at-right s = record {
-    satisfied = satisfies-usable (s .satisfied); placed = s .placed .2; denoted = s .parts .2; parts = s .parts .3;
+    satisfied = satisfies-usable (s .satisfied);
+    placed = s .placed .2;
+    denoted = s .parts .2;
+    parts = s .parts .3;
     bound = λ n a u. s .bound n a (usable-again Γ u);
   }
 
   pub at-first : {g h : Expression} → Site N table Γ (alternative g h) γ p fs → Site N table Γ g γ (suc p) fs
   at-first s = record {
-    satisfied = s .satisfied; placed = s .placed .1; denoted = s .parts .0; parts = s .parts .1; bound = s .bound;
+    satisfied = s .satisfied;
+    placed = s .placed .1;
+    denoted = s .parts .0;
+    parts = s .parts .1;
+    bound = s .bound;
   }
 
   pub at-second : {g h : Expression} → Site N table Γ (alternative g h) γ p fs → Site N table Γ h γ (suc p + size g) fs
   at-second s = record {
-    satisfied = s .satisfied; placed = s .placed .2; denoted = s .parts .2; parts = s .parts .3; bound = s .bound;
+    satisfied = s .satisfied;
+    placed = s .placed .2;
+    denoted = s .parts .2;
+    parts = s .parts .3;
+    bound = s .bound;
   }
 
   pub site-sound : {g : Expression} {a : LanguageType} → Γ ⊢ g ∶ a → Site N table Γ g γ p fs → Satisfies (N p) a
@@ -132,7 +155,10 @@ module _ {N : ℕ → Language} {table : ℕ → Node} {Γ : Context} {γ : Envi
       → Site N table (record { usable = false; type = a } ∷ Γ) g (denotation (fixed-point g) γ ∷ γ) (suc p) (p ∷ fs)
   at-body {g} {a} d s = record {
     satisfied = pointwise-cons (sound (type-fixed-point d) γ (s .satisfied)) (s .satisfied);
-    placed = s .placed .1; denoted = s .parts .0; parts = s .parts .1; bound = inner;
+    placed = s .placed .1;
+    denoted = s .parts .0;
+    parts = s .parts .1;
+    bound = inner;
   }
     where
       inner : (n : ℕ) (b : LanguageType) → Usable (all-usable (record { usable = false; type = a } ∷ Γ)) n b
@@ -228,6 +254,7 @@ nodes-past e n h = List·getD-eq-default (nodes e) bottom-node (rw (nodes-count 
 
 pub language-equation : {e : Expression} {a : LanguageType} → [] ⊢ e ∶ a → (n : ℕ) (w : List ℕ)
     → language-of e n w ↔ node-language (language-of e) (node-at (nodes e) n) w
-language-equation {e} d n = at-every-node d (λ a i. (w : List ℕ) → language-of e i w ↔ node-language (language-of e) (node-at (nodes e) i) w)
+language-equation {e} d n = at-every-node d
+    (λ a i. (w : List ℕ) → language-of e i w ↔ node-language (language-of e) (node-at (nodes e) i) w)
     (λ Γ g b x γ p fs s k. site-equation (language-of e) (node-at (nodes e)) x γ p fs s)
     (λ i h. (bottom-type, λ w. rw (languages-past e i h, nodes-past e i h) (λ z. z, λ z. z))) n .1

@@ -1,18 +1,18 @@
 -- The pending nodes of a run: the words that they stand for, what keeps them in order, and what a token does to them. It speaks of
 -- any languages N and rows M that fit one another; that a typed expression's do is said elsewhere.
 use mathlib.Core.Path.{_≡_, refl, sym, ap, subst, _∙_}
-use mathlib.Core.Bool.{Bool, true, false}
+use mathlib.Core.Bool.{true, false}
 use mathlib.Core.List.{List, [], _∷_, _++_, append-nil, append-assoc, nil≢cons, cons≢nil, head-eq-of-cons-eq, tail-eq-of-cons-eq}
 use mathlib.Core.Logic.{_⊎_, inl, inr, _↔_, ⊎-elim, ⊎-map}
 use mathlib.Core.Option.{Option, some, none}
-use Prim.Native.Nat.{ℕ, zero, suc, _+_, _≤_}
+use Prim.Native.Nat.{ℕ, suc, _+_, _≤_}
 use native.Mathlib.Omega.{arith}
 use lib.Dec.{T}
 use lib.ListN.{length, length-append}
-use Rattle.stage0_laws.specs.Truth.{holds-true, true-holds}
+use Rattle.stage0_laws.specs.Truth.{true-holds}
 use Rattle.stage2_types.specs.Denotation.{Language}
 use Rattle.stage3_normal_form.specs.Productions.{Production, Row}
-use Rattle.stage3_normal_form.specs.Unfolding.{_of_, concatenation, ByRow, by-epsilon, by-production, Unfolds, concatenation-append, concatenation-split, one-node, production-word}
+use Rattle.stage3_normal_form.specs.Unfolding.{_of_, concatenation, ByRow, by-epsilon, by-production, Unfolds, concatenation-append, concatenation-split, production-word, null-exact}
 
 -- The token c begins a word of L.
 abbrev pub Begins : Language → ℕ → Type 0
@@ -23,14 +23,14 @@ abbrev pub Follows : Language → ℕ → Type 0
 Follows L c = (x : List ℕ) × (v : List ℕ) × L x × L (x ++ (c ∷ v))
 
 -- No token may both follow a word of L and begin a word of M.
-abbrev pub Clear : Language → Language → Type 0
-Clear L M = (c : ℕ) → Follows L c → Begins M c → ⊥
+abbrev pub Separated : Language → Language → Type 0
+Separated L M = (c : ℕ) → Follows L c → Begins M c → ⊥
 
 module _ (N : ℕ → Language) where
-  -- Each node is clear of all that comes after it.
+  -- Each node is separated from all that come after it, taken together.
   abbrev pub Good : List ℕ → Type 0
   Good [] = Unit
-  Good (n ∷ β) = Clear (N n) (concatenation N β) × Good β
+  Good (n ∷ β) = Separated (N n) (concatenation N β) × Good β
 
   -- Each node has a word.
   abbrev pub HaveWords : List ℕ → Type 0
@@ -82,18 +82,22 @@ module _ (N : ℕ → Language) where
 
   follows-first : (n : ℕ) (α : List ℕ) (c : ℕ) → Follows (N n) c → concatenation N α [] → Follows (concatenation N (n ∷ α)) c
   follows-first n α c f e = (
-    f .0, f .1, (f .0, [], sym (append-nil (f .0)), f .2, e),
+    f .0,
+    f .1,
+    (f .0, [], sym (append-nil (f .0)), f .2, e),
     (f .0 ++ (c ∷ f .1), [], sym (append-nil (f .0 ++ (c ∷ f .1))), f .3, e),
   )
 
   follows-rest : (n : ℕ) (α : List ℕ) (c : ℕ) (w : List ℕ) → N n w → Follows (concatenation N α) c → Follows (concatenation N (n ∷ α)) c
   follows-rest n α c w h f = (
-    w ++ f .0, f .1, (w, f .0, refl, h, f .2),
+    w ++ f .0,
+    f .1,
+    (w, f .0, refl, h, f .2),
     (w, f .0 ++ (c ∷ f .1), append-assoc w (f .0) (c ∷ f .1), h, f .3),
   )
 
-  -- Two good lists make a good one if the first, taken together, is clear of the second, and its nodes have words.
-  pub good-append : (α β : List ℕ) → Good N α → HaveWords N α → Clear (concatenation N α) (concatenation N β) → Good N β → Good N (α ++ β)
+  -- Two good lists make a good one if the first, taken together, is separated from the second, and its nodes have words.
+  pub good-append : (α β : List ℕ) → Good N α → HaveWords N α → Separated (concatenation N α) (concatenation N β) → Good N β → Good N (α ++ β)
   good-append [] β g i k h = h
   good-append (n ∷ α) β g i k h = (
     (λ c f s. ⊎-elim (λ x. g .0 c f x) (λ x. k c (follows-first n α c f (x .0)) (x .1)) (begins-append α β c s)),
@@ -112,6 +116,11 @@ pub record Fits (N : ℕ → Language) (M : ℕ → Row) : Type 0 where
 abbrev pub Lacks : Row → ℕ → Type 0
 Lacks P t = (q : Production) → q of P → q .head ≡ t → ⊥
 
+-- Each row has ε.
+abbrev pub AllNullable : (ℕ → Row) → List ℕ → Type 0
+AllNullable M [] = Unit
+AllNullable M (n ∷ β) = ((M n) .empty ≡ true) × AllNullable M β
+
 module _ (N : ℕ → Language) (M : ℕ → Row) (fits : Fits N M) where
   production-of : (n t : ℕ) {x : List ℕ} (w : List ℕ) → x ≡ t ∷ w → ByRow N (M n) x
       → (q : Production) × (q of M n) × (q .head ≡ t) × concatenation N (q .tail) w
@@ -121,7 +130,9 @@ module _ (N : ℕ → Language) (M : ℕ → Row) (fits : Fits N M) where
 
   follows-tail : (n : ℕ) (q : Production) → q of M n → (c : ℕ) → Follows (concatenation N (q .tail)) c → Follows (N n) c
   follows-tail n q m c f = (
-    q .head ∷ f .0, f .1, production-word N (fits .unfolds n) q (f .0) m (f .2),
+    q .head ∷ f .0,
+    f .1,
+    production-word N (fits .unfolds n) q (f .0) m (f .2),
     production-word N (fits .unfolds n) q (f .0 ++ (c ∷ f .1)) m (f .3),
   )
 
@@ -157,20 +168,14 @@ module _ (N : ℕ → Language) (M : ℕ → Row) (fits : Fits N M) where
   pub taken-has-word : (n : ℕ) (β : List ℕ) (q : Production) → q of M n → Ready N (n ∷ β) → (w : List ℕ) × concatenation N (q .tail ++ β) w
   taken-has-word n β q m r = words-together N (q .tail ++ β) (have-words-append N (q .tail) β (fits .tail-words n q m) (r .1))
 
-  null-word : (n : ℕ) {w : List ℕ} → w ≡ [] → ByRow N (M n) w → T ((M n) .empty)
-  null-word n e (by-epsilon s) = s
-  null-word n e (by-production m c) = absurd (cons≢nil e)
-
   -- The ε flag is exact.
   pub nullable-exact : (n : ℕ) → N n [] ↔ ((M n) .empty ≡ true)
-  nullable-exact n = (
-    (λ h. holds-true ((M n) .empty) (null-word n refl ((fits .unfolds n []) .0 h))),
-    λ s. (fits .unfolds n []) .1 (by-epsilon (true-holds ((M n) .empty) s)),
-  )
+  nullable-exact n = null-exact N (fits .unfolds n)
 
   lacking : (n t : ℕ) (β : List ℕ) → Lacks (M n) t → (w : List ℕ) → concatenation N (n ∷ β) (t ∷ w) → N n [] × concatenation N β (t ∷ w)
   lacking n t β l w h =
-      ⊎-elim (λ x. let y = production-of n t (x .0) refl ((fits .unfolds n (t ∷ x .0)) .0 (x .1)) in absurd (l (y .0) (y .1) (y .2))) (λ x. x)
+      ⊎-elim (λ x. let y = production-of n t (x .0) refl ((fits .unfolds n (t ∷ x .0)) .0 (x .1)) in absurd (l (y .0) (y .1) (y .2)))
+      (λ x. x)
       (begins-where t w (h .0) (h .1) (N n) (concatenation N β) (h .2) (h .3) (h .4))
 
   -- None for t, and nullable: { w | t w ∈ F(n S) } = { w | t w ∈ F(S) }.
@@ -186,37 +191,33 @@ module _ (N : ℕ → Language) (M : ℕ → Row) (fits : Fits N M) where
   stop-words n t β l e w h = subst T e (true-holds ((M n) .empty) (nullable-exact n .0 (lacking n t β l w h .0)))
 
   -- At the end: all pending nodes are nullable iff they have the empty word together.
-  abbrev pub AllNullable : List ℕ → Type 0
-  AllNullable [] = Unit
-  AllNullable (n ∷ β) = ((M n) .empty ≡ true) × AllNullable β
-
-  pub end-exact : (β : List ℕ) → AllNullable β ↔ concatenation N β []
+  pub end-exact : (β : List ℕ) → AllNullable M β ↔ concatenation N β []
   end-exact [] = (λ t. refl, λ h. tt)
   end-exact (n ∷ β) = let r = end-exact β in (
     (λ t. ([], [], refl, nullable-exact n .1 (t .0), r .0 (t .1))),
     λ h. to r (h .0) (h .1) (h .2) (h .3) (h .4),
   )
     where
-      to : AllNullable β ↔ concatenation N β [] → (u v : List ℕ) → [] ≡ u ++ v → N n u → concatenation N β v → AllNullable (n ∷ β)
+      to : AllNullable M β ↔ concatenation N β [] → (u v : List ℕ) → [] ≡ u ++ v → N n u → concatenation N β v → AllNullable M (n ∷ β)
       to r [] v e p q = (nullable-exact n .0 p, r .1 (subst (concatenation N β) (sym e) q))
       to r (d ∷ u) v e p q = absurd (nil≢cons e)
 
 -- What a token does to the pending nodes: they are tried from the first; one with a production for it takes it, a nullable one
 -- without is dropped, any other, or none left, ends the run.
-pub data Fed (M : ℕ → Row) (t : ℕ) : List ℕ → Option (List ℕ) → Type 0 where
-  takes : {n : ℕ} {β : List ℕ} (q : Production) → q of M n → q .head ≡ t → Fed M t (n ∷ β) (some (q .tail ++ β))
-  drops : {n : ℕ} {β : List ℕ} {o : Option (List ℕ)} → Lacks (M n) t → (M n) .empty ≡ true → Fed M t β o → Fed M t (n ∷ β) o
-  stops : {n : ℕ} {β : List ℕ} → Lacks (M n) t → (M n) .empty ≡ false → Fed M t (n ∷ β) none
-  none-left : Fed M t [] none
+pub data TokenStep (M : ℕ → Row) (t : ℕ) : List ℕ → Option (List ℕ) → Type 0 where
+  takes : {n : ℕ} {β : List ℕ} (q : Production) → q of M n → q .head ≡ t → TokenStep M t (n ∷ β) (some (q .tail ++ β))
+  drops : {n : ℕ} {β : List ℕ} {o : Option (List ℕ)} → Lacks (M n) t → (M n) .empty ≡ true → TokenStep M t β o → TokenStep M t (n ∷ β) o
+  stops : {n : ℕ} {β : List ℕ} → Lacks (M n) t → (M n) .empty ≡ false → TokenStep M t (n ∷ β) none
+  none-left : TokenStep M t [] none
 
 -- What it then says of the words: those that go on with t, of which there is one, are the new list's; or none goes on with t.
-abbrev pub FedWords : (ℕ → Language) → ℕ → List ℕ → Option (List ℕ) → Type 0
-FedWords N t β none = (w : List ℕ) → concatenation N β (t ∷ w) → ⊥
-FedWords N t β (some α) =
-  Ready N α × ((w : List ℕ) → concatenation N β (t ∷ w) ↔ concatenation N α w) × ((w : List ℕ) × concatenation N β (t ∷ w))
+abbrev pub StepWords : (ℕ → Language) → ℕ → List ℕ → Option (List ℕ) → Type 0
+StepWords N t β none = (w : List ℕ) → concatenation N β (t ∷ w) → ⊥
+StepWords N t β (some α) =
+    Ready N α × ((w : List ℕ) → concatenation N β (t ∷ w) ↔ concatenation N α w) × ((w : List ℕ) × concatenation N β (t ∷ w))
 
 module _ (N : ℕ → Language) (M : ℕ → Row) (fits : Fits N M) where
-  dropped : (n t : ℕ) (β : List ℕ) → Lacks (M n) t → (M n) .empty ≡ true → (o : Option (List ℕ)) → FedWords N t β o → FedWords N t (n ∷ β) o
+  dropped : (n t : ℕ) (β : List ℕ) → Lacks (M n) t → (M n) .empty ≡ true → (o : Option (List ℕ)) → StepWords N t β o → StepWords N t (n ∷ β) o
   dropped n t β l e none f = λ w h. f w (drop-words N M fits n t β l e w .0 h)
   dropped n t β l e (some α) f = let d = drop-words N M fits n t β l e in (
     f .0,
@@ -224,27 +225,28 @@ module _ (N : ℕ → Language) (M : ℕ → Row) (fits : Fits N M) where
     (f .2 .0, d (f .2 .0) .1 (f .2 .1)),
   )
 
-  pub fed-words : {t : ℕ} {β : List ℕ} {o : Option (List ℕ)} → Fed M t β o → Ready N β → FedWords N t β o
-  fed-words (takes {n = n} {β = β} q m e) r =
+  pub step-words : {t : ℕ} {β : List ℕ} {o : Option (List ℕ)} → TokenStep M t β o → Ready N β → StepWords N t β o
+  step-words (takes {n = n} {β = β} q m e) r =
       let tw = rw e at (take-words N M fits n β q m (r .0)) in
       let x = taken-has-word N M fits n β q m r in
       (take-ready N M fits n β q m r, tw, (x .0, tw (x .0) .1 (x .1)))
-  fed-words {t} (drops {n = n} {β = β} {o = o} l e f) r = dropped n t β l e o (fed-words f (drop-ready N M fits n β r))
-  fed-words {t} (stops {n = n} {β = β} l e) r = stop-words N M fits n t β l e
-  fed-words none-left r = λ w h. cons≢nil h
+  step-words {t} (drops {n = n} {β = β} {o = o} l e f) r = dropped n t β l e o (step-words f (drop-ready N M fits n β r))
+  step-words {t} (stops {n = n} {β = β} l e) r = stop-words N M fits n t β l e
+  step-words none-left r = λ w h. cons≢nil h
 
--- A take removes at least one node and adds at most 31.
-abbrev pub GrowsBy30 : List ℕ → Option (List ℕ) → Type 0
-GrowsBy30 β none = Unit
-GrowsBy30 β (some α) = length α ≤ length β + 30
+-- A take removes at least one node and adds a tail: if tails have at most one member more than some number, the list grows by no
+-- more than that number.
+abbrev pub GrowsBy : ℕ → List ℕ → Option (List ℕ) → Type 0
+GrowsBy most β none = Unit
+GrowsBy most β (some α) = length α ≤ length β + most
 
-module _ (M : ℕ → Row) (short : (n : ℕ) (q : Production) → q of M n → length (q .tail) ≤ 31) where
-  grows-more : (n : ℕ) (β : List ℕ) (o : Option (List ℕ)) → GrowsBy30 β o → GrowsBy30 (n ∷ β) o
+module _ (most : ℕ) (M : ℕ → Row) (short : (n : ℕ) (q : Production) → q of M n → length (q .tail) ≤ suc most) where
+  grows-more : (n : ℕ) (β : List ℕ) (o : Option (List ℕ)) → GrowsBy most β o → GrowsBy most (n ∷ β) o
   grows-more n β none g = tt
   grows-more n β (some α) g = omega arith
 
-  pub fed-grows : {t : ℕ} {β : List ℕ} {o : Option (List ℕ)} → Fed M t β o → GrowsBy30 β o
-  fed-grows (takes {n = n} {β = β} q m e) = let a = short n q m in let b = length-append (q .tail) β in omega arith
-  fed-grows (drops {n = n} {β = β} {o = o} l e f) = grows-more n β o (fed-grows f)
-  fed-grows (stops l e) = tt
-  fed-grows none-left = tt
+  pub step-grows : {t : ℕ} {β : List ℕ} {o : Option (List ℕ)} → TokenStep M t β o → GrowsBy most β o
+  step-grows (takes {n = n} {β = β} q m e) = let a = short n q m in let b = length-append (q .tail) β in omega arith
+  step-grows (drops {n = n} {β = β} {o = o} l e f) = grows-more n β o (step-grows f)
+  step-grows (stops l e) = tt
+  step-grows none-left = tt

@@ -1,13 +1,13 @@
 -- Where the nodes of an expression stand in the list of all nodes, and a property of every node from its parts. What the
 -- nodes mean, their productions and their languages, is not spoken of here.
-use mathlib.Core.Path.{_≡_, refl, sym, ap, ap₂, subst, _∙_}
-use mathlib.Core.Bool.{Bool, true, false}
+use mathlib.Core.Path.{_≡_, refl, ap, ap₂, subst}
+use mathlib.Core.Bool.{Bool, false}
 use mathlib.Core.List.{List, [], _∷_, _++_, map}
-use mathlib.Core.Logic.{_⊎_, inl, inr, ⊎-elim}
+use mathlib.Core.Logic.{⊎-elim}
 use Prim.Native.Nat.{ℕ, zero, suc, _+_, _≤_, _<_}
 use native.Mathlib.Omega.{arith}
 use native.Mathlib.Nat.{add-zero}
-use lib.ListN.{getD, length, length-append, List·getD-map, List·getD-eq-default}
+use lib.ListN.{getD, length, length-append, List·getD-map}
 use Rattle.stage0_laws.specs.Order.{lt-or-le}
 use Rattle.stage1_sheet.specs.Expression.{Expression, epsilon, bottom, token, sequence, alternative, fixed-point, variable, size}
 use Rattle.stage2_types.specs.Types.{LanguageType, Context, all-usable, Usable, here, there}
@@ -22,7 +22,8 @@ pub segment-left {ℓ} : {A : Type ℓ} (table : ℕ → A) (p : ℕ) (xs ys : L
 segment-left table p [] ys h = tt
 segment-left table p (x ∷ xs) ys h = (h .0, segment-left table (suc p) xs ys (h .1))
 
-pub segment-right {ℓ} : {A : Type ℓ} (table : ℕ → A) (p : ℕ) (xs ys : List A) → Segment table p (xs ++ ys) → Segment table (p + length xs) ys
+pub segment-right {ℓ} : {A : Type ℓ} (table : ℕ → A) (p : ℕ) (xs ys : List A) → Segment table p (xs ++ ys)
+    → Segment table (p + length xs) ys
 segment-right table p [] ys h = rw add-zero h
 segment-right table p (x ∷ xs) ys h = subst (λ n. Segment table n ys) (omega arith) (segment-right table (suc p) xs ys (h .1))
 
@@ -51,9 +52,9 @@ Placed table epsilon p fs = table p ≡ epsilon-node
 Placed table bottom p fs = table p ≡ bottom-node
 Placed table (token k) p fs = table p ≡ token-node k
 Placed table (sequence g h) p fs =
-  (table p ≡ sequence-node (suc p) (suc p + size g)) × Placed table g (suc p) fs × Placed table h (suc p + size g) fs
+    (table p ≡ sequence-node (suc p) (suc p + size g)) × Placed table g (suc p) fs × Placed table h (suc p + size g) fs
 Placed table (alternative g h) p fs =
-  (table p ≡ alternative-node (suc p) (suc p + size g)) × Placed table g (suc p) fs × Placed table h (suc p + size g) fs
+    (table p ≡ alternative-node (suc p) (suc p + size g)) × Placed table g (suc p) fs × Placed table h (suc p + size g) fs
 Placed table (fixed-point g) p fs = (table p ≡ fixed-point-node (suc p)) × Placed table g (suc p) (p ∷ fs)
 Placed table (variable n) p fs = (guarded : Bool) × (table p ≡ variable-node (getD fs n 0) guarded)
 
@@ -127,7 +128,8 @@ module _ {ℓ} (P : ℕ → Type ℓ) where
       → ((n : ℕ) → suc p ≤ n → n < suc p + size g → P n)
       → ((n : ℕ) → suc p + size g ≤ n → n < suc p + size g + size h → P n) → P n
   at-parts g h p n l u x f k = ⊎-elim (λ a. subst P (omega arith) x)
-      (λ a. ⊎-elim (λ b. f n (omega arith) (omega arith)) (λ b. k n (omega arith) (omega arith)) (lt-or-le n (suc p + size g))) (lt-or-le n (suc p))
+      (λ a. ⊎-elim (λ b. f n (omega arith) (omega arith)) (λ b. k n (omega arith) (omega arith)) (lt-or-le n (suc p + size g)))
+      (lt-or-le n (suc p))
 
   everywhere-at : (g : Expression) (p : ℕ) → Everywhere P g p → (n : ℕ) → p ≤ n → n < p + size g → P n
   unfolding size

@@ -1,15 +1,15 @@
 -- The rows of a typed expression solve the page's equations, one a node, and are their only solution: a round for each node was
 -- enough. So "a variable gives its fixed point's productions", and likewise for the other nodes.
-use mathlib.Core.Path.{_≡_, refl, sym, ap, ap₂, subst, _∙_}
-use mathlib.Core.Bool.{Bool, true, false, _||_}
-use mathlib.Core.List.{List, [], _∷_, _++_, map}
-use Prim.Native.Nat.{ℕ, zero, suc, _+_, _≤_, _<_}
+use mathlib.Core.Path.{_≡_, refl, sym, ap, subst, _∙_}
+use mathlib.Core.Bool.{false}
+use mathlib.Core.List.{List, [], _∷_}
+use Prim.Native.Nat.{ℕ, zero, suc, _+_, _≤_}
 use native.Mathlib.Omega.{arith}
-use lib.ListN.{getD, length, replicate, length-map, length-replicate, List·getD-map, List·getD-eq-default}
-use Rattle.stage1_sheet.specs.Expression.{Expression, epsilon, bottom, token, sequence, alternative, fixed-point, variable, size}
-use Rattle.stage2_types.specs.Types.{LanguageType, Context, Usable, _⊢_∶_, type-epsilon, type-bottom, type-token, type-variable, type-sequence, type-alternative, type-fixed-point}
-use Rattle.stage2_types.specs.Nodes.{Node, epsilon-node, bottom-node, token-node, sequence-node, alternative-node, fixed-point-node, variable-node, nodes}
-use Rattle.stage3_normal_form.specs.Productions.{Production, Row, no-productions, ended-by, row-of, node-row, next-rows, rows-after, rows}
+use lib.ListN.{length, replicate, length-map, length-replicate, List·getD-map, List·getD-eq-default}
+use Rattle.stage1_sheet.specs.Expression.{Expression, size}
+use Rattle.stage2_types.specs.Types.{LanguageType, Context, _⊢_∶_, type-epsilon, type-bottom, type-token, type-variable, type-sequence, type-alternative, type-fixed-point}
+use Rattle.stage2_types.specs.Nodes.{Node, bottom-node, sequence-node, nodes}
+use Rattle.stage3_normal_form.specs.Productions.{Row, no-productions, row-of, node-row, next-rows, rows-after, rows}
 use Rattle.stage3_normal_form.specs.Places.{node-at, Placed, nodes-placed, nodes-count, everywhere-all, none-usable, list-path}
 use Rattle.stage3_normal_form.specs.Descent.{head-weight, weight-size, weight-parts, VariablesKeep, keep-in-body, bounded}
 
@@ -45,11 +45,9 @@ module _ (ns : List Node) (S S' : ℕ → List Row) (s : Rounds ns S) (s' : Roun
   agree-own (type-token c) p fs t m v k h = agree-step p t k (omega arith) (λ i e. refl)
   agree-own (type-variable {n = n} {a = a} u) p fs t m v k h = agree-step p (t .1) k (omega arith) (λ i e. v n a u i (omega arith))
   agree-own (type-sequence {g = g} d e q) p fs t m v k h = agree-step p (t .0) k (omega arith)
-      (λ i z. ap (λ (r : Row). record { empty = false; productions = map (ended-by (suc p + size g)) (r .productions) })
-      (agree-own d (suc p) fs (t .1) m v i (omega arith)))
+      (λ i z. rw (agree-own d (suc p) fs (t .1) m v i (omega arith)))
   agree-own (type-alternative {g = g} d e q) p fs t m v k h = agree-step p (t .0) k (omega arith)
-      (λ i z. ap₂ (λ (r r' : Row). record { empty = r .empty || r' .empty; productions = r .productions ++ r' .productions })
-      (agree-own d (suc p) fs (t .1) m v i (omega arith)) (agree-own e (suc p + size g) fs (t .2) m v i (omega arith)))
+      (λ i z. rw (agree-own d (suc p) fs (t .1) m v i (omega arith), agree-own e (suc p + size g) fs (t .2) m v i (omega arith)))
   agree-own (type-fixed-point {Γ = Γ} {a = a} d) p fs t m v k h = agree-step p (t .0) k (omega arith)
       (λ i z. agree-own d (suc p) (p ∷ fs) (t .1) m (keep-in-body AgreeFrom Γ fs m p a v) i (omega arith))
 
@@ -64,7 +62,7 @@ next-rows-length ns rs = length-map ns (node-row rs)
 
 pub rows-length : (e : Expression) → length (rows e) ≡ size e
 unfolding rows
-rows-length e = rows-after-length (length (nodes e)) (nodes e) ∙ nodes-count e
+rows-length e = rows-after-length _ (nodes e) ∙ nodes-count e
 
 rounds-follow : (ns : List Node) (k : ℕ) → rows-after (suc k) ns ≡ next-rows ns (rows-after k ns)
 unfolding rows-after
@@ -75,7 +73,8 @@ all-agree : {e : Expression} {a : LanguageType} → [] ⊢ e ∶ a → (S S' : �
     → ((k : ℕ) → length (S k) ≡ size e) → ((k : ℕ) → length (S' k) ≡ size e) → S (size e) ≡ S' (size e)
 all-agree {e = e} d S S' s s' l l' = list-path no-productions (S (size e)) (S' (size e)) (l (size e) ∙ sym (l' (size e)))
     (λ n. everywhere-all (AgreeFrom (nodes e) S S' s s' (size e)) e
-    (bounded (node-at (nodes e)) 1 (AgreeFrom (nodes e) S S' s s') (agree-later (nodes e) S S' s s') (λ Γ g b. agree-own (nodes e) S S' s s' {Γ = Γ} {g = g} {a = b})
+    (bounded (node-at (nodes e)) 1 (AgreeFrom (nodes e) S S' s s') (agree-later (nodes e) S S' s s')
+    (λ Γ g b. agree-own (nodes e) S S' s s' {Γ = Γ} {g = g} {a = b})
     d 0 [] (nodes-placed e) 0 0 (size e) (λ i b u. none-usable u) (λ i b u. none-usable u)
     (let w = weight-size e in omega arith) (let w = weight-size e in let x = weight-parts 1 e in omega arith))
     (λ i h k z. List·getD-eq-default (S k) no-productions (rw (l k) h) ∙ sym (List·getD-eq-default (S' k) no-productions (rw (l' k) h)))
@@ -84,7 +83,7 @@ all-agree {e = e} d S S' s s' l l' = list-path no-productions (S (size e)) (S' (
 -- The rows solve all equations.
 pub rows-solve : {e : Expression} {a : LanguageType} → [] ⊢ e ∶ a → rows e ≡ next-rows (nodes e) (rows e)
 unfolding rows
-rows-solve {e = e} d = rw (nodes-count e)
+rows-solve {e = e} d = subst (λ (k : ℕ). rows-after k (nodes e) ≡ next-rows (nodes e) (rows-after k (nodes e))) (sym (nodes-count e))
     (all-agree d (λ k. rows-after k (nodes e)) (λ k. next-rows (nodes e) (rows-after k (nodes e)))
     (rounds-follow (nodes e)) (λ k. ap (next-rows (nodes e)) (rounds-follow (nodes e) k))
     (λ k. rows-after-length k (nodes e) ∙ nodes-count e)
@@ -93,7 +92,7 @@ rows-solve {e = e} d = rw (nodes-count e)
 -- Nothing else does.
 pub rows-only : {e : Expression} {a : LanguageType} → [] ⊢ e ∶ a → (rs : List Row) → rs ≡ next-rows (nodes e) rs → rs ≡ rows e
 unfolding rows
-rows-only {e = e} d rs h = rw (nodes-count e)
+rows-only {e = e} d rs h = subst (λ (k : ℕ). rs ≡ rows-after k (nodes e)) (sym (nodes-count e))
     (all-agree d (λ k. rs) (λ k. rows-after k (nodes e)) (λ k. h) (rounds-follow (nodes e))
     (λ k. ap length h ∙ (next-rows-length (nodes e) rs ∙ nodes-count e)) (λ k. rows-after-length k (nodes e) ∙ nodes-count e))
 

@@ -1,23 +1,24 @@
 -- The rows of a typed expression, before any production goes: each unfolds its node's language in one step, begins with tokens of
 -- FIRST, each token once, and its tails are good as far as their nodes have words.
-use mathlib.Core.Path.{_≡_, refl, sym, ap, subst, _∙_}
+use mathlib.Core.Path.{_≡_, sym, ap, subst, _∙_}
 use mathlib.Core.Bool.{Bool, true, false, true≢false}
-use mathlib.Core.List.{List, [], _∷_, _++_, map, List·Memᴰ, List·Memᴰ·not-nil, List·Memᴰ·eq-of-singleton, List·Memᴰ·append-cases, Memᴰ·of-map}
-use mathlib.Core.Logic.{_⊎_, inl, inr, _↔_, ⊎-elim}
-use Prim.Native.Nat.{ℕ, zero, suc, _+_, _≤_, _^_}
+use mathlib.Core.List.{List, [], _∷_, _++_, List·Memᴰ·not-nil, List·Memᴰ·eq-of-singleton, List·Memᴰ·append-cases, Memᴰ·of-map}
+use mathlib.Core.Logic.{_↔_, ⊎-elim}
+use Prim.Native.Nat.{ℕ, suc, _+_, _≤_, _^_}
 use lib.ListN.{getD, List·getD-eq-default}
 use Rattle.stage0_laws.specs.Bits.{_∈_}
 use Rattle.stage0_laws.specs.BitLaws.{∈-left, ∈-right, ∈-self, ∈-disjoint}
-use Rattle.stage1_sheet.specs.Expression.{Expression, epsilon, bottom, token, sequence, alternative, fixed-point, variable, size}
+use Rattle.stage1_sheet.specs.Expression.{Expression, fixed-point, size}
 use Rattle.stage2_types.specs.Denotation.{Language, followed-by, either, Environment, denotation}
-use Rattle.stage2_types.specs.Types.{LanguageType, if-null, epsilon-type, bottom-type, token-type, sequence-type, alternative-type, Separable, Apart, Context, all-usable, Usable, there, _⊢_∶_, type-epsilon, type-bottom, type-token, type-variable, type-sequence, type-alternative, type-fixed-point}
+use Rattle.stage2_types.specs.Types.{LanguageType, if-null, epsilon-type, bottom-type, token-type, sequence-type, alternative-type, Separable, Apart, Context, Usable, there, _⊢_∶_, type-epsilon, type-bottom, type-token, type-variable, type-sequence, type-alternative, type-fixed-point}
 use Rattle.stage2_types.specs.Soundness.{Satisfies}
-use Rattle.stage2_types.specs.Nodes.{Node, bottom-node, nodes}
+use Rattle.stage2_types.specs.Nodes.{Node, nodes}
 use Rattle.stage3_normal_form.specs.Productions.{Production, Row, no-productions, ended-by, row-of, node-row, rows}
 use Rattle.stage3_normal_form.specs.Places.{node-at}
+use Rattle.stage3_normal_form.specs.DistinctHeads.{DistinctHeads, distinct-append, distinct-ended}
 use Rattle.stage3_normal_form.specs.RowEquations.{row-solves, rows-length}
 use Rattle.stage3_normal_form.specs.NodeLanguages.{language-of, languages-past, node-language, Site, at-left, at-right, at-first, at-second, at-body, site-sound, site-equation, at-every-node}
-use Rattle.stage3_normal_form.specs.Unfolding.{epsilon-row, token-row, sequence-row, alternative-row, _of_, concatenation, Unfolds, one-node, epsilon-unfolds, bottom-unfolds, token-unfolds, sequence-unfolds, alternative-unfolds, production-word}
+use Rattle.stage3_normal_form.specs.Unfolding.{token-row, sequence-row, alternative-row, _of_, Unfolds, one-node, epsilon-unfolds, bottom-unfolds, token-unfolds, sequence-unfolds, alternative-unfolds, production-word, null-exact}
 use Rattle.stage3_normal_form.specs.Pending.{Good, HaveWords, good-append, good-one, have-words-left}
 
 module _ (N : ℕ → Language) where
@@ -25,7 +26,7 @@ module _ (N : ℕ → Language) where
   pub record RowFits (L : Language) (P : Row) (a : LanguageType) : Type 0 where
     pub unfolds : Unfolds N L P
     pub heads : (q : Production) → q of P → q .head ∈ a .first
-    pub one-each : (q r : Production) → q of P → r of P → q .head ≡ r .head → q ≡ r
+    pub distinct : DistinctHeads (P .productions)
     pub tail-good : (q : Production) → q of P → HaveWords N (q .tail) → Good N (q .tail)
 
   without-productions : (L : Language) (empty : Bool) (a : LanguageType) → Unfolds N L (record { empty = empty; productions = [] })
@@ -33,7 +34,7 @@ module _ (N : ℕ → Language) where
   without-productions L empty a u = record {
     unfolds = u;
     heads = λ q m. absurd (List·Memᴰ·not-nil m);
-    one-each = λ q r m n e. absurd (List·Memᴰ·not-nil m);
+    distinct = tt;
     tail-good = λ q m i. absurd (List·Memᴰ·not-nil m);
   }
 
@@ -42,7 +43,7 @@ module _ (N : ℕ → Language) where
   token-fits t L f = record {
     unfolds = token-unfolds N t L f;
     heads = λ q m. subst (λ (z : Production). z .head ∈ 2 ^ t) (sym (List·Memᴰ·eq-of-singleton m)) (∈-self t);
-    one-each = λ q r m n e. List·Memᴰ·eq-of-singleton m ∙ sym (List·Memᴰ·eq-of-singleton n);
+    distinct = (λ r m e. List·Memᴰ·not-nil m, tt);
     tail-good = λ q m i. subst (λ (z : Production). Good N (z .tail)) (sym (List·Memᴰ·eq-of-singleton m)) tt;
   }
 
@@ -54,34 +55,24 @@ module _ (N : ℕ → Language) where
     unfolds = alternative-unfolds N L L₁ L₂ P Q f (x .unfolds) (y .unfolds);
     heads = λ q m. ⊎-elim (λ l. ∈-left (a .first) (b .first) (q .head) (x .heads q l))
         (λ r. ∈-right (a .first) (b .first) (q .head) (y .heads q r)) (List·Memᴰ·append-cases (P .productions) m);
-    one-each = λ q r m n e. same q r e (List·Memᴰ·append-cases (P .productions) m) (List·Memᴰ·append-cases (P .productions) n);
+    distinct = distinct-append (P .productions) (Q .productions) (x .distinct) (y .distinct) both;
     tail-good = λ q m i. ⊎-elim (λ l. x .tail-good q l i) (λ r. y .tail-good q r i) (List·Memᴰ·append-cases (P .productions) m);
   }
     where
-      both : (q r : Production) → q .head ≡ r .head → q of P → r of Q → ⊥
-      both q r e m n = ∈-disjoint (a .first) (b .first) (q .head) (k .disjoint) (x .heads q m)
+      both : (q r : Production) → q of P → r of Q → q .head ≡ r .head → ⊥
+      both q r m n e = ∈-disjoint (a .first) (b .first) (q .head) (k .disjoint) (x .heads q m)
           (subst (λ (t : ℕ). t ∈ b .first) (sym e) (y .heads r n))
 
-      same : (q r : Production) → q .head ≡ r .head → (q of P) ⊎ (q of Q) → (r of P) ⊎ (r of Q) → q ≡ r
-      same q r e (inl m) (inl n) = x .one-each q r m n e
-      same q r e (inl m) (inr n) = absurd (both q r e m n)
-      same q r e (inr m) (inl n) = absurd (both r q (sym e) n m)
-      same q r e (inr m) (inr n) = y .one-each q r m n e
-
-  -- The right node comes at the end of each tail; it stays clear of what may follow the left part's words.
+  -- The right node comes at the end of each tail: separable types keep it apart from what may follow the left part's words.
   sequence-fits : (L L₁ : Language) (n : ℕ) (P : Row) (a b : LanguageType) → ((w : List ℕ) → L w ↔ followed-by L₁ (N n) w)
       → RowFits L₁ P a → Satisfies L₁ a → Satisfies (N n) b → Separable a b → RowFits L (sequence-row n P) (sequence-type a b)
   unfolding sequence-type ended-by
   sequence-fits L L₁ n P a b f x s s' k = record {
     unfolds = sequence-unfolds N L L₁ n P f (λ h. true≢false (sym (s .null-holds h) ∙ k .not-null)) (x .unfolds);
     heads = λ q m. let o = Memᴰ·of-map (ended-by n) (P .productions) m in
-        ∈-left (a .first) (if-null (a .null) (b .first)) (q .head) (subst (λ (z : Production). z .head ∈ a .first) (o .2) (x .heads (o .0) (o .1)));
-    one-each = λ q r m m' e.
-        let o = Memᴰ·of-map (ended-by n) (P .productions) m in
-        let o' = Memᴰ·of-map (ended-by n) (P .productions) m' in
-        let same = x .one-each (o .0) (o' .0) (o .1) (o' .1)
-            (ap (λ (z : Production). z .head) (o .2) ∙ (e ∙ ap (λ (z : Production). z .head) (sym (o' .2)))) in
-        sym (o .2) ∙ (ap (ended-by n) same ∙ o' .2);
+        ∈-left (a .first) (if-null (a .null) (b .first)) (q .head)
+        (subst (λ (z : Production). z .head ∈ a .first) (o .2) (x .heads (o .0) (o .1)));
+    distinct = distinct-ended n (P .productions) (x .distinct);
     tail-good = λ q m i. let o = Memᴰ·of-map (ended-by n) (P .productions) m in
         subst (λ (z : Production). Good N (z .tail)) (o .2)
         (longer (o .0) (o .1) (have-words-left N (o .0 .tail) (n ∷ []) (subst (λ (z : Production). HaveWords N (z .tail)) (sym (o .2)) i)));
@@ -97,7 +88,9 @@ module _ (N : ℕ → Language) where
   same-fits : (L M : Language) (P : Row) (a : LanguageType) → ((w : List ℕ) → L w ↔ M w) → RowFits M P a → RowFits L P a
   same-fits L M P a f x = record {
     unfolds = λ w. (λ h. x .unfolds w .0 (f w .0 h), λ h. f w .1 (x .unfolds w .1 h));
-    heads = x .heads; one-each = x .one-each; tail-good = x .tail-good;
+    heads = x .heads;
+    distinct = x .distinct;
+    tail-good = x .tail-good;
   }
 
 -- Over the nodes of a whole expression, whose rows solve the equations.
@@ -123,7 +116,8 @@ module _ (N : ℕ → Language) (table : ℕ → Node) (rs : List Row) (solves :
   node-fits (type-sequence {g = g} {a = a} {b = b} d e q) γ p fs s k =
       let x : FitsAt a (suc p) = node-fits d γ (suc p) fs (at-left s) k in
       by-kind (s .placed .0) (site-equation N table (type-sequence d e q) γ p fs s)
-      (λ f. sequence-fits N (N p) (N (suc p)) (suc p + size g) (row-of rs (suc p)) a b f x (site-sound d (at-left s)) (site-sound e (at-right s)) q)
+      (λ f. sequence-fits N (N p) (N (suc p)) (suc p + size g) (row-of rs (suc p)) a b f x
+      (site-sound d (at-left s)) (site-sound e (at-right s)) q)
   node-fits (type-alternative {g = g} {a = a} {b = b} d e q) γ p fs s k =
       let x : FitsAt a (suc p) = node-fits d γ (suc p) fs (at-first s) k in
       let y : FitsAt b (suc p + size g) = node-fits e γ (suc p + size g) fs (at-second s) k in
@@ -152,3 +146,11 @@ row-fits {e} d = at-every-node d (FitsAt (language-of e) (node-at (nodes e)) (ro
 -- w is in L(n) iff w is empty and the row has ε, or w is t w' with a production t β of the row and w' in F(β).
 pub rows-unfold : {e : Expression} {a : LanguageType} → [] ⊢ e ∶ a → (n : ℕ) → Unfolds (language-of e) (language-of e n) (row-of (rows e) n)
 rows-unfold d n = (row-fits d n .1) .unfolds
+
+-- The ε flag is exact.
+pub rows-null : {e : Expression} {a : LanguageType} → [] ⊢ e ∶ a → (n : ℕ) → language-of e n [] ↔ ((row-of (rows e) n) .empty ≡ true)
+rows-null {e} d n = null-exact (language-of e) (rows-unfold d n)
+
+-- At most one production a token.
+pub rows-distinct : {e : Expression} {a : LanguageType} → [] ⊢ e ∶ a → (n : ℕ) → DistinctHeads ((row-of (rows e) n) .productions)
+rows-distinct d n = (row-fits d n .1) .distinct

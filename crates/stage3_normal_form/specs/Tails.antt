@@ -1,24 +1,25 @@
 -- Tails: their members are nodes of the expression, and at a typed one a tail is no longer than the number of sequence nodes, so at
 -- most 31. Heads are tokens of the sheet.
 use mathlib.Core.Path.{_≡_, refl, sym, ap, subst, _∙_}
-use mathlib.Core.Bool.{Bool, true, false}
-use mathlib.Core.List.{List, [], _∷_, _++_, map, List·Memᴰ, List·Memᴰ·not-nil, List·Memᴰ·eq-of-singleton, List·Memᴰ·append-cases, Memᴰ·of-map}
-use mathlib.Core.Logic.{_⊎_, inl, inr, ⊎-elim}
+use mathlib.Core.List.{List, [], _∷_, _++_, List·Memᴰ·not-nil, List·Memᴰ·eq-of-singleton, List·Memᴰ·append-cases, Memᴰ·of-map}
+use mathlib.Core.Option.{Option}
+use mathlib.Core.Logic.{⊎-elim}
 use Prim.Native.Nat.{ℕ, zero, suc, _+_, _≤_, _<_}
 use native.Mathlib.Omega.{arith}
-use lib.ListN.{getD, length, length-append, replicate, List·getD-eq-default}
+use lib.ListN.{length, length-append, replicate, List·getD-eq-default}
 use Rattle.stage0_laws.specs.Lists.{All}
 use Rattle.stage1_sheet.specs.Expression.{Expression, epsilon, bottom, token, sequence, alternative, fixed-point, variable, size}
 use Rattle.stage1_sheet.specs.Limits.{most-expression-nodes}
 use Rattle.stage1_sheet.specs.WellFormed.{Closed}
-use Rattle.stage2_types.specs.Types.{LanguageType, Context, Usable, _⊢_∶_, type-epsilon, type-bottom, type-token, type-variable, type-sequence, type-alternative, type-fixed-point}
+use Rattle.stage2_types.specs.Types.{LanguageType, Context, _⊢_∶_, type-epsilon, type-bottom, type-token, type-variable, type-sequence, type-alternative, type-fixed-point}
 use Rattle.stage2_types.specs.Nodes.{Node, epsilon-node, bottom-node, token-node, sequence-node, alternative-node, fixed-point-node, variable-node, nodes}
-use Rattle.stage3_normal_form.specs.Productions.{Production, Row, no-productions, ended-by, row-of, node-row, next-rows, rows-after, rows}
+use Rattle.stage3_normal_form.specs.Productions.{Production, Row, no-productions, ended-by, row-of, node-row, rows-after, rows}
 use Rattle.stage3_normal_form.specs.NormalForm.{normal-form}
 use Rattle.stage3_normal_form.specs.Places.{node-at, nodes-count, Placed, nodes-placed, Everywhere, everywhere-all, none-usable}
 use Rattle.stage3_normal_form.specs.Descent.{weight, head-weight, weight-parts, VariablesKeep, keep-in-body, bounded}
 use Rattle.stage3_normal_form.specs.RowEquations.{next-at, row-solves, rows-length}
 use Rattle.stage3_normal_form.specs.Unfolding.{_of_}
+use Rattle.stage3_normal_form.specs.Pending.{TokenStep, GrowsBy, step-grows}
 use Rattle.stage3_normal_form.specs.NormalFormLaws.{kept-production}
 
 -- The sequence nodes of an expression.
@@ -84,17 +85,29 @@ module _ (table : ℕ → Node) (rs : List Row) (solves : (n : ℕ) → row-of r
 pub tails-short : {e : Expression} {a : LanguageType} → [] ⊢ e ∶ a → (n : ℕ) (q : Production) → q of row-of (rows e) n
     → length (q .tail) ≤ sequence-count e
 tails-short {e} d = everywhere-all (ShortAt (node-at (nodes e)) (rows e) (row-solves d) (sequence-count e)) e
-    (bounded (node-at (nodes e)) 0 (ShortAt (node-at (nodes e)) (rows e) (row-solves d)) (longer-bound (node-at (nodes e)) (rows e) (row-solves d))
+    (bounded (node-at (nodes e)) 0 (ShortAt (node-at (nodes e)) (rows e) (row-solves d))
+    (longer-bound (node-at (nodes e)) (rows e) (row-solves d))
     (λ Γ g b. own-short (node-at (nodes e)) (rows e) (row-solves d) {Γ = Γ} {g = g} {a = b})
     d 0 [] (nodes-placed e) 0 0 (sequence-count e) (λ i b u. none-usable u) (λ i b u. none-usable u)
     (omega arith) (let w = weight-parts 0 e in omega arith))
     (λ n h q x. absurd (List·Memᴰ·not-nil (rw (List·getD-eq-default (rows e) no-productions {n = n} (rw (rows-length e) h)) at x)))
 
 -- ".. so at most 31."
-pub tails-at-most-31 : {e : Expression} {a : LanguageType} → [] ⊢ e ∶ a → size e ≤ most-expression-nodes
-    → (n : ℕ) (q : Production) → q of row-of (normal-form e) n → length (q .tail) ≤ 31
-tails-at-most-31 {e} d h n q m =
+abbrev pub most-tail : ℕ
+most-tail = 31
+
+pub tails-at-most : {e : Expression} {a : LanguageType} → [] ⊢ e ∶ a → size e ≤ most-expression-nodes
+    → (n : ℕ) (q : Production) → q of row-of (normal-form e) n → length (q .tail) ≤ most-tail
+tails-at-most {e} d h n q m =
     let a = tails-short d n q (kept-production e n q m .0) in let b = sequence-count-bound e in omega arith
+
+-- So a take adds at most 30 pending nodes, and there are never more than 1 + 30 for each taken token.
+abbrev pub most-growth : ℕ
+most-growth = 30
+
+pub pending-grows : {e : Expression} {a : LanguageType} → [] ⊢ e ∶ a → size e ≤ most-expression-nodes
+    → {t : ℕ} {β : List ℕ} {o : Option (List ℕ)} → TokenStep (row-of (normal-form e)) t β o → GrowsBy most-growth β o
+pending-grows {e} d h = step-grows most-growth (row-of (normal-form e)) (tails-at-most d h)
 
 -- What every production has if tokens give it and sequence nodes keep it.
 module _ (ns : List Node) (Q : Production → Type 0)
@@ -138,7 +151,8 @@ module _ (table : ℕ → Node) (tokens count : ℕ) where
   abbrev InRangeAt : ℕ → Type 0
   InRangeAt n = InRange tokens count (table n)
 
-  in-range : (g : Expression) (opened p : ℕ) (fs : List ℕ) → Placed table g p fs → Closed tokens opened g → p + size g ≤ count → Everywhere InRangeAt g p
+  in-range : (g : Expression) (opened p : ℕ) (fs : List ℕ) → Placed table g p fs → Closed tokens opened g → p + size g ≤ count
+      → Everywhere InRangeAt g p
   unfolding size
   in-range epsilon opened p fs t c h = rw t tt
   in-range bottom opened p fs t c h = rw t tt
@@ -181,7 +195,10 @@ productions-in-range e tokens c = every-production (nodes e) (ProductionInRange 
     by-sequence : (n l r : ℕ) → node-at (nodes e) n ≡ sequence-node l r → (q : Production) → ProductionInRange tokens (size e) q
         → ProductionInRange tokens (size e) (ended-by r q)
     by-sequence n l r h q x = unfold ended-by in
-        record { head-below = x .head-below; tail-below = all-end (λ i. i < size e) (q .tail) r (x .tail-below) (rw h at (nodes-in-range e tokens c n)) }
+        record {
+          head-below = x .head-below;
+          tail-below = all-end (λ i. i < size e) (q .tail) r (x .tail-below) (rw h at (nodes-in-range e tokens c n));
+        }
 
 pub normal-form-in-range : (e : Expression) (tokens : ℕ) → Closed tokens 0 e
     → (n : ℕ) (q : Production) → q of row-of (normal-form e) n → ProductionInRange tokens (size e) q

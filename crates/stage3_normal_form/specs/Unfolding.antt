@@ -1,12 +1,12 @@
 -- The words of a list of nodes, and of a row of productions; and how a row's words come from those of the rows that it is made of.
 -- That the rows of a typed expression unfold its languages is said elsewhere.
 use mathlib.Core.Path.{_≡_, refl, sym, ap, ap₂, subst, _∙_}
-use mathlib.Core.Bool.{Bool, true, false, _||_}
-use mathlib.Core.List.{List, [], _∷_, _++_, map, append-nil, append-assoc, List·Memᴰ, List·Memᴰ·head, List·Memᴰ·not-nil, List·Memᴰ·eq-of-singleton, List·Memᴰ·append-cases, Memᴰ·append-left, Memᴰ·append-right, Memᴰ·map, Memᴰ·of-map}
-use mathlib.Core.Logic.{_⊎_, inl, inr, _↔_, ⊎-elim, ⊎-map}
+use mathlib.Core.Bool.{true, false, _||_}
+use mathlib.Core.List.{List, [], _∷_, _++_, map, append-nil, append-assoc, cons≢nil, List·Memᴰ, List·Memᴰ·head, List·Memᴰ·not-nil, List·Memᴰ·eq-of-singleton, List·Memᴰ·append-cases, Memᴰ·append-left, Memᴰ·append-right, Memᴰ·map, Memᴰ·of-map}
+use mathlib.Core.Logic.{_⊎_, _↔_, ⊎-elim, ⊎-map}
 use Prim.Native.Nat.{ℕ}
 use lib.Dec.{T}
-use Rattle.stage0_laws.specs.Truth.{or-left, or-right, or-cases}
+use Rattle.stage0_laws.specs.Truth.{or-left, or-right, or-cases, holds-true, true-holds}
 use Rattle.stage2_types.specs.Denotation.{Language, followed-by, either}
 use Rattle.stage3_normal_form.specs.Productions.{Production, Row, no-productions, ended-by}
 
@@ -28,7 +28,6 @@ abbrev pub _of_ : Production → Row → Type 0
 _of_ q P = List·Memᴰ q (P .productions)
 
 infix 30 _of_
-
 module _ (N : ℕ → Language) where
   -- F(S): the concatenation of the languages of the nodes S.
   abbrev pub concatenation : List ℕ → Language
@@ -50,9 +49,13 @@ module _ (N : ℕ → Language) where
 
   pub concatenation-split : (α β : List ℕ) (w : List ℕ) → concatenation (α ++ β) w → followed-by (concatenation α) (concatenation β) w
   concatenation-split [] β w x = ([], w, refl, refl, x)
-  concatenation-split (n ∷ α) β w x = let y = concatenation-split α β (x .1) (x .4) in
-      (x .0 ++ y .0, y .1, x .2 ∙ (ap (λ (z : List ℕ). x .0 ++ z) (y .2) ∙ sym (append-assoc (x .0) (y .0) (y .1))),
-      (x .0, y .0, refl, x .3, y .3), y .4)
+  concatenation-split (n ∷ α) β w x = let y = concatenation-split α β (x .1) (x .4) in (
+    x .0 ++ y .0,
+    y .1,
+    x .2 ∙ (ap (λ (z : List ℕ). x .0 ++ z) (y .2) ∙ sym (append-assoc (x .0) (y .0) (y .1))),
+    (x .0, y .0, refl, x .3, y .3),
+    y .4,
+  )
 
   pub one-node : (n : ℕ) (w : List ℕ) → concatenation (n ∷ []) w ↔ N n w
   one-node n w = (
@@ -118,9 +121,13 @@ module _ (N : ℕ → Language) where
       let o = Memᴰ·of-map (ended-by n) (P .productions) m in
       let r = o .0 in
       let c' : concatenation (r .tail ++ (n ∷ [])) w = subst (λ (k : Production). concatenation (k .tail) w) (sym (o .2)) c in
-      let y = concatenation-split (r .tail) (n ∷ []) w c' in
-      (r .head ∷ y .0, y .1, ap₂ (λ (h : ℕ) (t : List ℕ). h ∷ t) (ap (λ (k : Production). k .head) (sym (o .2))) (y .2),
-      by-production (o .1) (y .3), one-node n (y .1) .0 (y .4))
+      let y = concatenation-split (r .tail) (n ∷ []) w c' in (
+        r .head ∷ y .0,
+        y .1,
+        ap₂ (λ (h : ℕ) (t : List ℕ). h ∷ t) (ap (λ (k : Production). k .head) (sym (o .2))) (y .2),
+        by-production (o .1) (y .3),
+        one-node n (y .1) .0 (y .4),
+      )
 
   pub sequence-unfolds : (L L₁ : Language) (n : ℕ) (P : Row) → ((w : List ℕ) → L w ↔ followed-by L₁ (N n) w) → (L₁ [] → ⊥) → Unfolds L₁ P
       → Unfolds L (sequence-row n P)
@@ -130,6 +137,17 @@ module _ (N : ℕ → Language) where
     λ h. let y = sequence-words n P h in f w .1 (y .0, y .1, y .2, x (y .0) .1 (y .3), y .4),
   )
 
-  -- Words of the rows and of the languages, taken apart.
-  pub production-word : {L : Language} {P : Row} → Unfolds L P → (q : Production) (w : List ℕ) → q of P → concatenation (q .tail) w → L (q .head ∷ w)
+  null-word : {P : Row} {w : List ℕ} → w ≡ [] → ByRow P w → T (P .empty)
+  null-word e (by-epsilon s) = s
+  null-word e (by-production m c) = absurd (cons≢nil e)
+
+  -- The ε flag is exact.
+  pub null-exact : {L : Language} {P : Row} → Unfolds L P → L [] ↔ (P .empty ≡ true)
+  null-exact {L} {P} u = (
+    (λ h. holds-true (P .empty) (null-word refl (u [] .0 h))),
+    λ s. u [] .1 (by-epsilon (true-holds (P .empty) s)),
+  )
+
+  pub production-word : {L : Language} {P : Row} → Unfolds L P → (q : Production) (w : List ℕ) → q of P → concatenation (q .tail) w
+      → L (q .head ∷ w)
   production-word u q w m c = u (q .head ∷ w) .1 (by-production m c)

@@ -18,8 +18,9 @@ use Rattle.stage4_lexer.specs.Match.{Match, no-match, matched, longer}
 use Rattle.stage4_lexer.specs.Walk.{keep, follows, ended, walk, longest-match}
 use Rattle.stage4_lexer.specs.EmptyWord.{none-empty}
 use Rattle.stage4_lexer.specs.Chains.{after-end}
-use Rattle.stage4_lexer.specs.PositionList.{PositionFrom, first-place, later-place, PositionAt, Takes}
-use Rattle.stage4_lexer.specs.WalkLaws.{EndsRule, LeastOf, least-iff, ended-least, of-positions, Matches, one-step, more-steps}
+use Rattle.stage4_lexer.specs.PositionList.{PositionAt, all-at, Takes}
+use Rattle.stage4_lexer.specs.Least.{LeastOf, least-iff}
+use Rattle.stage4_lexer.specs.WalkLaws.{EndsRule, ended-least, of-positions, Matches, one-step, more-steps}
 use Rattle.stage4_lexer.specs.WalkLaws.{matches-right}
 
 -- `P k n` says that the front of n bytes is a match of rule k.
@@ -106,10 +107,6 @@ pub match-within : (ps : List Position) (first : ℕ) (text : List ℕ) (k n : �
 match-within ps first text k n e =
     let h = subst (Best (λ j m. Matches ps first j (take m text)) (length text)) e (match-best ps first text) in
     (h .0, h .1, matches-rule ps first k (take n text) (h .2))
-
-all-at : {ps : List Position} {i j : ℕ} {p : Position} (Q : Position → Type 0) → All Q ps → PositionFrom ps i j p → Q p
-all-at Q a first-place = a .0
-all-at Q a (later-place t) = all-at Q (a .1) t
 
 pub match-rule-below : (ps : List Position) (bound : ℕ) → All (λ p. p .rule < bound) ps → (first : ℕ) (text : List ℕ) (k n : ℕ)
     → longest-match ps first text ≡ matched k n → k < bound

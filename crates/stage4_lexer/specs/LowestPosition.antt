@@ -15,20 +15,20 @@ use Rattle.stage4_lexer.specs.Positions.{Position}
 use Rattle.stage4_lexer.specs.Match.{Match, longer}
 use Rattle.stage4_lexer.specs.Walk.{has-byte, keep, follows, lower, ended, walk}
 use Rattle.stage4_lexer.specs.PositionList.{PositionFrom, first-place, later-place, place-within}
-use Rattle.stage4_lexer.specs.WalkLaws.{EndsRule, LeastOf, least-one, ended-least}
+use Rattle.stage4_lexer.specs.Least.{LeastOf, least-one}
+use Rattle.stage4_lexer.specs.WalkLaws.{EndsRule, ended-least}
 use Rattle.stage4_lexer.specs.PositionBounds.{NeverFalling}
 
-pub falling-low : {ps : List Position} {i j : ℕ} {p : Position} (low : ℕ) → NeverFalling low ps → PositionFrom ps i j p → low ≤ p .rule
-falling-low low f first-place = f .0
-falling-low low f (later-place {q = q} t) = let h = falling-low (q .rule) (f .1) t in omega (arith, f .0)
+pub rising-low : {ps : List Position} {i j : ℕ} {p : Position} (low : ℕ) → NeverFalling low ps → PositionFrom ps i j p → low ≤ p .rule
+rising-low low f first-place = f .0
+rising-low low f (later-place {q = q} t) = let h = rising-low (q .rule) (f .1) t in omega (arith, f .0)
 
-pub falling-order : {ps : List Position} {i j l : ℕ} {p q : Position} (low : ℕ) → NeverFalling low ps → PositionFrom ps i j p
-    → PositionFrom ps i l q
-    → j ≤ l → p .rule ≤ q .rule
-falling-order low f first-place first-place h = omega arith
-falling-order low f (first-place {p = p}) (later-place u) h = falling-low (p .rule) (f .1) u
-falling-order low f (later-place t) first-place h = let w = place-within t in absurd (omega arith)
-falling-order low f (later-place {q = q} t) (later-place u) h = falling-order (q .rule) (f .1) t u h
+pub rising-order : {ps : List Position} {i j l : ℕ} {p q : Position} (low : ℕ) → NeverFalling low ps → PositionFrom ps i j p
+    → PositionFrom ps i l q → j ≤ l → p .rule ≤ q .rule
+rising-order low f first-place first-place h = omega arith
+rising-order low f (first-place {p = p}) (later-place u) h = rising-low (p .rule) (f .1) u
+rising-order low f (later-place t) first-place h = let w = place-within t in absurd (omega arith)
+rising-order low f (later-place {q = q} t) (later-place u) h = rising-order (q .rule) (f .1) t u h
 
 -- The rule of the first kept position, from position i on, that is last.
 unfoldable pub first-ended : List Position → ℕ → ℕ → Option ℕ
@@ -40,7 +40,7 @@ lower-stays : (p : Position) (ps : List Position) (i kept : ℕ) → NeverFallin
 unfolding lower
 lower-stays p ps i kept f none h = refl
 lower-stays p ps i kept f (some m) h =
-    let l : p .rule ≤ h .0 .1 .rule = falling-low (p .rule) f (h .0 .2) in
+    let l : p .rule ≤ h .0 .1 .rule = rising-low (p .rule) f (h .0 .2) in
     let e : min (p .rule) m ≡ p .rule = omega (arith, h .0 .5) in
     ap (λ (x : ℕ). some x) e
 
@@ -56,14 +56,14 @@ ended-first (p ∷ ps) low f i kept = go (bit kept i && p .last) (ended-first ps
     go false h = h
 
 -- The same by places: the lowest kept place that is last, and none.
-pub ended-at : {ps : List Position} {i j : ℕ} {p : Position} (low : ℕ) → NeverFalling low ps → (kept : ℕ) → PositionFrom ps i j p → j ∈ kept
-    → p .last ≡ true
+pub ended-at : {ps : List Position} {i j : ℕ} {p : Position} (low : ℕ) → NeverFalling low ps → (kept : ℕ) → PositionFrom ps i j p
+    → j ∈ kept → p .last ≡ true
     → ((l : ℕ) (q : Position) → l < j → PositionFrom ps i l q → l ∈ kept → q .last ≡ true → ⊥) → ended ps i kept ≡ some (p .rule)
 ended-at {ps} {i} {j} {p} low f kept t h e g =
     least-one (EndsRule ps i kept) (ended ps i kept) (some (p .rule)) (ended-least ps i kept) (
       (j, p, t, h, e, refl),
       λ k l x.
-          ⊎-elim (λ y. g (x .0) (x .1) y (x .2) (x .3) (x .4)) (λ y. omega (arith, falling-order low f t (x .2) y, x .5)) (lt-or-le (x .0) j),
+          ⊎-elim (λ y. g (x .0) (x .1) y (x .2) (x .3) (x .4)) (λ y. omega (arith, rising-order low f t (x .2) y, x .5)) (lt-or-le (x .0) j),
     )
 
 pub ended-none : (ps : List Position) (i kept : ℕ) → ((j : ℕ) (p : Position) → PositionFrom ps i j p → j ∈ kept → p .last ≡ true → ⊥)

@@ -1,4 +1,4 @@
--- Sheet D's rules and the rules `a`, `ab`, `b`: their positions, and the longest match at the front of some texts, as one table.
+-- Worked cases: the positions of sheet D's rules, and one table of longest matches at the front of a text, by D's rules and others.
 -- Each row is computed by the walk; one theorem says that every row's match is the right one by the words alone.
 use mathlib.Core.Path.{_≡_, refl, subst}
 use mathlib.Core.Bool.{true}

@@ -9,8 +9,6 @@ use Prim.Native.Nat.{ℕ, suc, _+_, _≤_, _<_, _^_}
 use native.Mathlib.Omega.{arith}
 use native.Mathlib.Nat.{zero-add}
 use lib.ListN.{length, length-append}
-use Rattle.stage0_laws.specs.Bits.{_∈_}
-use Rattle.stage0_laws.specs.BitLaws.{bit-below, lt-pow-self}
 use Rattle.stage0_laws.specs.Lists.{All, sum}
 use Rattle.stage0_laws.specs.Order.{lt-or-le}
 use Rattle.stage1_sheet.specs.Limits.{most-byte, most-classes}
@@ -21,8 +19,12 @@ use Rattle.stage4_lexer.specs.Words.{first-rule, WordOf}
 use Rattle.stage4_lexer.specs.Positions.{Position, nullable, follow, part-positions, positions-from, positions, first-from}
 use Rattle.stage4_lexer.specs.Positions.{first-positions, empty-match}
 use Rattle.stage4_lexer.specs.EmptyWord.{nullable-word, none-empty, word-later}
+use Rattle.stage4_lexer.specs.SetBounds.{below-power, members-below}
 use Rattle.stage4_lexer.specs.PositionSets.{first-within, follow-within}
-use Rattle.stage4_lexer.specs.PositionList.{PositionFrom, first-place, later-place, place-within, by-place, no-place, place-cases}
+use Rattle.stage4_lexer.specs.Walk.{keep, follows}
+use Rattle.stage4_lexer.specs.WalkLaws.{in-keep, in-follows}
+use Rattle.stage4_lexer.specs.PositionList.{all-at, all-places, PositionFrom, first-place, later-place, place-within, by-place}
+use Rattle.stage4_lexer.specs.PositionList.{no-place, place-cases}
 use Rattle.stage4_lexer.specs.PositionList.{part-length, PartAt, part-cases, part-owned, RuleFrom, this-rule, next-rule, first-some}
 
 -- P: the byte classes of all rules.
@@ -68,15 +70,7 @@ rule-order this-rule (next-rule t) l = rule-range t .2
 rule-order (next-rule t) this-rule l = let h = rule-range t in absurd (omega arith)
 rule-order (next-rule t) (next-rule u) l = rule-order t u l
 
--- What holds at every place holds of all positions.
-all-places : (Q : Position → Type 0) (ps : List Position) (i : ℕ) → ((j : ℕ) (p : Position) → PositionFrom ps i j p → Q p) → All Q ps
-all-places Q [] i f = tt
-all-places Q (p ∷ ps) i f = (f i p first-place, all-places Q ps (suc i) (λ j q t. f j q (later-place t)))
-
 -- "sets below 2^P"
-below-power : (s n : ℕ) → ((i : ℕ) → i ∈ s → i < n) → s < 2 ^ n
-below-power s n f = bit-below n s s (lt-pow-self s) f
-
 pub first-below : (rules : List Rule) → first-positions rules < 2 ^ class-total rules
 unfolding first-positions
 first-below rules =
@@ -115,19 +109,19 @@ abbrev pub NeverFalling : ℕ → List Position → Type 0
 NeverFalling low [] = Unit
 NeverFalling low (p ∷ ps) = (low ≤ p .rule) × NeverFalling (p .rule) ps
 
-falling-places : (ps : List Position) (low i : ℕ) → ((j : ℕ) (p : Position) → PositionFrom ps i j p → low ≤ p .rule)
+rising-places : (ps : List Position) (low i : ℕ) → ((j : ℕ) (p : Position) → PositionFrom ps i j p → low ≤ p .rule)
     → ((j l : ℕ) (p q : Position) → j < l → PositionFrom ps i j p → PositionFrom ps i l q → p .rule ≤ q .rule) → NeverFalling low ps
-falling-places [] low i f g = tt
-falling-places (p ∷ ps) low i f g = (
+rising-places [] low i f g = tt
+rising-places (p ∷ ps) low i f g = (
   f i p first-place,
-  falling-places ps (p .rule) (suc i) (λ j q t. let w = place-within t in g i j p q (omega arith) first-place (later-place t))
+  rising-places ps (p .rule) (suc i) (λ j q t. let w = place-within t in g i j p q (omega arith) first-place (later-place t))
       (λ j l q s m t u. g j l q s m (later-place t) (later-place u)),
 )
 
 pub never-falling : (rules : List Rule) → NeverFalling 0 (positions rules)
 unfolding positions
 never-falling rules =
-    falling-places (positions rules) 0 0 (λ j p t. omega arith)
+    rising-places (positions rules) 0 0 (λ j p t. omega arith)
     (λ j l p q m t u.
     let a = place-rule rules 0 0 t in
     let b = place-rule rules 0 0 u in
@@ -189,6 +183,17 @@ rules-at-most (r ∷ rs) f =
 pub rules-at-most-positions : (rules : List Rule) → empty-match rules 0 ≡ none → length rules ≤ length (positions rules)
 rules-at-most-positions rules e =
     subst (λ (n : ℕ). length rules ≤ n) (sym (positions-length rules)) (rules-at-most rules (none-empty rules .0 e))
+
+-- Over any positions: what is kept is a set of their places, and what is held next is below what bounds their follow sets.
+pub keep-below : (ps : List Position) (i held b : ℕ) → keep ps i held b < 2 ^ (i + length ps)
+keep-below ps i held b = below-power (keep ps i held b) (i + length ps) (λ j h. place-within (in-keep ps i held b j h .1) .1)
+
+pub held-below : (ps : List Position) (i kept n : ℕ) → All (λ p. p .follow < 2 ^ n) ps → follows ps i kept < 2 ^ n
+held-below ps i kept n a =
+    below-power (follows ps i kept) n
+    (λ q h.
+    let x = in-follows ps i kept q h in
+    members-below (x .1 .follow) n q (all-at (λ p. p .follow < 2 ^ n) a (x .2)) (x .4))
 
 -- All of it, for a list of positions and a first set over so many rules: what an image says of them.
 pub record PositionsInRange (rules : ℕ) (ps : List Position) (first : ℕ) : Type 0 where

@@ -12,6 +12,7 @@ use lib.Dec.{leb}
 use borrow.Author.Tests.{le-leb, leb-true}
 use Rattle.stage0_laws.specs.Bits.{bit, _∈_}
 use Rattle.stage0_laws.specs.BitLaws.{∈-cases, ∈-left, ∈-right, ∈-zero}
+use Rattle.stage0_laws.specs.Lists.{All}
 use Rattle.stage0_laws.specs.Order.{compare-cases}
 use Rattle.stage0_laws.specs.Truth.{and-true-first, and-true-second}
 use Rattle.stage1_sheet.specs.Regex.{Regex, empty, class, concat, union, star, class-count}
@@ -57,6 +58,15 @@ pub by-place : {q : Position} {ps : List Position} {i j : ℕ} {p : Position} (C
     → ((k : ℕ) (x : Position) → PositionFrom ps (suc i) k x → C k x) → PositionFrom (q ∷ ps) i j p → C j p
 by-place C c f first-place = c
 by-place C c f (later-place {p = p} {j = j} t) = f j p t
+
+-- What holds of all positions holds at every place, and the other way round.
+pub all-at : {ps : List Position} {i j : ℕ} {p : Position} (Q : Position → Type 0) → All Q ps → PositionFrom ps i j p → Q p
+all-at Q a first-place = a .0
+all-at Q a (later-place t) = all-at Q (a .1) t
+
+pub all-places : (Q : Position → Type 0) (ps : List Position) (i : ℕ) → ((j : ℕ) (p : Position) → PositionFrom ps i j p → Q p) → All Q ps
+all-places Q [] i f = tt
+all-places Q (p ∷ ps) i f = (f i p first-place, all-places Q ps (suc i) (λ j q t. f j q (later-place t)))
 
 -- Places of two lists, one after the other.
 pub place-left : {l : List Position} {i j : ℕ} {p : Position} (m : List Position) → PositionFrom l i j p → PositionFrom (l ++ m) i j p
@@ -138,7 +148,8 @@ part-owned whole base k (star r) p t = part-owned whole base k r p t
 abbrev pub Takes : List Position → ℕ → ℕ → Type 0
 Takes ps j b = (p : Position) × PositionAt ps j p × (has-byte p b ≡ true)
 
-has-byte-right : (p : Position) (b : ℕ) → (has-byte p b ≡ true) ↔ ((p .low ≤ b) × (b ≤ p .high))
+-- "one byte of the class, low and high included"
+pub has-byte-right : (p : Position) (b : ℕ) → (has-byte p b ≡ true) ↔ ((p .low ≤ b) × (b ≤ p .high))
 unfolding has-byte
 has-byte-right p b = (
   λ e. (
@@ -191,7 +202,7 @@ pub rule-at : {rules : List Rule} {k base n : ℕ} {r : Rule} {c : ℕ} → Rule
 rule-at this-rule = (0, omega arith, first-rule)
 rule-at (next-rule t) = let u = rule-at t in (suc (u .0), omega arith, later-rule (u .2))
 
--- A rule's positions are among the sheet's, and each of the sheet's is some rule's.
+-- A rule's positions are among the sheet's.
 pub rule-place : {rules : List Rule} {k base n : ℕ} {r : Rule} {c : ℕ} → RuleFrom rules k base n r c → (j : ℕ) (x : Position)
     → PartAt (r .regex) c n (r .regex) c j x → PositionFrom (positions-from rules k base) base j x
 unfolding positions-from

@@ -5,18 +5,19 @@ use mathlib.Core.Bool.{Bool, true, false, _&&_, cond, true≢false}
 use mathlib.Core.List.{List, [], _∷_}
 use mathlib.Core.Logic.{_⊎_, inl, inr, ⊎-elim, _↔_, Iff·trans}
 use mathlib.Core.Option.{Option, none, some}
-use Prim.Native.Nat.{ℕ, suc, _<_, _^_, min}
+use Prim.Native.Nat.{ℕ, suc, _^_, min}
 use native.Mathlib.Omega.{arith}
 use native.Mathlib.Nat.{zero-add}
 use Rattle.stage0_laws.specs.Bits.{bit, _∈_}
 use Rattle.stage0_laws.specs.BitLaws.{∈-cases, ∈-left, ∈-right, ∈-zero, ∈-cond, ∈-when, ∈-one, ∈-self}
-use Rattle.stage0_laws.specs.Order.{lt-or-le, compare-cases}
+use Rattle.stage0_laws.specs.Order.{lt-or-le}
 use Rattle.stage0_laws.specs.Truth.{and-true-first, and-true-second}
 use Rattle.stage1_sheet.specs.Regex.{class-count}
 use Rattle.stage1_sheet.specs.Sheet.{Rule}
 use Rattle.stage4_lexer.specs.Words.{RuleAt, WordOf}
 use Rattle.stage4_lexer.specs.Positions.{Position, last, follow, positions, first-positions}
 use Rattle.stage4_lexer.specs.Walk.{has-byte, keep, follows, lower, ended}
+use Rattle.stage4_lexer.specs.Least.{LeastOf, least-iff}
 use Rattle.stage4_lexer.specs.PositionSets.{Within, first-within, last-within, follow-within}
 use Rattle.stage4_lexer.specs.Chains.{Automaton, of-regex, ChainAfter, Chain, Agrees, Spelled, after-map, after-part, after-end}
 use Rattle.stage4_lexer.specs.Chains.{chain-part, word-chain}
@@ -66,22 +67,6 @@ follows-in (later-place {q = p} {i = i} t) kept q h e = ∈-right (cond (bit kep
 -- "a kept position that is last ends a match of its rule there"
 abbrev pub EndsRule : List Position → ℕ → ℕ → ℕ → Type 0
 EndsRule ps i kept k = (j : ℕ) × (p : Position) × PositionFrom ps i j p × (j ∈ kept) × (p .last ≡ true) × (p .rule ≡ k)
-
--- The least number that is so, if any is.
-abbrev pub LeastOf : (ℕ → Type 0) → Option ℕ → Type 0
-LeastOf Q none = (k : ℕ) → Q k → ⊥
-LeastOf Q (some k) = Q k × ((j : ℕ) → j < k → Q j → ⊥)
-
-pub least-iff : (Q R : ℕ → Type 0) → ((k : ℕ) → Q k ↔ R k) → (o : Option ℕ) → LeastOf Q o → LeastOf R o
-least-iff Q R f none h = λ k x. h k (f k .1 x)
-least-iff Q R f (some k) h = (f k .0 (h .0), λ j l x. h .1 j l (f j .1 x))
-
-pub least-one : (Q : ℕ → Type 0) (a b : Option ℕ) → LeastOf Q a → LeastOf Q b → a ≡ b
-least-one Q none none g h = refl
-least-one Q none (some k) g h = absurd (g k (h .0))
-least-one Q (some k) none g h = absurd (h k (g .0))
-least-one Q (some k) (some j) g h =
-    ap (λ (x : ℕ). some x) (⊎-elim (λ l. absurd (h .1 k l (g .0))) (⊎-elim (λ e. e) (λ l. absurd (g .1 j l (h .0)))) (compare-cases k j))
 
 -- One more number of which Q holds.
 least-lower : (Q R : ℕ → Type 0) (n : ℕ) (o : Option ℕ) → Q n → ((k : ℕ) → R k → Q k) → ((k : ℕ) → Q k → (n ≡ k) ⊎ R k) → LeastOf R o

@@ -1,5 +1,7 @@
--- Running an image over a text, and the sheet's own answer to a text.
+-- Running an image over a text, and the sheet's own answer to a text: first the definitions, then the laws.
 pub mod Answer
 pub mod Run
 pub mod OwnAnswer
 pub mod Computing
+pub mod OwnAnswerLaws
+pub mod RunAnswers

@@ -5,7 +5,7 @@ use mathlib.Core.List.{[], _∷_, _++_}
 use Prim.Native.Nat.{_+_, _-_, _/_, _%_}
 use lib.ListN.{take, drop, length-set}
 use denote.Ref.{now}
-use Rattle.stage0_number.specs.Number.{encodeIn, encode}
+use Rattle.stage0_number.specs.Number.{encode-in, encode}
 use Rattle.stage0_number.proofs.Writing.{Left, left-all, left-next, left-more, left-last}
 use Rattle.stage0_number.proofs.Writing.{write-inside, write-length, write-more, write-last}
 use Rattle.stage0_number.proofs.write_groups.Statement.{statement}
@@ -20,7 +20,7 @@ abbrev μ-loop : tie.MeasureT-loop
 -- The group that a turn writes, and the one after the loop.
 next : (c : tie.In-loop Inv-loop μ-loop)
     → let l = c .before .loop in
-    drop (l .i) (encode (c .before .before .args .n)) ≡ (128 + l .rest % 128) ∷ encodeIn (10 - (l .i + 1)) (l .rest / 128)
+    drop (l .i) (encode (c .before .before .args .n)) ≡ (128 + l .rest % 128) ∷ encode-in (10 - (l .i + 1)) (l .rest / 128)
 next c = left-next _ _ _ (c .before .loop .inv .0) (c .loop-test .taken)
 
 final : (c : tie.After-loop Inv-loop μ-loop)

@@ -1,0 +1,2 @@
+-- When columns hold a sheet's rules and its expression.
+pub mod Holds

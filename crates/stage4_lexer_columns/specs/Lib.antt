@@ -1,0 +1,2 @@
+-- The positions that columns hold.
+pub mod Held
