@@ -19,5 +19,4 @@ pub mod RuleReading
 pub mod Places
 pub mod SheetReading
 pub mod ReadingLaws
-pub mod Examples
 pub mod Computing

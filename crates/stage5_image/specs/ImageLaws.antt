@@ -20,7 +20,7 @@ use Rattle.stage3_normal_form.specs.NormalForm.{normal-form}
 use Rattle.stage3_normal_form.specs.NodeLanguages.{language-of}
 use Rattle.stage3_normal_form.specs.NormalFormLaws.{normal-form-length, normal-form-fits, start-words}
 use Rattle.stage3_normal_form.specs.Pending.{Fits}
-use Rattle.stage3_normal_form.specs.Tails.{sequence-count-bound, normal-form-in-range, tails-at-most-31}
+use Rattle.stage3_normal_form.specs.Tails.{sequence-count-bound, normal-form-in-range, tails-at-most}
 use Rattle.stage4_lexer.specs.Positions.{Position, positions, first-positions, empty-match}
 use Rattle.stage4_lexer.specs.PositionBounds.{PositionsInRange, ByteClass, positions-in-range}
 use Rattle.stage5_image.specs.Fusion.{fused}
@@ -81,7 +81,7 @@ image-in-range s w m d =
     let rm = w .rules-most in
     let p = positions-in-range s w m in
     let inside = normal-form-inside e (s .tokens) (w .closed) in
-    let short : TailsShort (normal-form e) = tails-at-most-31 d (w .nodes-most) in
+    let short : TailsShort (normal-form e) = tails-at-most d (w .nodes-most) in
     let count = image-row-count (s .rules) (normal-form e) inside (normal-form-some e) short rm in
     let nodes = w .nodes-most in record {
       some-rules = omega arith;

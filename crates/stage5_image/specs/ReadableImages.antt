@@ -18,7 +18,8 @@ use Rattle.stage0_number.specs.declared.Number.the-variants.{Read, Refused}
 use Rattle.stage1_sheet.specs.Limits.{most-rules, most-classes, most-expression-nodes, most-byte}
 use Rattle.stage1_sheet.specs.Spelling.{spell}
 use Rattle.stage1_sheet.specs.Field.{Reading, stop, got, and-then, between, field-of, read-field, read-many}
-use Rattle.stage1_sheet.specs.FieldLaws.{Bytes, Stands, stands-none, stands-append, stands-whole, Outcome, then-outcome, outcome-got, outcome-stop, FieldRead,
+use Rattle.stage1_sheet.specs.FieldLaws.{Bytes, Stands, stands-none, stands-append, stands-whole, Outcome, refused, accepted, then-outcome, outcome-imply, outcome-got,
+  outcome-stop, FieldRead,
   field-outcome, true-between}
 use Rattle.stage3_normal_form.specs.Productions.{Production, Row}
 use Rattle.stage4_lexer.specs.Positions.{Position}
@@ -57,7 +58,7 @@ module _ (bytes : List ℕ) where
       → Gives Good numbers at r → ((a : A) (mid : ℕ) → Good a → Taken bytes at (numbers a) mid → Outcome (Refusal bytes) Q (next a mid))
       → Outcome (Refusal bytes) Q (and-then r next)
   then-gives Good numbers at r next Q h k =
-      then-outcome (Refusal bytes) (λ a end. Good a × Taken bytes at (numbers a) end) Q r next h (λ a mid g. k a mid (g .0) (g .1))
+      then-outcome h (λ a mid g. k a mid (g .0) (g .1))
 
   field-gives : (allowed : ℕ → Bool) (at : ℕ) → at ≤ length bytes → Gives (λ v. allowed v ≡ true) just at (image-field allowed bytes at)
   unfolding image-field read-field field-of
@@ -65,25 +66,25 @@ module _ (bytes : List ℕ) where
     where
       stands : (v end : ℕ) → Bytes bytes → read-field 13 13 allowed bytes at ≡ got v end → Stands bytes at (v ∷ []) end
       stands v end b e =
-          outcome-got (λ question place. Unit {0}) (FieldRead allowed bytes at) (field-outcome 13 13 allowed bytes at (λ question place. Unit {0}) b tt tt) e .stands
+          outcome-got (field-outcome 13 13 allowed bytes at (λ question place. Unit {0}) b tt tt) e .stands
 
       chosen : (v used : ℕ) → decode bytes at ≡ Read v used → (c : Bool) → allowed v ≡ c
           → Gives (λ v. allowed v ≡ true) just at (cond c (got v (at + used)) (stop 13 at))
-      chosen v used e true a = (a, record {
+      chosen v used e true a = accepted v (at + used) (a, record {
         inside = decode-within bytes at e .inside;
         stands = λ b. stands v (at + used) b (ap (field-of 13 13 allowed at) e ∙ ap (λ (c : Bool). cond c (got v (at + used)) (stop 13 at)) a);
       })
-      chosen v used e false a = (refl, h)
+      chosen v used e false a = refused 13 at (refl, h)
 
       go : (n : Number) → decode bytes at ≡ n → Gives (λ v. allowed v ≡ true) just at (field-of 13 13 allowed at n)
-      go Refused e = (refl, h)
+      go Refused e = refused 13 at (refl, h)
       go (Read v used) e = chosen v used e (allowed v) refl
 
   flag-gives : (at : ℕ) → at ≤ length bytes → Gives (λ (b : Bool). Unit {0}) flag-number at (read-flag bytes at)
   unfolding read-flag flag
   flag-gives at h =
       then-gives (λ v. between 0 1 v ≡ true) just at (image-field (between 0 1) bytes at) _ (λ b end. Unit {0} × Taken bytes at (flag-number b) end) (field-gives (between 0 1) at h)
-      (λ v mid a t. (tt, taken-as (ap (λ (n : ℕ). n ∷ []) (same v (true-between 0 1 v a .1))) t))
+      (λ v mid a t. accepted (eqb v 1) mid (tt, taken-as (ap (λ (n : ℕ). n ∷ []) (same v (true-between 0 1 v a .1))) t))
     where
       same : (v : ℕ) → v ≤ 1 → v ≡ flag (eqb v 1)
       same zero h = refl
@@ -95,29 +96,24 @@ module _ (bytes : List ℕ) where
       → (n : ℕ) (s : S) (at : ℕ) → at ≤ length bytes
       → Gives (λ l. (length l ≡ n) × EachFrom Good update s l) (all-numbers numbers) at (read-many one update s n at)
   unfolding read-many
-  many-gives Good numbers one update step zero s at h = ((refl, tt), taken-none at h)
+  many-gives Good numbers one update step zero s at h = accepted [] at ((refl, tt), taken-none at h)
   many-gives Good numbers one update step (suc n) s at h =
       then-gives (Good s) numbers at (one s at) _ (λ l end. ((length l ≡ suc n) × EachFrom Good update s l) × Taken bytes at (all-numbers numbers l) end) (step s at h)
       (λ a mid g t. then-gives (λ l. (length l ≡ n) × EachFrom Good update (update s a) l) (all-numbers numbers) mid (read-many one update (update s a) n mid) _
       (λ l end. ((length l ≡ suc n) × EachFrom Good update s l) × Taken bytes at (all-numbers numbers l) end)
       (many-gives Good numbers one update step n (update s a) mid (t .inside))
-      (λ l end gs ts. ((ap suc (gs .0), (g, gs .1)), taken-append t ts)))
+      (λ l end gs ts. accepted (a ∷ l) end ((ap suc (gs .0), (g, gs .1)), taken-append t ts)))
 
   list-gives : {A : Type 0} (Good : A → Type 0) (numbers : A → List ℕ) (one : ℕ → Reading A) → ((at : ℕ) → at ≤ length bytes → Gives Good numbers at (one at))
       → (n at : ℕ) → at ≤ length bytes → Gives (λ l. (length l ≡ n) × All Good l) (all-numbers numbers) at (read-list one n at)
   unfolding read-list
   list-gives Good numbers one step n at h =
-      go (read-many (λ (s : Bool) at. one at) (λ s a. s) true n at)
+      outcome-imply (λ l end g. ((g .0 .0, each l (g .0 .1)), g .1))
       (many-gives (λ (s : Bool) a. Good a) numbers (λ (s : Bool) at. one at) (λ s a. s) (λ s. step) n true at h)
     where
       each : (l : List _) → EachFrom (λ (s : Bool) a. Good a) (λ s a. s) true l → All Good l
       each [] g = tt
       each (a ∷ l) g = (g .0, each l (g .1))
-
-      go : (r : Reading (List _)) → Gives (λ l. (length l ≡ n) × EachFrom (λ (s : Bool) a. Good a) (λ s a. s) true l) (all-numbers numbers) at r
-          → Gives (λ l. (length l ≡ n) × All Good l) (all-numbers numbers) at r
-      go (stop question place) g = g
-      go (got l end) g = ((g .0 .0, each l (g .0 .1)), g .1)
 
   -- One number, and then the rest.
   then-field : {B : Type 0} (allowed : ℕ → Bool) (at : ℕ) (next : ℕ → ℕ → Reading B) (Q : B → ℕ → Type 0) → at ≤ length bytes
@@ -137,7 +133,7 @@ module _ (bytes : List ℕ) where
       (λ last m₄ a₄ t₄. then-field _ m₄ _ Q (t₄ .inside)
       (λ follow m₅ a₅ t₅.
       let range = true-between low most-byte high a₂ in
-      ((leb→le before rule (true-holds (leb before rule) (and-true-first (leb before rule) (ltb rule rules) a₃)), record {
+      accepted _ m₅ ((leb→le before rule (true-holds (leb before rule) (and-true-first (leb before rule) (ltb rule rules) a₃)), record {
         low-high = range .0;
         high-byte = range .1;
         rule-below = ltb-true rule rules (and-true-second (leb before rule) (ltb rule rules) a₃);
@@ -158,7 +154,7 @@ module _ (bytes : List ℕ) where
       let below = and-true-second (leb least rule) (ltb rule (length skips) && not (getD skips rule true)) a₁ in
       let short : size ≤ most-tail = true-between 0 most-tail size a₂ .1 in
       let same = g .0 in
-      ((leb→le least rule (true-holds (leb least rule) (and-true-first (leb least rule) (ltb rule (length skips) && not (getD skips rule true)) a₁)), record {
+      accepted _ m₃ ((leb→le least rule (true-holds (leb least rule) (and-true-first (leb least rule) (ltb rule (length skips) && not (getD skips rule true)) a₁)), record {
         rule-below = ltb-true rule (length skips) (and-true-first (ltb rule (length skips)) (not (getD skips rule true)) below);
         not-skipping = negated (getD skips rule true) (and-true-second (ltb rule (length skips)) (not (getD skips rule true)) below);
         tail-length = omega arith;
@@ -186,7 +182,7 @@ module _ (bytes : List ℕ) where
       (λ ps m₃ g t₃.
       let few : size ≤ most-rules = true-between 0 most-rules size a₂ .1 in
       let same = g .0 in
-      (record { production-count = omega arith; productions-in-range = ranges 0 ps (g .1); rising = rises 0 ps (g .1) },
+      accepted _ m₃ (record { production-count = omega arith; productions-in-range = ranges 0 ps (g .1); rising = rises 0 ps (g .1) },
       taken-append t₁ (taken-append (taken-as (ap just (sym same)) t₂) (taken-as (productions-are ps) t₃))))))
     where
       ranges : (least : ℕ) (ps : List Production)
@@ -211,8 +207,8 @@ module _ (bytes : List ℕ) where
   ended i end g t = go (eqb end (length bytes)) refl
     where
       go : (b : Bool) → eqb end (length bytes) ≡ b → Outcome (Refusal bytes) Readable (cond b (got i end) (stop 13 end))
-      go true e = record { in-range = g; whole = eqb-true end (length bytes) e; taken = t }
-      go false e = (refl, t .inside)
+      go true e = accepted i end (record { in-range = g; whole = eqb-true end (length bytes) e; taken = t })
+      go false e = refused 13 end (refl, t .inside)
 
   position-ranges : (R P before : ℕ) (ps : List Position)
       → EachFrom (λ before p. (before ≤ p .rule) × PositionInRange R P p) (λ before p. p .rule) before ps → All (PositionInRange R P) ps
@@ -267,15 +263,15 @@ module _ (bytes : List ℕ) where
 
 -- Whatever is read as an image is in range, and reading ends at the last byte.
 pub read-in-range : (bytes : List ℕ) (i : Image) (end : ℕ) → read-image bytes ≡ got i end → InRange i × (end ≡ length bytes)
-read-in-range bytes i end e = let r = outcome-got (Refusal bytes) (Readable bytes) (image-gives bytes) e in (r .in-range, r .whole)
+read-in-range bytes i end e = let r = outcome-got (image-gives bytes) e in (r .in-range, r .whole)
 
 -- A refusal is 13, at a place within the bytes or at their end.
 pub read-refusal : (bytes : List ℕ) (question place : ℕ) → read-image bytes ≡ stop question place → (question ≡ 13) × (place ≤ length bytes)
-read-refusal bytes question place e = outcome-stop (Refusal bytes) (Readable bytes) (image-gives bytes) e
+read-refusal bytes question place e = outcome-stop (image-gives bytes) e
 
 -- Whatever bytes are read as an image are that image's bytes.
 pub read-exact : (bytes : List ℕ) → Bytes bytes → (i : Image) (end : ℕ) → read-image bytes ≡ got i end → bytes ≡ image-bytes i
 unfolding image-bytes
 read-exact bytes b i end e =
-    let r = outcome-got (Refusal bytes) (Readable bytes) (image-gives bytes) e in
+    let r = outcome-got (image-gives bytes) e in
     stands-whole bytes (image-numbers i) .0 (subst (Stands bytes 0 (image-numbers i)) (r .whole) (r .taken .stands b))
