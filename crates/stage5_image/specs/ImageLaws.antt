@@ -17,8 +17,8 @@ use Rattle.stage2_types.specs.Denotation.{Denotes}
 use Rattle.stage2_types.specs.Types.{LanguageType, _⊢_∶_}
 use Rattle.stage3_normal_form.specs.Productions.{Production, Row, row-of}
 use Rattle.stage3_normal_form.specs.NormalForm.{normal-form}
-use Rattle.stage3_normal_form.specs.NodeLanguages.{language-of}
-use Rattle.stage3_normal_form.specs.NormalFormLaws.{normal-form-length, normal-form-fits, start-words}
+use Rattle.stage3_normal_form.specs.NormalFormLaws.{normal-form-length, normal-form-fits}
+use Rattle.stage3_normal_form.specs.Expansion.{normalization-sound}
 use Rattle.stage3_normal_form.specs.Pending.{Fits}
 use Rattle.stage3_normal_form.specs.Tails.{sequence-count-bound, normal-form-in-range, tails-at-most}
 use Rattle.stage4_lexer.specs.Positions.{Position, positions, first-positions, empty-match}
@@ -33,7 +33,7 @@ use Rattle.stage5_image.specs.Numbering.{tail-members, numbered}
 use Rattle.stage5_image.specs.NumberingLaws.{TailsInside, of-tail-members}
 use Rattle.stage5_image.specs.RowRanges.{TailsShort, rows-in-range, some-image-rows, image-row-count}
 use Rattle.stage5_image.specs.Unfolding.{StartUnfolds, DenotedRules}
-use Rattle.stage5_image.specs.UnfoldingLaws.{OnePerToken, image-unfolds, unfolds-language}
+use Rattle.stage5_image.specs.UnfoldingLaws.{OnePerToken, image-unfolds, unfolds-expands}
 
 -- ---- the normal form as fusion and numbering want it
 
@@ -58,10 +58,10 @@ unfolding image-of
 image-denotes s c d ks =
     let e = s .expression in
     let image = image-unfolds (s .rules) (normal-form e) (normal-form-inside e (s .tokens) c) (normal-form-some e) (normal-form-one d) ks in
-    let words = unfolds-language (normal-form e) (language-of e) ((normal-form-fits d) .unfolds) (0 ∷ []) in
+    let expands = unfolds-expands (normal-form e) (0 ∷ []) in
     (
-      λ u. let r = image .0 u in (r .0, start-words e (r .0) .0 (words (r .0) .0 (r .1)), r .2),
-      λ r. image .1 (r .0, words (r .0) .1 (start-words e (r .0) .1 (r .1)), r .2)
+      λ u. let r = image .0 u in (r .0, normalization-sound d (r .0) .1 (expands (r .0) .0 (r .1)), r .2),
+      λ r. image .1 (r .0, expands (r .0) .1 (normalization-sound d (r .0) .0 (r .1)), r .2)
     )
 
 -- ---- ranges

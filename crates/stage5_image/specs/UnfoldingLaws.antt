@@ -1,5 +1,5 @@
--- What rows unfold to: from the image's rows to the rows by token, and from these to the languages of the nodes. That the rows by
--- token unfold the languages in one step, and that a row has at most one production a token, are hypotheses here.
+-- What rows unfold to: the image's rows to the rule sequences that spell what the rows by token unfold to. That a row has at most
+-- one production a token is a hypothesis here; what the rows by token unfold to is said in the normal form's stage.
 use mathlib.Core.Path.{_≡_, refl, sym, ap, ap₂, subst, _∙_}
 use mathlib.Core.Bool.{Bool, true, false}
 use mathlib.Core.List.{List, [], _∷_, _++_, map, map-append, append-nil, append-assoc, nil≢cons, cons≢nil, head-eq-of-cons-eq, tail-eq-of-cons-eq, List·Memᴰ, Memᴰ·cast}
@@ -13,8 +13,7 @@ use Rattle.stage0_laws.specs.Truth.{holds-true, true-holds}
 use Rattle.stage1_sheet.specs.Sheet.{Rule, Sheet}
 use Rattle.stage2_types.specs.Denotation.{Language, followed-by, Denotes}
 use Rattle.stage3_normal_form.specs.Productions.{Production, Row, row-of}
-use Rattle.stage3_normal_form.specs.Unfolding.{concatenation, concatenation-append, concatenation-split, ByRow, by-epsilon as empty-word, by-production as longer-word,
-  Unfolds as OneStep}
+use Rattle.stage3_normal_form.specs.Expansion.{Expands, complete, expand-empty, expand-token}
 use Rattle.stage5_image.specs.Fusion.{production-of, fused}
 use Rattle.stage5_image.specs.FusionLaws.{Found, production-found}
 use Rattle.stage5_image.specs.Members.{all-append}
@@ -97,41 +96,18 @@ pub image-unfolds : (rules : List Rule) (rows : List Row) → TailsInside rows �
 image-unfolds rules rows inside some-rows one ks =
     start-unfolds rules rows (numbered (fused rules rows)) _ _ (image-simulates rules rows inside some-rows) one ks
 
--- ---- from the rows by token to the languages of the nodes
+-- ---- the rows by token
 
-module _ (rows : List Row) (L : ℕ → Language) (steps : (n : ℕ) → OneStep L (L n) (row-of rows n)) where
-  to-language : {pending ts : List ℕ} → Unfolds rows pending ts → concatenation L pending ts
-  to-language none-pending = refl
-  to-language (by-epsilon {n = n} {rules = ts} empty u) = ([], ts, refl, steps n [] .1 (empty-word (true-holds ((row-of rows n) .empty) empty)), to-language u)
-  to-language (by-production {n = n} {pending = pending} {rules = ts} {p = p} m u) =
-      let c = concatenation-split L (p .tail) pending ts (to-language u) in
-      (p .head ∷ c .0, c .1, ap (λ (l : List ℕ). p .head ∷ l) (c .2), steps n (p .head ∷ c .0) .1 (longer-word m (c .3)), c .4)
+to-expansion : {rows : List Row} {pending ts : List ℕ} → Unfolds rows pending ts → Expands (row-of rows) pending ts
+to-expansion none-pending = complete
+to-expansion (by-epsilon empty u) = expand-empty empty (to-expansion u)
+to-expansion (by-production {p = p} m u) = expand-token p m (to-expansion u)
 
-  -- One step, and then the rest: ε shortens what is pending, a production shortens the word.
-  stepped : (n : ℕ) (pending v : List ℕ) {u : List ℕ} → ByRow L (row-of rows n) u → concatenation L pending v
-      → Unfolds rows pending v
-      → ((pending' w : List ℕ) → length w < length (u ++ v) → concatenation L pending' w → Unfolds rows pending' w)
-      → Unfolds rows (n ∷ pending) (u ++ v)
-  stepped n pending v (empty-word t) c later shorter = by-epsilon (holds-true ((row-of rows n) .empty) t) later
-  stepped n pending v (longer-word {q = p} {w = w} m d) c later shorter =
-      by-production m (shorter (p .tail ++ pending) (w ++ v) (omega arith) (concatenation-append L (p .tail) pending w v d c))
+from-expansion : {rows : List Row} {pending ts : List ℕ} → Expands (row-of rows) pending ts → Unfolds rows pending ts
+from-expansion complete = none-pending
+from-expansion (expand-empty empty x) = by-epsilon empty (from-expansion x)
+from-expansion (expand-token p m x) = by-production m (from-expansion x)
 
-  within : (most : ℕ) → ((pending w : List ℕ) → length w < most → concatenation L pending w → Unfolds rows pending w)
-      → (pending ts : List ℕ) → length ts ≤ most → concatenation L pending ts → Unfolds rows pending ts
-  within most shorter [] ts h c = rw c none-pending
-  within most shorter (n ∷ pending) ts h c =
-      let u = c .0 in
-      let v = c .1 in
-      let size : length ts ≡ length u + length v = ap length (c .2) ∙ length-append u v in
-      let joined = length-append u v in
-      subst (Unfolds rows (n ∷ pending)) (sym (c .2))
-      (stepped n pending v (steps n u .0 (c .3)) (c .4) (within most shorter pending v (omega arith) (c .4))
-      (λ pending' w l d. shorter pending' w (omega arith) d))
-
-  from-language : (most : ℕ) (pending ts : List ℕ) → length ts ≤ most → concatenation L pending ts → Unfolds rows pending ts
-  from-language zero = within zero (λ pending w h c. absurd (omega arith))
-  from-language (suc most) = within (suc most) (λ pending w h c. from-language most pending w (omega arith) c)
-
-  -- What is pending unfolds to the words of its nodes' languages, one after the other.
-  pub unfolds-language : (pending ts : List ℕ) → Unfolds rows pending ts ↔ concatenation L pending ts
-  unfolds-language pending ts = (to-language, from-language (length ts) pending ts (omega arith))
+-- By token, to unfold is to expand.
+pub unfolds-expands : (rows : List Row) (pending ts : List ℕ) → Unfolds rows pending ts ↔ Expands (row-of rows) pending ts
+unfolds-expands rows pending ts = (to-expansion, from-expansion)
