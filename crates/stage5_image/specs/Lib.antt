@@ -18,3 +18,4 @@ pub mod ReadableImages
 pub mod ImageRoundTrip
 pub mod RowRanges
 pub mod ImageLaws
+pub mod DistinctNodes

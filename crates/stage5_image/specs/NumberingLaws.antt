@@ -34,7 +34,7 @@ unfolding is-met
 met-right n [] more t = t
 met-right n (m ∷ met) more t = or-right (eqb m n) (is-met n (met ++ more)) (met-right n met more t)
 
-met-last : (n m : ℕ) (met : List ℕ) → is-met n (met ++ (m ∷ [])) ≡ (is-met n met || eqb m n)
+pub met-last : (n m : ℕ) (met : List ℕ) → is-met n (met ++ (m ∷ [])) ≡ (is-met n met || eqb m n)
 unfolding is-met
 met-last n m [] = go (eqb m n)
   where
@@ -141,7 +141,7 @@ number-below n (m ∷ met) t = go (eqb m n) refl (λ x. number-below n met x) t
     go true e ih x = (omega arith, eqb→eq m n (subst T (sym e) tt))
     go false e ih x = let r = ih x in ((let a = r .0 in omega arith), r .1)
 
-number-left : (n : ℕ) (met more : List ℕ) → Met n met → number-of (met ++ more) n ≡ number-of met n
+pub number-left : (n : ℕ) (met more : List ℕ) → Met n met → number-of (met ++ more) n ≡ number-of met n
 unfolding is-met number-of
 number-left n (m ∷ met) more t = go (eqb m n) (λ x. number-left n met more x) t
   where

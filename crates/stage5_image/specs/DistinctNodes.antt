@@ -1,0 +1,100 @@
+-- Nodes that stand once each and are all among the members of a list are no more than that list is long; so the nodes reached
+-- are no more than the start and the right parts of sequences: at most 32.
+use mathlib.Core.Path.{_≡_, refl, sym, ap, subst, _∙_}
+use mathlib.Core.Bool.{Bool, true, false, _||_}
+use mathlib.Core.List.{List, [], _∷_, _++_, flatMap, List·Memᴰ, List·Memᴰ·head, List·Memᴰ·tail, List·Memᴰ·not-nil, List·Memᴰ·cases-cons, List·Memᴰ·append-cases}
+use mathlib.Core.Logic.{_⊎_, inl, inr, ⊎-elim}
+use Prim.Native.Nat.{ℕ, zero, suc, _+_, _≤_, _<_}
+use native.Mathlib.Omega.{arith}
+use lib.Dec.{T, eqb}
+use lib.ListN.{getD, length, take, length-take, take-append-drop, drop}
+use lib.Seq.{take-suc, take-length, length-take-le}
+use borrow.Author.Tests.{eq-eqb}
+use Rattle.stage0_laws.specs.Truth.{true-holds, holds-true}
+use Rattle.stage5_image.specs.Members.{member-at}
+use Rattle.stage5_image.specs.Numbering.{is-met, number-of}
+use Rattle.stage5_image.specs.NumberingLaws.{Met, Once, first-met, met-last, number-left, number-below}
+
+-- ---- members of a list that have not been met
+
+abbrev one-unless : Bool → ℕ
+one-unless true = 0
+one-unless false = 1
+
+-- How many entries of a list have not been met.
+abbrev unmet-in : List ℕ → List ℕ → ℕ
+unmet-in [] met = 0
+unmet-in (n ∷ l) met = one-unless (is-met n met) + unmet-in l met
+
+fewer : (a b : Bool) → one-unless (a || b) ≤ one-unless a
+fewer true b = omega arith
+fewer false true = omega arith
+fewer false false = omega arith
+
+unmet-falls : (l met : List ℕ) (m : ℕ) → unmet-in l (met ++ (m ∷ [])) ≤ unmet-in l met
+unmet-falls [] met m = omega arith
+unmet-falls (n ∷ l) met m = rw (met-last n m met) (let a = fewer (is-met n met) (eqb m n) in let b = unmet-falls l met m in omega arith)
+
+unmet-less : (l met : List ℕ) (m : ℕ) → List·Memᴰ m l → is-met m met ≡ false → suc (unmet-in l (met ++ (m ∷ []))) ≤ unmet-in l met
+unmet-less [] met m k e = absurd (List·Memᴰ·not-nil k)
+unmet-less (n ∷ l) met m k e =
+    ⊎-elim
+    (λ p.
+    let same : eqb m n ≡ true = eq-eqb m n p in
+    let new : is-met n met ≡ false = subst (λ (z : ℕ). is-met z met ≡ false) p e in
+    let b = unmet-falls l met m in
+    rw (met-last n m met, same, new) (omega arith))
+    (λ h. let a = fewer (is-met n met) (eqb m n) in let b = unmet-less l met m h e in rw (met-last n m met) (omega arith))
+    (List·Memᴰ·cases-cons k)
+
+-- ---- distinct members
+
+-- A node that stands once has not been met before its place.
+new-at-place : (met : List ℕ) → Once met → (i : ℕ) → i < length met → is-met (getD met i 0) (take i met) ≡ false
+new-at-place met once i h = go (is-met (getD met i 0) (take i met)) refl
+  where
+    go : (b : Bool) → is-met (getD met i 0) (take i met) ≡ b → b ≡ false
+    go false e = refl
+    go true e =
+        let t : Met (getD met i 0) (take i met) = true-holds (is-met (getD met i 0) (take i met)) e in
+        let below = number-below (getD met i 0) (take i met) t .0 in
+        let size = length-take-le i met (omega arith) in
+        let same : number-of met (getD met i 0) ≡ number-of (take i met) (getD met i 0) =
+        ap (λ (l : List ℕ). number-of l (getD met i 0)) (sym (take-append-drop i met)) ∙ number-left (getD met i 0) (take i met) (drop i met) t in
+        absurd (omega (arith, once i h))
+
+prefix-few : (met l : List ℕ) → Once met → ((n : ℕ) → List·Memᴰ n met → List·Memᴰ n l) → (i : ℕ) → i ≤ length met
+    → i + unmet-in l (take i met) ≤ unmet-in l []
+prefix-few met l once inside zero h = omega arith
+prefix-few met l once inside (suc i) h =
+    let a = prefix-few met l once inside i (omega arith) in
+    let b = unmet-less l (take i met) (getD met i 0) (inside (getD met i 0) (member-at met i 0 h)) (new-at-place met once i h) in
+    rw (take-suc met i 0 h) (omega arith)
+
+unmet-none : (l : List ℕ) → unmet-in l [] ≤ length l
+unfolding is-met
+unmet-none [] = omega arith
+unmet-none (n ∷ l) = let a = unmet-none l in omega arith
+
+-- Distinct members of a list are no more than the list is long.
+pub distinct-few : (met l : List ℕ) → Once met → ((n : ℕ) → List·Memᴰ n met → List·Memᴰ n l) → length met ≤ length l
+distinct-few met l once inside = let a = prefix-few met l once inside (length met) (omega arith) in let b = unmet-none l in omega arith
+
+-- ---- what is met
+
+-- What is first met in a list is a member of it.
+pub first-met-member : (met l : List ℕ) (n : ℕ) → List·Memᴰ n (first-met met l) → List·Memᴰ n l
+first-met-member met [] n m = m
+first-met-member met (k ∷ l) n m = go (is-met k met) (λ x. first-met-member met l n x) (λ x. first-met-member (k ∷ met) l n x) m
+  where
+    go : (b : Bool) → (List·Memᴰ n (first-met met l) → List·Memᴰ n l) → (List·Memᴰ n (first-met (k ∷ met) l) → List·Memᴰ n l)
+        → List·Memᴰ n (elim b [ true ↦ first-met met l | false ↦ k ∷ first-met (k ∷ met) l ]) → List·Memᴰ n (k ∷ l)
+    go true f g x = List·Memᴰ·tail (f x)
+    go false f g x = ⊎-elim (λ e. List·Memᴰ·head e) (λ y. List·Memᴰ·tail (g y)) (List·Memᴰ·cases-cons x)
+
+-- A member of joined lists is a member of one of them.
+pub of-flatMap : {A B : Type 0} (f : A → List B) (l : List A) (b : B) → List·Memᴰ b (flatMap f l) → (a : A) × List·Memᴰ a l × List·Memᴰ b (f a)
+unfolding flatMap
+of-flatMap f [] b m = absurd (List·Memᴰ·not-nil m)
+of-flatMap f (a ∷ l) b m =
+    ⊎-elim (λ k. (a, List·Memᴰ·head refl, k)) (λ k. let r = of-flatMap f l b k in (r .0, List·Memᴰ·tail (r .1), r .2)) (List·Memᴰ·append-cases (f a) m)
