@@ -19,3 +19,4 @@ pub mod ImageRoundTrip
 pub mod RowRanges
 pub mod ImageLaws
 pub mod DistinctNodes
+pub mod ImageLength

@@ -43,7 +43,7 @@ unfolding fused
 fused-length rules rows = length-map rows (fused-row rules)
 
 -- A production of a node's fused row.
-fused-member : (rules : List Rule) (rows : List Row) (n : ℕ) (p : Production) → List·Memᴰ p ((row-of (fused rules rows) n) .productions)
+pub fused-member : (rules : List Rule) (rows : List Row) (n : ℕ) (p : Production) → List·Memᴰ p ((row-of (fused rules rows) n) .productions)
     → FusedOf rules 0 ((row-of rows n) .productions) p
 unfolding fused-row
 fused-member rules rows n p m =
