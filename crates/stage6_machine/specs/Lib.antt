@@ -4,4 +4,6 @@ pub mod Run
 pub mod OwnAnswer
 pub mod Computing
 pub mod OwnAnswerLaws
+pub mod TakingLaws
 pub mod RunAnswers
+pub mod FaithfulImage

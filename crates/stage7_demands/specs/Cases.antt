@@ -11,7 +11,8 @@ use Rattle.stage5_image.specs.Compile.{Compiled, refused, compiled, compile, wr
 use Rattle.stage6_machine.specs.Answer.{Answer, answer}
 use Rattle.stage6_machine.specs.Run.{run}
 use Rattle.stage6_machine.specs.Computing.{computing-machine}
-use Rattle.stage7_demands.specs.SheetD.{with-expression, sheet-D, rules-of-image-D, image-D}
+use Rattle.stage1_sheet.specs.SheetD.{with-expression, bytes-of-D}
+use Rattle.stage7_demands.specs.ImageD.{rules-of-image-D, image-D}
 
 pub data Case : Type 0 where
   -- a sheet, and how compiling it ends
@@ -41,12 +42,12 @@ endless = fixed-point (sequence (token 0) (variable 0))
 pub cases : List Case
 cases =
     -- sheet D: its image, and `12 /7`, the empty text, `12/`, `12//7`, `12h`
-    compiles sheet-D (compiled image-D)
-    ∷ reads sheet-D (49 ∷ 50 ∷ 32 ∷ 47 ∷ 55 ∷ []) (answer 0 5 3)
-    ∷ reads sheet-D [] (answer 16 0 0)
-    ∷ reads sheet-D (49 ∷ 50 ∷ 47 ∷ []) (answer 16 3 2)
-    ∷ reads sheet-D (49 ∷ 50 ∷ 47 ∷ 47 ∷ 55 ∷ []) (answer 15 3 2)
-    ∷ reads sheet-D (49 ∷ 50 ∷ 104 ∷ []) (answer 14 2 1)
+    compiles bytes-of-D (compiled image-D)
+    ∷ reads bytes-of-D (49 ∷ 50 ∷ 32 ∷ 47 ∷ 55 ∷ []) (answer 0 5 3)
+    ∷ reads bytes-of-D [] (answer 16 0 0)
+    ∷ reads bytes-of-D (49 ∷ 50 ∷ 47 ∷ []) (answer 16 3 2)
+    ∷ reads bytes-of-D (49 ∷ 50 ∷ 47 ∷ 47 ∷ 55 ∷ []) (answer 15 3 2)
+    ∷ reads bytes-of-D (49 ∷ 50 ∷ 104 ∷ []) (answer 14 2 1)
     -- N ∨ N
     ∷ compiles (with-expression (4 ∷ 2 ∷ 0 ∷ 2 ∷ 0 ∷ [])) (refused 10 20)
     -- (ε ∨ N)·S
