@@ -20,3 +20,4 @@ pub mod RowRanges
 pub mod ImageLaws
 pub mod DistinctNodes
 pub mod ImageLength
+pub mod CompileLaws
