@@ -1,11 +1,12 @@
--- Nodes that stand once each and are all among the members of a list are no more than that list is long; so the nodes reached
--- are no more than the start and the right parts of sequences: at most 32.
+-- Nodes that stand once each and are all among the members of a list are no more than that list is long.
 use mathlib.Core.Path.{_≡_, refl, sym, ap, subst, _∙_}
 use mathlib.Core.Bool.{Bool, true, false, _||_}
 use mathlib.Core.List.{List, [], _∷_, _++_, flatMap, List·Memᴰ, List·Memᴰ·head, List·Memᴰ·tail, List·Memᴰ·not-nil, List·Memᴰ·cases-cons, List·Memᴰ·append-cases}
 use mathlib.Core.Logic.{_⊎_, inl, inr, ⊎-elim}
 use Prim.Native.Nat.{ℕ, zero, suc, _+_, _≤_, _<_}
 use native.Mathlib.Omega.{arith}
+use native.Mathlib.Nat.{not-suc-le-zero}
+use native.Mathlib.Decide.{ℕ-discrete}
 use lib.Dec.{T, eqb}
 use lib.ListN.{getD, length, take, length-take, take-append-drop, drop}
 use lib.Seq.{take-suc, take-length, length-take-le}
@@ -13,7 +14,7 @@ use borrow.Author.Tests.{eq-eqb}
 use Rattle.stage0_laws.specs.Truth.{true-holds, holds-true}
 use Rattle.stage5_image.specs.Members.{member-at}
 use Rattle.stage5_image.specs.Numbering.{is-met, number-of}
-use Rattle.stage5_image.specs.NumberingLaws.{Met, Once, first-met, met-last, number-left, number-below}
+use Rattle.stage5_image.specs.MetNodes.{Met, Once, met-last, number-left, number-below}
 
 -- ---- members of a list that have not been met
 
@@ -80,21 +81,20 @@ unmet-none (n ∷ l) = let a = unmet-none l in omega arith
 pub distinct-few : (met l : List ℕ) → Once met → ((n : ℕ) → List·Memᴰ n met → List·Memᴰ n l) → length met ≤ length l
 distinct-few met l once inside = let a = prefix-few met l once inside (length met) (omega arith) in let b = unmet-none l in omega arith
 
--- ---- what is met
+-- The numbers below n.
+abbrev numbers-below : ℕ → List ℕ
+numbers-below zero = []
+numbers-below (suc n) = n ∷ numbers-below n
 
--- What is first met in a list is a member of it.
-pub first-met-member : (met l : List ℕ) (n : ℕ) → List·Memᴰ n (first-met met l) → List·Memᴰ n l
-first-met-member met [] n m = m
-first-met-member met (k ∷ l) n m = go (is-met k met) (λ x. first-met-member met l n x) (λ x. first-met-member (k ∷ met) l n x) m
-  where
-    go : (b : Bool) → (List·Memᴰ n (first-met met l) → List·Memᴰ n l) → (List·Memᴰ n (first-met (k ∷ met) l) → List·Memᴰ n l)
-        → List·Memᴰ n (elim b [ true ↦ first-met met l | false ↦ k ∷ first-met (k ∷ met) l ]) → List·Memᴰ n (k ∷ l)
-    go true f g x = List·Memᴰ·tail (f x)
-    go false f g x = ⊎-elim (λ e. List·Memᴰ·head e) (λ y. List·Memᴰ·tail (g y)) (List·Memᴰ·cases-cons x)
+numbers-below-length : (n : ℕ) → length (numbers-below n) ≡ n
+numbers-below-length zero = refl
+numbers-below-length (suc n) = ap suc (numbers-below-length n)
 
--- A member of joined lists is a member of one of them.
-pub of-flatMap : {A B : Type 0} (f : A → List B) (l : List A) (b : B) → List·Memᴰ b (flatMap f l) → (a : A) × List·Memᴰ a l × List·Memᴰ b (f a)
-unfolding flatMap
-of-flatMap f [] b m = absurd (List·Memᴰ·not-nil m)
-of-flatMap f (a ∷ l) b m =
-    ⊎-elim (λ k. (a, List·Memᴰ·head refl, k)) (λ k. let r = of-flatMap f l b k in (r .0, List·Memᴰ·tail (r .1), r .2)) (List·Memᴰ·append-cases (f a) m)
+numbers-below-all : (n x : ℕ) → x < n → List·Memᴰ x (numbers-below n)
+numbers-below-all zero x h = absurd (not-suc-le-zero h)
+numbers-below-all (suc n) x h = elim (ℕ-discrete x n) [ yes e ↦ List·Memᴰ·head e | no e ↦ List·Memᴰ·tail (numbers-below-all n x (omega arith)) ]
+
+-- Distinct numbers below n are at most n.
+pub distinct-below : (met : List ℕ) (n : ℕ) → Once met → ((x : ℕ) → List·Memᴰ x met → x < n) → length met ≤ n
+distinct-below met n once below =
+    omega (arith, distinct-few met (numbers-below n) once (λ x m. numbers-below-all n x (below x m)), numbers-below-length n)

@@ -29,7 +29,8 @@ use Rattle.stage3_normal_form.specs.RightParts.{right-parts, right-parts-count,
 use Rattle.stage3_normal_form.specs.Tails.{sequence-count, sequence-count-bound}
 use Rattle.stage4_lexer.specs.Positions.{Position, empty-match}
 use Rattle.stage5_image.specs.Compile.{work-bytes}
-use Rattle.stage5_image.specs.DistinctNodes.{distinct-few, first-met-member, of-flatMap}
+use Rattle.stage5_image.specs.DistinctNodes.{distinct-few}
+use Rattle.stage5_image.specs.MetNodes.{first-met-member}
 use Rattle.stage5_image.specs.Fusion.{fused}
 use Rattle.stage5_image.specs.Image.{Image, image-of, flag, flag-numbers, position-numbers, production-numbers, row-numbers, image-numbers, image-bytes}
 use Rattle.stage5_image.specs.ImageLaws.{normal-form-inside, normal-form-some, image-in-range}
@@ -37,7 +38,7 @@ use Rattle.stage5_image.specs.ImageNumbers.{all-numbers, flag-number, on
   productions-are, rows-are}
 use Rattle.stage5_image.specs.ImageRanges.{PositionInRange, ProductionInRange, RowInRange, InRange}
 use Rattle.stage5_image.specs.ImageReading.{most-tail}
-use Rattle.stage5_image.specs.Members.{all-member}
+use Rattle.stage5_image.specs.Members.{all-member, of-flatMap}
 use Rattle.stage5_image.specs.Numbering.{reached, numbered}
 use Rattle.stage5_image.specs.NumberingLaws.{Reached, row-by-row, numbered-count}
 use Rattle.stage5_image.specs.Simulation.{reached-fused, fused-member}

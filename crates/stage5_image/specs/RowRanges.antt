@@ -21,7 +21,8 @@ use Rattle.stage5_image.specs.ImageRanges.{ProductionInRange, Rising, Ro
 use Rattle.stage5_image.specs.ImageReading.{most-tail}
 use Rattle.stage5_image.specs.Members.{all-of, all-member, all-map}
 use Rattle.stage5_image.specs.Numbering.{is-met, reached, number-of, renumbered, renumbered-row, numbered}
-use Rattle.stage5_image.specs.NumberingLaws.{Met, TailsInside, Reached, reached-is, numbered-count, row-at-number, met-member}
+use Rattle.stage5_image.specs.MetNodes.{Met, met-member}
+use Rattle.stage5_image.specs.NumberingLaws.{TailsInside, Reached, reached-is, numbered-count, row-at-number}
 use Rattle.stage5_image.specs.Simulation.{Simulates, image-simulates, fused-row-of, fused-inside, fused-length, reached-fused}
 use Rattle.stage5_image.specs.Unfolding.{Returns}
 

@@ -15,8 +15,8 @@ use Rattle.stage5_image.specs.Fusion.{production-of, by-rule, fused-from
 use Rattle.stage5_image.specs.FusionLaws.{Found, production-found, as-rule, rule-production, FusedOf, fused-of}
 use Rattle.stage5_image.specs.Members.{all-of}
 use Rattle.stage5_image.specs.Numbering.{tail-members, reached, number-of, renumbered, renumbered-row, numbered}
-use Rattle.stage5_image.specs.NumberingLaws.{Met, TailsInside, Reached, reached-is, row-at-number, tail-member, of-tail-members, numbered-count,
-  number-below as node-number}
+use Rattle.stage5_image.specs.MetNodes.{Met, number-below as node-number}
+use Rattle.stage5_image.specs.NumberingLaws.{TailsInside, Reached, reached-is, row-at-number, tail-member, of-tail-members, numbered-count}
 use Rattle.stage5_image.specs.Unfolding.{Returns}
 
 -- ---- fusion of all rows
