@@ -8,7 +8,8 @@ use lib.ListN.{getD, length, length-append}
 use Rattle.stage0_laws.specs.Lists.{All}
 use Rattle.stage1_sheet.specs.Expression.{Expression, epsilon, bottom, token, sequence, alternative, fixed-point, variable, size}
 use Rattle.stage1_sheet.specs.ListLaws.{flatMap-append}
-use Rattle.stage2_types.specs.Nodes.{Node, epsilon-node, bottom-node, token-node, sequence-node, alternative-node, fixed-point-node, variable-node, Binder, guard, no-binder, variable-of, nodes-from, nodes}
+use Rattle.stage2_types.specs.Nodes.{Node, epsilon-node, bottom-node, token-node, sequence-node, alternative-node, fixed-point-node,
+  variable-node, Binder, guard, no-binder, variable-of, nodes-from, nodes}
 use Rattle.stage3_normal_form.specs.Productions.{Production, row-of, ended-by, rows}
 use Rattle.stage3_normal_form.specs.NormalForm.{normal-form}
 use Rattle.stage3_normal_form.specs.NormalFormLaws.{kept-production}
@@ -41,7 +42,8 @@ parts-from (sequence g h) p fs =
     omega (arith, parts-append (nodes-from g (suc p) fs) (nodes-from h (suc p + size g) (map guard fs)), parts-from g (suc p) fs,
     parts-from h (suc p + size g) (map guard fs))
 parts-from (alternative g h) p fs =
-    omega (arith, parts-append (nodes-from g (suc p) fs) (nodes-from h (suc p + size g) fs), parts-from g (suc p) fs, parts-from h (suc p + size g) fs)
+    omega (arith, parts-append (nodes-from g (suc p) fs) (nodes-from h (suc p + size g) fs), parts-from g (suc p) fs, parts-from h
+    (suc p + size g) fs)
 parts-from (fixed-point g) p fs = omega (arith, parts-from g (suc p) (record { node = p; guarded = false } ∷ fs))
 parts-from (variable n) p fs = refl
 
@@ -62,7 +64,8 @@ with-last P [] n h x = (x, tt)
 with-last P (m ∷ l) n h x = (h .0, with-last P l n (h .1) x)
 
 -- Every member of every tail is a right part.
-pub tails-right : (e : Expression) (n : ℕ) (q : Production) → q of row-of (normal-form e) n → All (λ r. List·Memᴰ r (right-parts (nodes e))) (q .tail)
+pub tails-right : (e : Expression) (n : ℕ) (q : Production) → q of row-of (normal-form e) n
+    → All (λ r. List·Memᴰ r (right-parts (nodes e))) (q .tail)
 tails-right e n q m = unfold rows in
     every-production (nodes e) (λ q. All (λ r. List·Memᴰ r (right-parts (nodes e))) (q .tail)) (λ n t h. tt)
     (λ n l r h q x. unfold ended-by in with-last (λ r. List·Memᴰ r (right-parts (nodes e))) (q .tail) r x (part-of (nodes e) n l r h))

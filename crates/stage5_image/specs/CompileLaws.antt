@@ -29,7 +29,8 @@ use Rattle.stage2_types.specs.Typing.{sheet-typed-iff}
 use Rattle.stage4_lexer.specs.EmptyWord.{none-empty, first-empty-rule}
 use Rattle.stage4_lexer.specs.Positions.{empty-match}
 use Rattle.stage4_lexer.specs.Words.{WordOf}
-use Rattle.stage5_image.specs.Compile.{work-bytes, Compiled, refused, too-long, compiled, fitted, after-types, after-rules, after-reading, compile}
+use Rattle.stage5_image.specs.Compile.{work-bytes, Compiled, refused, too-long, compiled, fitted, after-types, after-rules,
+  after-reading, compile}
 use Rattle.stage5_image.specs.Image.{Image, image-of, image-bytes}
 use Rattle.stage5_image.specs.ImageLaws.{image-denotes, image-read-back}
 use Rattle.stage5_image.specs.ImageLength.{image-fits}
@@ -47,10 +48,12 @@ pub data Compiles (bytes : List ℕ) (work room : ℕ) : Compiled → Type 0 whe
   short-work : work < work-bytes → Compiles bytes work room (refused 1 0)
   long-sheet : work-bytes ≤ work → most-sheet-bytes < length bytes → Compiles bytes work room (refused 2 0)
   -- 3 to 6: no sheet is spelled
-  unreadable : (question place : ℕ) → work-bytes ≤ work → length bytes ≤ most-sheet-bytes → SheetRefusal bytes question place → (WellFormed bytes → ⊥)
+  unreadable : (question place : ℕ) → work-bytes ≤ work → length bytes ≤ most-sheet-bytes → SheetRefusal bytes question place
+      → (WellFormed bytes → ⊥)
       → Compiles bytes work room (refused question place)
   -- 7: the first rule that matches the empty word, at its action
-  empty-rule : (s : Sheet) (k : ℕ) → work-bytes ≤ work → Spells bytes s → WordOf (s .rules) k [] → ((j : ℕ) → j < k → WordOf (s .rules) j [] → ⊥)
+  empty-rule : (s : Sheet) (k : ℕ) → work-bytes ≤ work → Spells bytes s → WordOf (s .rules) k []
+      → ((j : ℕ) → j < k → WordOf (s .rules) j [] → ⊥)
       → Compiles bytes work room (refused 7 (getD (contents-of s .action-places) k 0))
   -- 8 to 10: the first node that fails at the least types, at its tag
   untyped : (s : Sheet) (f : Fault) → work-bytes ≤ work → Spells bytes s → ((k : ℕ) → WordOf (s .rules) k [] → ⊥)
@@ -72,10 +75,12 @@ module _ (bytes : List ℕ) (work room : ℕ) where
       go true e = success s w p (leb→le (length (image-bytes (image-of s))) room (true-holds _ e))
       go false e = no-room s w p (nleb→lt (length (image-bytes (image-of s))) room (rw e tt))
 
-  type-question : (s : Sheet) → work-bytes ≤ work → Spells bytes s → empty-match (s .rules) 0 ≡ none → (o : Option Fault) → type-fault (s .expression) ≡ o
+  type-question : (s : Sheet) → work-bytes ≤ work → Spells bytes s → empty-match (s .rules) 0 ≡ none → (o : Option Fault)
+      → type-fault (s .expression) ≡ o
       → Compiles bytes work room (after-types room (contents-of s) o)
   unfolding after-types contents-of
-  type-question s w h m none e = room-question s w (record { spells = h; no-empty-word = none-empty (s .rules) .0 m; typed = sheet-typed-iff s (h .limits) .0 e })
+  type-question s w h m none e =
+      room-question s w (record { spells = h; no-empty-word = none-empty (s .rules) .0 m; typed = sheet-typed-iff s (h .limits) .0 e })
   type-question s w h m (some f) e = untyped s f w h (none-empty (s .rules) .0 m) (type-fault-first (s .expression) f e)
 
   rule-question : (s : Sheet) → work-bytes ≤ work → Spells bytes s → (o : Option ℕ) → empty-match (s .rules) 0 ≡ o
@@ -104,7 +109,8 @@ module _ (bytes : List ℕ) (work room : ℕ) where
       second w false e = reading-questions b w (ltb-false most-sheet-bytes (length bytes) e) (read-sheet bytes) refl
 
       first : (c : Bool) → ltb work work-bytes ≡ c
-          → Compiles bytes work room (cond c (refused 1 0) (cond (ltb most-sheet-bytes (length bytes)) (refused 2 0) (after-reading room (read-sheet bytes))))
+          → Compiles bytes work room (cond c (refused 1 0) (cond (ltb most-sheet-bytes (length bytes)) (refused 2 0)
+          (after-reading room (read-sheet bytes))))
       first true e = short-work (ltb-true work work-bytes e)
       first false e = second (ltb-false work work-bytes e) (ltb most-sheet-bytes (length bytes)) refl
 
@@ -113,7 +119,8 @@ module _ (bytes : List ℕ) (work room : ℕ) where
   unfolding compile after-reading after-rules after-types contents-of
   passes-fitted {s} p w =
       let l : length bytes ≤ most-sheet-bytes = p .spells .bytes-most in
-      rw (le-ltb work work-bytes w, le-ltb most-sheet-bytes (length bytes) l, spelled-read bytes s (p .spells), none-empty (s .rules) .1 (p .no-empty-word),
+      rw (le-ltb work work-bytes w, le-ltb most-sheet-bytes (length bytes) l, spelled-read bytes s (p .spells), none-empty (s .rules) .1
+      (p .no-empty-word),
       sheet-typed-iff s (p .spells .limits) .1 (p .typed))
 
 -- ---- success
@@ -139,7 +146,8 @@ module _ (bytes : List ℕ) (b : Bytes bytes) (work room : ℕ) where
       let same : image ≡ image-bytes (image-of s) = cc in (w, (s, p, same), subst (λ (l : List ℕ). length l ≤ room) (sym same) h)
 
   -- Compiling succeeds exactly on bytes that pass, with a large enough work area and room for the image; it writes the image.
-  pub compiled-iff : (image : List ℕ) → (compile bytes work room ≡ compiled image) ↔ ((work-bytes ≤ work) × ImageOf bytes image × (length image ≤ room))
+  pub compiled-iff : (image : List ℕ)
+      → (compile bytes work room ≡ compiled image) ↔ ((work-bytes ≤ work) × ImageOf bytes image × (length image ≤ room))
   compiled-iff image = (
     compiled-from (compile-answers bytes work room b) image,
     λ h.
@@ -149,7 +157,8 @@ module _ (bytes : List ℕ) (b : Bytes bytes) (work room : ℕ) where
       ∙ ap compiled (sym same),
   )
 
-  too-long-from : {c : Compiled} → Compiles bytes work room c → (n : ℕ) → c ≡ too-long n → (s : Sheet) × Passes bytes s × (n ≡ length (image-bytes (image-of s))) × (room < n)
+  too-long-from : {c : Compiled} → Compiles bytes work room c → (n : ℕ) → c ≡ too-long n
+      → (s : Sheet) × Passes bytes s × (n ≡ length (image-bytes (image-of s))) × (room < n)
   too-long-from (short-work h) n e = let z : _≡_ {A = ℕ} 0 1 = cc in absurd (omega arith)
   too-long-from (long-sheet w h) n e = let z : _≡_ {A = ℕ} 0 1 = cc in absurd (omega arith)
   too-long-from (unreadable question place w l h f) n e = let z : _≡_ {A = ℕ} 0 1 = cc in absurd (omega arith)
@@ -169,7 +178,8 @@ module _ (bytes : List ℕ) (b : Bytes bytes) (work room : ℕ) where
   -- Demand 2: the image that is handed back is readable, and its start unfolds to exactly the rule sequences that spell a token
   -- sequence which the sheet's expression denotes.
   pub compiled-denotes : (image : List ℕ) → compile bytes work room ≡ compiled image
-      → (s : Sheet) × Spells bytes s × (i : Image) × (read-image image ≡ got i (length image)) × ((ks : List ℕ) → StartUnfolds (i .rows) ks ↔ DenotedRules s ks)
+      → (s : Sheet) × Spells bytes s × (i : Image) × (read-image image ≡ got i (length image)) ×
+      ((ks : List ℕ) → StartUnfolds (i .rows) ks ↔ DenotedRules s ks)
   compiled-denotes image e =
       let r = compiled-iff image .0 e .1 in
       let s = r .0 in
@@ -177,5 +187,6 @@ module _ (bytes : List ℕ) (b : Bytes bytes) (work room : ℕ) where
       let w = p .spells .limits in
       let typed = p .typed .1 in
       (s, p .spells, image-of s,
-      subst (λ (l : List ℕ). read-image l ≡ got (image-of s) (length l)) (sym (r .2)) (image-read-back s w (none-empty (s .rules) .1 (p .no-empty-word)) typed),
+      subst (λ (l : List ℕ). read-image l ≡ got (image-of s) (length l)) (sym (r .2))
+      (image-read-back s w (none-empty (s .rules) .1 (p .no-empty-word)) typed),
       image-denotes s (w .closed) typed)

@@ -1,7 +1,8 @@
 -- Nodes that stand once each and are all among the members of a list are no more than that list is long.
 use mathlib.Core.Path.{_≡_, refl, sym, ap, subst, _∙_}
 use mathlib.Core.Bool.{Bool, true, false, _||_}
-use mathlib.Core.List.{List, [], _∷_, _++_, flatMap, List·Memᴰ, List·Memᴰ·head, List·Memᴰ·tail, List·Memᴰ·not-nil, List·Memᴰ·cases-cons, List·Memᴰ·append-cases}
+use mathlib.Core.List.{List, [], _∷_, _++_, flatMap, List·Memᴰ, List·Memᴰ·head, List·Memᴰ·tail, List·Memᴰ·not-nil, List·Memᴰ·cases-cons,
+  List·Memᴰ·append-cases}
 use mathlib.Core.Logic.{_⊎_, inl, inr, ⊎-elim}
 use Prim.Native.Nat.{ℕ, zero, suc, _+_, _≤_, _<_}
 use native.Mathlib.Omega.{arith}
@@ -61,7 +62,8 @@ new-at-place met once i h = go (is-met (getD met i 0) (take i met)) refl
         let below = number-below (getD met i 0) (take i met) t .0 in
         let size = length-take-le i met (omega arith) in
         let same : number-of met (getD met i 0) ≡ number-of (take i met) (getD met i 0) =
-        ap (λ (l : List ℕ). number-of l (getD met i 0)) (sym (take-append-drop i met)) ∙ number-left (getD met i 0) (take i met) (drop i met) t in
+        ap (λ (l : List ℕ). number-of l (getD met i 0)) (sym (take-append-drop i met)) ∙ number-left (getD met i 0) (take i met)
+        (drop i met) t in
         absurd (omega (arith, once i h))
 
 prefix-few : (met l : List ℕ) → Once met → ((n : ℕ) → List·Memᴰ n met → List·Memᴰ n l) → (i : ℕ) → i ≤ length met
@@ -92,7 +94,8 @@ numbers-below-length (suc n) = ap suc (numbers-below-length n)
 
 numbers-below-all : (n x : ℕ) → x < n → List·Memᴰ x (numbers-below n)
 numbers-below-all zero x h = absurd (not-suc-le-zero h)
-numbers-below-all (suc n) x h = elim (ℕ-discrete x n) [ yes e ↦ List·Memᴰ·head e | no e ↦ List·Memᴰ·tail (numbers-below-all n x (omega arith)) ]
+numbers-below-all (suc n) x h =
+    elim (ℕ-discrete x n) [ yes e ↦ List·Memᴰ·head e | no e ↦ List·Memᴰ·tail (numbers-below-all n x (omega arith)) ]
 
 -- Distinct numbers below n are at most n.
 pub distinct-below : (met : List ℕ) (n : ℕ) → Once met → ((x : ℕ) → List·Memᴰ x met → x < n) → length met ≤ n

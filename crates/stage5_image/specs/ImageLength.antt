@@ -32,9 +32,11 @@ use Rattle.stage5_image.specs.Compile.{work-bytes}
 use Rattle.stage5_image.specs.DistinctNodes.{distinct-few}
 use Rattle.stage5_image.specs.MetNodes.{first-met-member}
 use Rattle.stage5_image.specs.Fusion.{fused}
-use Rattle.stage5_image.specs.Image.{Image, image-of, flag, flag-numbers, position-numbers, production-numbers, row-numbers, image-numbers, image-bytes}
+use Rattle.stage5_image.specs.Image.{Image, image-of, flag, flag-numbers, position-numbers, production-numbers, row-numbers,
+  image-numbers, image-bytes}
 use Rattle.stage5_image.specs.ImageLaws.{normal-form-inside, normal-form-some, image-in-range}
-use Rattle.stage5_image.specs.ImageNumbers.{all-numbers, flag-number, one-position-numbers, one-production-numbers, one-row-numbers, flags-are, positions-are,
+use Rattle.stage5_image.specs.ImageNumbers.{all-numbers, flag-number, one-position-numbers, one-production-numbers,
+  one-row-numbers, flags-are, positions-are,
   productions-are, rows-are}
 use Rattle.stage5_image.specs.ImageRanges.{PositionInRange, ProductionInRange, RowInRange, InRange}
 use Rattle.stage5_image.specs.ImageReading.{most-tail}
@@ -62,7 +64,8 @@ one-byte n h = rw (lt-ltb n 128 h)
 
 two-bytes : (n : ℕ) → n ≤ most-byte → length (encode n) ≤ 2
 unfolding encode encode-in
-two-bytes n h = ⊎-elim (λ l. rw (lt-ltb n 128 l) (omega arith)) (λ l. rw (le-ltb n 128 l, lt-ltb (n / 128) 128 (omega arith)) (omega arith)) (lt-or-le n 128)
+two-bytes n h = ⊎-elim (λ l. rw (lt-ltb n 128 l) (omega arith))
+    (λ l. rw (le-ltb n 128 l, lt-ltb (n / 128) 128 (omega arith)) (omega arith)) (lt-or-le n 128)
 
 -- Small numbers take a byte each.
 width-small : (ns : List ℕ) → All (λ n. n < 128) ns → width ns ≡ length ns
@@ -71,10 +74,12 @@ width-small [] h = refl
 width-small (n ∷ ns) h = omega (arith, width-cons n ns, one-byte n (h .0), width-small ns (h .1))
 
 -- Things that take at most so many bytes each.
-width-all : {A : Type 0} (numbers : A → List ℕ) (most : ℕ) (l : List A) → All (λ a. width (numbers a) ≤ most) l → width (all-numbers numbers l) ≤ length l * most
+width-all : {A : Type 0} (numbers : A → List ℕ) (most : ℕ) (l : List A) → All (λ a. width (numbers a) ≤ most) l
+    → width (all-numbers numbers l) ≤ length l * most
 unfolding spell
 width-all numbers most [] h = omega arith
-width-all numbers most (a ∷ l) h = let x = h .0 in omega (arith, width-append (numbers a) (all-numbers numbers l), width-all numbers most l (h .1))
+width-all numbers most (a ∷ l) h = let x = h .0 in omega (arith, width-append (numbers a) (all-numbers numbers l),
+    width-all numbers most l (h .1))
 
 -- ---- bytes of an image in range
 
@@ -93,7 +98,8 @@ position-width rules count p few g =
     let c = g .rule-below in
     let rest = width-small (p .rule ∷ flag (p .last) ∷ []) (omega arith, (flag-small (p .last), tt)) in
     omega (arith, width-cons (p .low) (p .high ∷ p .rule ∷ flag (p .last) ∷ p .follow ∷ []), two-bytes (p .low) (omega arith),
-    width-cons (p .high) (p .rule ∷ flag (p .last) ∷ p .follow ∷ []), two-bytes (p .high) b, width-append (p .rule ∷ flag (p .last) ∷ []) (p .follow ∷ []),
+    width-cons (p .high) (p .rule ∷ flag (p .last) ∷ p .follow ∷ []), two-bytes (p .high) b, width-append (p .rule ∷ flag (p .last) ∷ [])
+    (p .follow ∷ []),
     ten (p .follow))
   where
     ten : (n : ℕ) → width (n ∷ []) ≤ 10
@@ -110,13 +116,15 @@ production-width skips count p few-rules few g =
     let b = g .tail-length in
     omega (arith, width-small (one-production-numbers p) (omega arith, (omega arith, small-members count (p .tail) few (g .members-below))))
 
-row-width : (skips : List Bool) (count : ℕ) (row : Row) → length skips ≤ most-rules → count ≤ most-expression-nodes → RowInRange skips count row
+row-width : (skips : List Bool) (count : ℕ) (row : Row) → length skips ≤ most-rules → count ≤ most-expression-nodes
+    → RowInRange skips count row
     → width (one-row-numbers row) ≤ 1058
 row-width skips count row few-rules few g =
     let a = g .production-count in
     let ps = row .productions in
     let most = width-all one-production-numbers 33 ps (each ps (g .productions-in-range)) in
-    omega (arith, width-append (flag (row .empty) ∷ length ps ∷ []) (production-numbers ps), width-small (flag (row .empty) ∷ length ps ∷ []) (flag-small (row .empty), (omega arith, tt)),
+    omega (arith, width-append (flag (row .empty) ∷ length ps ∷ []) (production-numbers ps), width-small
+    (flag (row .empty) ∷ length ps ∷ []) (flag-small (row .empty), (omega arith, tt)),
     ap width (productions-are ps), most)
   where
     each : (ps : List Production) → All (ProductionInRange skips count) ps → All (λ p. width (one-production-numbers p) ≤ 33) ps
@@ -138,9 +146,11 @@ image-width i g =
     let flags : width (flag-numbers (i .skips)) ≤ R * 1 =
     subst (λ (l : List ℕ). width l ≤ R * 1) (flags-are (i .skips)) (width-all flag-number 1 (i .skips) (all-flags (i .skips))) in
     let positions : width (position-numbers (i .positions)) ≤ P * 16 =
-    subst (λ (l : List ℕ). width l ≤ P * 16) (positions-are (i .positions)) (width-all one-position-numbers 16 (i .positions) (all-positions (i .positions) (g .positions-in-range))) in
+    subst (λ (l : List ℕ). width l ≤ P * 16) (positions-are (i .positions))
+    (width-all one-position-numbers 16 (i .positions) (all-positions (i .positions) (g .positions-in-range))) in
     let rows : width (row-numbers (i .rows)) ≤ N * 1058 =
-    subst (λ (l : List ℕ). width l ≤ N * 1058) (rows-are (i .rows)) (width-all one-row-numbers 1058 (i .rows) (all-rows (i .rows) (g .rows-in-range))) in
+    subst (λ (l : List ℕ). width l ≤ N * 1058) (rows-are (i .rows))
+    (width-all one-row-numbers 1058 (i .rows) (all-rows (i .rows) (g .rows-in-range))) in
     let a = width-append (1 ∷ R ∷ []) (flag-numbers (i .skips) ++ fields) in
     let b = width-small (1 ∷ R ∷ []) (omega arith, (omega arith, tt)) in
     let c = width-append (flag-numbers (i .skips)) fields in
@@ -157,9 +167,11 @@ image-width i g =
     all-flags [] = tt
     all-flags (b ∷ bs) = (flag-width b, all-flags bs)
 
-    all-positions : (ps : List Position) → All (PositionInRange (length (i .skips)) (length (i .positions))) ps → All (λ p. width (one-position-numbers p) ≤ 16) ps
+    all-positions : (ps : List Position) → All (PositionInRange (length (i .skips)) (length (i .positions))) ps
+        → All (λ p. width (one-position-numbers p) ≤ 16) ps
     all-positions [] h = tt
-    all-positions (p ∷ ps) h = (position-width (length (i .skips)) (length (i .positions)) p (g .rule-count) (h .0), all-positions ps (h .1))
+    all-positions (p ∷ ps) h =
+        (position-width (length (i .skips)) (length (i .positions)) p (g .rule-count) (h .0), all-positions ps (h .1))
 
     all-rows : (rs : List Row) → All (RowInRange (i .skips) (length (i .rows))) rs → All (λ r. width (one-row-numbers r) ≤ 1058) rs
     all-rows [] h = tt
@@ -168,20 +180,24 @@ image-width i g =
 -- ---- a sheet's image
 
 -- A node that is reached is the start or a right part.
-reached-right : (rules : List Rule) (e : Expression) (tokens : ℕ) → Closed tokens 0 e → (n : ℕ) → List·Memᴰ n (reached (fused rules (normal-form e)))
+reached-right : (rules : List Rule) (e : Expression) (tokens : ℕ) → Closed tokens 0 e → (n : ℕ)
+    → List·Memᴰ n (reached (fused rules (normal-form e)))
     → List·Memᴰ n (0 ∷ right-parts (nodes e))
 reached-right rules e tokens c n m =
     let rows = fused rules (normal-form e) in
     let r = reached-fused rules (normal-form e) (normal-form-inside e tokens c) (normal-form-some e) in
-    ⊎-elim (λ z. List·Memᴰ·head z) (λ k. List·Memᴰ·tail (in-tail (of-flatMap (λ n. flatMap (λ p. p .tail) ((row-of rows n) .productions)) (reached rows) n k)))
+    ⊎-elim (λ z. List·Memᴰ·head z) (λ k. List·Memᴰ·tail (in-tail
+    (of-flatMap (λ n. flatMap (λ p. p .tail) ((row-of rows n) .productions)) (reached rows) n k)))
     (List·Memᴰ·cases-cons (first-met-member [] (0 ∷ row-by-row rows (reached rows)) n (subst (List·Memᴰ n) (r .in-order) m)))
   where
-    in-tail : (k : ℕ) × List·Memᴰ k (reached (fused rules (normal-form e))) × List·Memᴰ n (flatMap (λ p. p .tail) ((row-of (fused rules (normal-form e)) k) .productions))
+    in-tail : (k : ℕ) × List·Memᴰ k (reached (fused rules (normal-form e)))
+        × List·Memᴰ n (flatMap (λ p. p .tail) ((row-of (fused rules (normal-form e)) k) .productions))
         → List·Memᴰ n (right-parts (nodes e))
     in-tail k =
         let p = of-flatMap (λ p. p .tail) ((row-of (fused rules (normal-form e)) (k .0)) .productions) n (k .2) in
         let f = fused-member rules (normal-form e) (k .0) (p .0) (p .1) in
-        all-member (λ x. List·Memᴰ x (right-parts (nodes e))) (f .source .tail) (tails-right e (k .0) (f .source) (f .member)) n (subst (List·Memᴰ n) (f .same-tail) (p .2))
+        all-member (λ x. List·Memᴰ x (right-parts (nodes e))) (f .source .tail) (tails-right e (k .0) (f .source) (f .member)) n
+        (subst (List·Memᴰ n) (f .same-tail) (p .2))
 
 -- At most the start and a nonterminal for each sequence node.
 pub nonterminals-few : (s : Sheet) → Closed (s .tokens) 0 (s .expression) → length ((image-of s) .rows) ≤ 1 + sequence-count (s .expression)

@@ -1,7 +1,8 @@
 -- The nodes met so far: which they are, in which order they joined, and the number of each.
 use mathlib.Core.Path.{_≡_, refl, sym, ap, subst, _∙_}
 use mathlib.Core.Bool.{Bool, true, false, _||_, cond}
-use mathlib.Core.List.{List, [], _∷_, _++_, append-assoc, append-nil, List·Memᴰ, List·Memᴰ·head, List·Memᴰ·tail, List·Memᴰ·not-nil, List·Memᴰ·cases-cons}
+use mathlib.Core.List.{List, [], _∷_, _++_, append-assoc, append-nil, List·Memᴰ, List·Memᴰ·head, List·Memᴰ·tail, List·Memᴰ·not-nil,
+  List·Memᴰ·cases-cons}
 use mathlib.Core.Logic.{⊎-elim}
 use Prim.Native.Nat.{ℕ, zero, suc, _≤_, _<_}
 use native.Mathlib.Omega.{arith}
@@ -40,7 +41,8 @@ met-last n m [] = go (eqb m n)
     go false = refl
 met-last n m (k ∷ met) = go (eqb k n) (met-last n m met)
   where
-    go : (b : Bool) → is-met n (met ++ (m ∷ [])) ≡ (is-met n met || eqb m n) → (b || is-met n (met ++ (m ∷ []))) ≡ ((b || is-met n met) || eqb m n)
+    go : (b : Bool) → is-met n (met ++ (m ∷ [])) ≡ (is-met n met || eqb m n)
+        → (b || is-met n (met ++ (m ∷ []))) ≡ ((b || is-met n met) || eqb m n)
     go true e = refl
     go false e = e
 
@@ -55,10 +57,12 @@ first-met-same : (a b l : List ℕ) → ((n : ℕ) → is-met n a ≡ is-met n b
 unfolding is-met
 first-met-same a b [] e = refl
 first-met-same a b (n ∷ l) e =
-    go (is-met n a) (is-met n b) (e n) (first-met-same a b l e) (first-met-same (n ∷ a) (n ∷ b) l (λ k. ap (λ (c : Bool). eqb n k || c) (e k)))
+    go (is-met n a) (is-met n b) (e n) (first-met-same a b l e)
+    (first-met-same (n ∷ a) (n ∷ b) l (λ k. ap (λ (c : Bool). eqb n k || c) (e k)))
   where
     go : (c d : Bool) → c ≡ d → first-met a l ≡ first-met b l → first-met (n ∷ a) l ≡ first-met (n ∷ b) l
-        → _≡_ {A = List ℕ} (elim c [ true ↦ first-met a l | false ↦ n ∷ first-met (n ∷ a) l ]) (elim d [ true ↦ first-met b l | false ↦ n ∷ first-met (n ∷ b) l ])
+        → _≡_ {A = List ℕ} (elim c [ true ↦ first-met a l | false ↦ n ∷ first-met (n ∷ a) l ])
+            (elim d [ true ↦ first-met b l | false ↦ n ∷ first-met (n ∷ b) l ])
     go true true p x y = x
     go true false p x y = let z : _≡_ {A = ℕ} 0 1 = cc in absurd (omega arith)
     go false true p x y = let z : _≡_ {A = ℕ} 0 1 = cc in absurd (omega arith)
@@ -80,7 +84,8 @@ unfolding meet-all meet
 meet-all-order met [] = sym (append-nil met)
 meet-all-order met (n ∷ l) = go (is-met n met) (meet-all-order met l) (meet-all-order (met ++ (n ∷ [])) l)
   where
-    go : (b : Bool) → meet-all met l ≡ met ++ first-met met l → meet-all (met ++ (n ∷ [])) l ≡ (met ++ (n ∷ [])) ++ first-met (met ++ (n ∷ [])) l
+    go : (b : Bool) → meet-all met l ≡ met ++ first-met met l
+        → meet-all (met ++ (n ∷ [])) l ≡ (met ++ (n ∷ [])) ++ first-met (met ++ (n ∷ [])) l
         → meet-all (cond b met (met ++ (n ∷ []))) l ≡ met ++ elim b [ true ↦ first-met met l | false ↦ n ∷ first-met (n ∷ met) l ]
     go true x y = x
     go false x y =
@@ -127,7 +132,8 @@ pub number-below : (n : ℕ) (met : List ℕ) → Met n met → (number-of met n
 unfolding is-met number-of
 number-below n (m ∷ met) t = go (eqb m n) refl (λ x. number-below n met x) t
   where
-    go : (b : Bool) → eqb m n ≡ b → (Met n met → (number-of met n < length met) × (getD met (number-of met n) 0 ≡ n)) → T (b || is-met n met)
+    go : (b : Bool) → eqb m n ≡ b → (Met n met → (number-of met n < length met) × (getD met (number-of met n) 0 ≡ n))
+        → T (b || is-met n met)
         → (elim b [ true ↦ 0 | false ↦ suc (number-of met n) ] < suc (length met))
         × (getD (m ∷ met) (elim b [ true ↦ 0 | false ↦ suc (number-of met n) ]) 0 ≡ n)
     go true e ih x = (omega arith, eqb→eq m n (subst T (sym e) tt))
@@ -163,7 +169,8 @@ pub met-member : (n : ℕ) (met : List ℕ) → List·Memᴰ n met → Met n met
 unfolding is-met
 met-member n [] m = absurd (List·Memᴰ·not-nil m)
 met-member n (k ∷ met) m =
-    ⊎-elim (λ e. or-left (eqb k n) (is-met n met) (true-holds (eqb k n) (eq-eqb k n (sym e)))) (λ h. or-right (eqb k n) (is-met n met) (met-member n met h))
+    ⊎-elim (λ e. or-left (eqb k n) (is-met n met) (true-holds (eqb k n) (eq-eqb k n (sym e))))
+    (λ h. or-right (eqb k n) (is-met n met) (met-member n met h))
     (List·Memᴰ·cases-cons m)
 
 once-meet : (met : List ℕ) (n : ℕ) → Once met → Once (meet met n)
@@ -178,7 +185,8 @@ once-meet met n once = go (is-met n met) refl
               subst (λ (z : ℕ). number-of (met ++ (n ∷ [])) (getD (met ++ (n ∷ [])) z 0) ≡ z) (sym p)
               (ap (number-of (met ++ (n ∷ []))) (getD-append-seam met n [] 0) ∙ number-last n met e)
           | no q ↦ let l : i < length met = omega (arith, length-append met (n ∷ [])) in
-              ap (number-of (met ++ (n ∷ []))) (List·getD-append met (n ∷ []) 0 i l) ∙ number-left (getD met i 0) met (n ∷ []) (met-at met i l) ∙ once i l
+              ap (number-of (met ++ (n ∷ []))) (List·getD-append met (n ∷ []) 0 i l) ∙ number-left (getD met i 0) met (n ∷ [])
+              (met-at met i l) ∙ once i l
         ]
 
 pub once-meet-all : (met tail : List ℕ) → Once met → Once (meet-all met tail)

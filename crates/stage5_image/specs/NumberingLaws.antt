@@ -2,7 +2,8 @@
 -- rows and are numbered as first met. Then the rows by number.
 use mathlib.Core.Path.{_≡_, refl, sym, ap, subst, _∙_}
 use mathlib.Core.Bool.{Bool, true, false}
-use mathlib.Core.List.{List, [], _∷_, _++_, map, append-assoc, append-nil, flatMap, List·Memᴰ, List·Memᴰ·head, List·Memᴰ·tail, List·Memᴰ·not-nil,
+use mathlib.Core.List.{List, [], _∷_, _++_, map, append-assoc, append-nil, flatMap, List·Memᴰ, List·Memᴰ·head, List·Memᴰ·tail,
+  List·Memᴰ·not-nil,
   List·Memᴰ·cases-cons, List·Memᴰ·append-cases, List·Memᴰ·eq-of-singleton, Memᴰ·append-left, Memᴰ·append-right}
 use mathlib.Core.Logic.{⊎-elim}
 use Prim.Native.Nat.{ℕ, zero, suc, _+_, _≤_, _<_}
@@ -15,8 +16,10 @@ use lib.Seq.{take-append-le, take-suc, take-all}
 use borrow.Author.Tests.{ltb-true, ltb-false}
 use Rattle.stage3_normal_form.specs.Productions.{Production, Row, no-productions, row-of}
 use Rattle.stage5_image.specs.DistinctNodes.{distinct-below}
-use Rattle.stage5_image.specs.MetNodes.{Met, met-at, meet-all-has, meet-all-keeps, Once, once-meet-all, number-below, first-met, first-met-member, meet-all-order}
-use Rattle.stage5_image.specs.Numbering.{is-met, meet, meet-all, tail-members, meet-rows, reached, number-of, renumbered, renumbered-row, numbered}
+use Rattle.stage5_image.specs.MetNodes.{Met, met-at, meet-all-has, meet-all-keeps, Once, once-meet-all, number-below, first-met,
+  first-met-member, meet-all-order}
+use Rattle.stage5_image.specs.Numbering.{is-met, meet, meet-all, tail-members, meet-rows, reached, number-of, renumbered,
+  renumbered-row, numbered}
 
 -- ---- the order
 
@@ -37,7 +40,8 @@ tails-in-order (p ∷ ps) = ap (λ (l : List ℕ). p .tail ++ l) (tails-in-order
 row-by-row-last : (rows : List Row) (met : List ℕ) (n : ℕ)
     → row-by-row rows (met ++ (n ∷ [])) ≡ row-by-row rows met ++ tail-members ((row-of rows n) .productions)
 unfolding flatMap
-row-by-row-last rows [] n = append-nil (flatMap (λ p. p .tail) ((row-of rows n) .productions)) ∙ sym (tails-in-order ((row-of rows n) .productions))
+row-by-row-last rows [] n =
+    append-nil (flatMap (λ p. p .tail) ((row-of rows n) .productions)) ∙ sym (tails-in-order ((row-of rows n) .productions))
 row-by-row-last rows (m ∷ met) n =
     let tails = flatMap (λ p. p .tail) ((row-of rows m) .productions) in
     ap (λ (l : List ℕ). tails ++ l) (row-by-row-last rows met n)
@@ -67,7 +71,8 @@ pub record Reached (rows : List Row) (met : List ℕ) : Type 0 where
 module _ (rows : List Row) (inside : TailsInside rows) where
   -- The rows of the first i nodes are done: their tail members have been met.
   abbrev Done : ℕ → List ℕ → Type 0
-  Done i met = (j : ℕ) → j < i → j < length met → (x : ℕ) → List·Memᴰ x (tail-members ((row-of rows (getD met j 0)) .productions)) → Met x met
+  Done i met =
+      (j : ℕ) → j < i → j < length met → (x : ℕ) → List·Memᴰ x (tail-members ((row-of rows (getD met j 0)) .productions)) → Met x met
 
   record Walked (i : ℕ) (met : List ℕ) : Type 0 where
     below : (x : ℕ) → List·Memᴰ x met → x < length rows
@@ -85,7 +90,8 @@ module _ (rows : List Row) (inside : TailsInside rows) where
   next-done i met h d j l k x m = elim (ℕ-discrete j i) [ yes e ↦ here e | no e ↦ before (omega arith) ]
     where
       same : (z : ℕ) → z < length met → getD (meet-all met (new-at met i)) z 0 ≡ getD met z 0
-      same z y = ap (λ (l : List ℕ). getD l z 0) (meet-all-order met (new-at met i)) ∙ List·getD-append met (first-met met (new-at met i)) 0 z y
+      same z y =
+          ap (λ (l : List ℕ). getD l z 0) (meet-all-order met (new-at met i)) ∙ List·getD-append met (first-met met (new-at met i)) 0 z y
 
       here : j ≡ i → Met x (meet-all met (new-at met i))
       here e =
@@ -103,7 +109,8 @@ module _ (rows : List Row) (inside : TailsInside rows) where
   unfolding new-at
   next-ordered i met h e =
       let first : take (suc i) (meet-all met (new-at met i)) ≡ take i met ++ (getD met i 0 ∷ []) =
-      ap (take (suc i)) (meet-all-order met (new-at met i)) ∙ take-append-le (suc i) met (first-met met (new-at met i)) h ∙ take-suc met i 0 h in
+      ap (take (suc i)) (meet-all-order met (new-at met i)) ∙ take-append-le (suc i) met (first-met met (new-at met i)) h
+      ∙ take-suc met i 0 h in
       ap (λ (l : List ℕ). meet-all l (new-at met i)) e
       ∙ sym (meet-all-append (0 ∷ []) (row-by-row rows (take i met)) (new-at met i))
       ∙ ap (meet-all (0 ∷ [])) (sym (ap (row-by-row rows) first ∙ row-by-row-last rows (take i met) (getD met i 0)))
@@ -126,12 +133,14 @@ module _ (rows : List Row) (inside : TailsInside rows) where
   few : (met : List ℕ) (i : ℕ) → Walked i met → length met ≤ length rows
   few met i w = distinct-below met (length rows) (w .once) (w .below)
 
-  walked : (k i : ℕ) (met : List ℕ) → length rows ≤ i + k → Walked i met → (j : ℕ) × (length (meet-rows rows k i met) ≤ j) × Walked j (meet-rows rows k i met)
+  walked : (k i : ℕ) (met : List ℕ) → length rows ≤ i + k → Walked i met
+      → (j : ℕ) × (length (meet-rows rows k i met) ≤ j) × Walked j (meet-rows rows k i met)
   unfolding meet-rows new-at
   walked zero i met h w = (i, (let c = few met i w in omega arith), w)
   walked (suc k) i met h w = go (λ met' w'. walked k (suc i) met' (omega arith) w') (ltb i (length met)) refl
     where
-      go : ((met' : List ℕ) → Walked (suc i) met' → (j : ℕ) × (length (meet-rows rows k (suc i) met') ≤ j) × Walked j (meet-rows rows k (suc i) met'))
+      go : ((met' : List ℕ) → Walked (suc i) met'
+          → (j : ℕ) × (length (meet-rows rows k (suc i) met') ≤ j) × Walked j (meet-rows rows k (suc i) met'))
           → (b : Bool) → ltb i (length met) ≡ b
           → (j : ℕ) × (length {A = ℕ} (elim b [ true ↦ meet-rows rows k (suc i) (meet-all met (new-at met i)) | false ↦ met ]) ≤ j)
           × Walked j (elim b [ true ↦ meet-rows rows k (suc i) (meet-all met (new-at met i)) | false ↦ met ])
@@ -200,7 +209,8 @@ tail-member p x (q ∷ ps) m k =
     ⊎-elim (λ e. Memᴰ·append-left (tail-members ps) (subst (λ (z : Production). List·Memᴰ x (z .tail)) e k))
     (λ h. Memᴰ·append-right (q .tail) (tail-member p x ps h k)) (List·Memᴰ·cases-cons m)
 
-pub of-tail-members : (x : ℕ) (ps : List Production) → List·Memᴰ x (tail-members ps) → (p : Production) × List·Memᴰ p ps × List·Memᴰ x (p .tail)
+pub of-tail-members : (x : ℕ) (ps : List Production) → List·Memᴰ x (tail-members ps)
+    → (p : Production) × List·Memᴰ p ps × List·Memᴰ x (p .tail)
 unfolding tail-members
 of-tail-members x [] m = absurd (List·Memᴰ·not-nil m)
 of-tail-members x (q ∷ ps) m =

@@ -18,15 +18,19 @@ use Rattle.stage0_number.specs.declared.Number.the-variants.{Read, Refused}
 use Rattle.stage1_sheet.specs.Limits.{most-rules, most-classes, most-expression-nodes, most-byte}
 use Rattle.stage1_sheet.specs.Spelling.{spell}
 use Rattle.stage1_sheet.specs.Field.{Reading, stop, got, and-then, between, field-of, read-field, read-many}
-use Rattle.stage1_sheet.specs.FieldLaws.{Bytes, Stands, stands-none, stands-append, stands-whole, Outcome, refused, accepted, then-outcome, outcome-imply, outcome-got,
+use Rattle.stage1_sheet.specs.FieldLaws.{Bytes, Stands, stands-none, stands-append, stands-whole, Outcome, refused, accepted,
+  then-outcome, outcome-imply, outcome-got,
   outcome-stop, FieldRead,
   field-outcome, true-between}
 use Rattle.stage3_normal_form.specs.Productions.{Production, Row}
 use Rattle.stage4_lexer.specs.Positions.{Position}
 use Rattle.stage4_lexer.specs.PositionBounds.{NeverFalling}
-use Rattle.stage5_image.specs.Image.{Image, flag, flag-numbers, position-numbers, production-numbers, row-numbers, image-numbers, image-bytes}
-use Rattle.stage5_image.specs.ImageReading.{most-tail, image-field, read-flag, read-list, read-position, read-production, read-row, image-end, read-image}
-use Rattle.stage5_image.specs.ImageNumbers.{all-numbers, just, flag-number, one-position-numbers, one-production-numbers, one-row-numbers, tail-is,
+use Rattle.stage5_image.specs.Image.{Image, flag, flag-numbers, position-numbers, production-numbers, row-numbers, image-numbers,
+  image-bytes}
+use Rattle.stage5_image.specs.ImageReading.{most-tail, image-field, read-flag, read-list, read-position, read-production, read-row,
+  image-end, read-image}
+use Rattle.stage5_image.specs.ImageNumbers.{all-numbers, just, flag-number, one-position-numbers, one-production-numbers,
+  one-row-numbers, tail-is,
   flags-are, positions-are, productions-are, rows-are, EachFrom}
 use Rattle.stage5_image.specs.ImageRanges.{PositionInRange, ProductionInRange, Rising, RowInRange, InRange}
 
@@ -54,7 +58,8 @@ module _ (bytes : List ℕ) where
   taken-as {ms} {ns} {at} {end} e t = subst (λ (l : List ℕ). Taken bytes at l end) e t
 
   -- Going on with what was given.
-  then-gives : {A B : Type 0} (Good : A → Type 0) (numbers : A → List ℕ) (at : ℕ) (r : Reading A) (next : A → ℕ → Reading B) (Q : B → ℕ → Type 0)
+  then-gives : {A B : Type 0} (Good : A → Type 0) (numbers : A → List ℕ) (at : ℕ) (r : Reading A) (next : A → ℕ → Reading B)
+      (Q : B → ℕ → Type 0)
       → Gives Good numbers at r → ((a : A) (mid : ℕ) → Good a → Taken bytes at (numbers a) mid → Outcome (Refusal bytes) Q (next a mid))
       → Outcome (Refusal bytes) Q (and-then r next)
   then-gives Good numbers at r next Q h k =
@@ -72,7 +77,8 @@ module _ (bytes : List ℕ) where
           → Gives (λ v. allowed v ≡ true) just at (cond c (got v (at + used)) (stop 13 at))
       chosen v used e true a = accepted v (at + used) (a, record {
         inside = decode-within bytes at e .inside;
-        stands = λ b. stands v (at + used) b (ap (field-of 13 13 allowed at) e ∙ ap (λ (c : Bool). cond c (got v (at + used)) (stop 13 at)) a);
+        stands = λ b. stands v (at + used) b (ap (field-of 13 13 allowed at) e ∙ ap
+            (λ (c : Bool). cond c (got v (at + used)) (stop 13 at)) a);
       })
       chosen v used e false a = refused 13 at (refl, h)
 
@@ -83,7 +89,8 @@ module _ (bytes : List ℕ) where
   flag-gives : (at : ℕ) → at ≤ length bytes → Gives (λ (b : Bool). Unit {0}) flag-number at (read-flag bytes at)
   unfolding read-flag flag
   flag-gives at h =
-      then-gives (λ v. between 0 1 v ≡ true) just at (image-field (between 0 1) bytes at) _ (λ b end. Unit {0} × Taken bytes at (flag-number b) end) (field-gives (between 0 1) at h)
+      then-gives (λ v. between 0 1 v ≡ true) just at (image-field (between 0 1) bytes at) _
+      (λ b end. Unit {0} × Taken bytes at (flag-number b) end) (field-gives (between 0 1) at h)
       (λ v mid a t. accepted (eqb v 1) mid (tt, taken-as (ap (λ (n : ℕ). n ∷ []) (same v (true-between 0 1 v a .1))) t))
     where
       same : (v : ℕ) → v ≤ 1 → v ≡ flag (eqb v 1)
@@ -98,13 +105,16 @@ module _ (bytes : List ℕ) where
   unfolding read-many
   many-gives Good numbers one update step zero s at h = accepted [] at ((refl, tt), taken-none at h)
   many-gives Good numbers one update step (suc n) s at h =
-      then-gives (Good s) numbers at (one s at) _ (λ l end. ((length l ≡ suc n) × EachFrom Good update s l) × Taken bytes at (all-numbers numbers l) end) (step s at h)
-      (λ a mid g t. then-gives (λ l. (length l ≡ n) × EachFrom Good update (update s a) l) (all-numbers numbers) mid (read-many one update (update s a) n mid) _
+      then-gives (Good s) numbers at (one s at) _ (λ l end. ((length l ≡ suc n) × EachFrom Good update s l) × Taken bytes at
+      (all-numbers numbers l) end) (step s at h)
+      (λ a mid g t. then-gives (λ l. (length l ≡ n) × EachFrom Good update (update s a) l) (all-numbers numbers) mid
+      (read-many one update (update s a) n mid) _
       (λ l end. ((length l ≡ suc n) × EachFrom Good update s l) × Taken bytes at (all-numbers numbers l) end)
       (many-gives Good numbers one update step n (update s a) mid (t .inside))
       (λ l end gs ts. accepted (a ∷ l) end ((ap suc (gs .0), (g, gs .1)), taken-append t ts)))
 
-  list-gives : {A : Type 0} (Good : A → Type 0) (numbers : A → List ℕ) (one : ℕ → Reading A) → ((at : ℕ) → at ≤ length bytes → Gives Good numbers at (one at))
+  list-gives : {A : Type 0} (Good : A → Type 0) (numbers : A → List ℕ) (one : ℕ → Reading A)
+      → ((at : ℕ) → at ≤ length bytes → Gives Good numbers at (one at))
       → (n at : ℕ) → at ≤ length bytes → Gives (λ l. (length l ≡ n) × All Good l) (all-numbers numbers) at (read-list one n at)
   unfolding read-list
   list-gives Good numbers one step n at h =
@@ -119,13 +129,15 @@ module _ (bytes : List ℕ) where
   then-field : {B : Type 0} (allowed : ℕ → Bool) (at : ℕ) (next : ℕ → ℕ → Reading B) (Q : B → ℕ → Type 0) → at ≤ length bytes
       → ((v mid : ℕ) → allowed v ≡ true → Taken bytes at (v ∷ []) mid → Outcome (Refusal bytes) Q (next v mid))
       → Outcome (Refusal bytes) Q (and-then (image-field allowed bytes at) next)
-  then-field allowed at next Q h k = then-gives (λ v. allowed v ≡ true) just at (image-field allowed bytes at) next Q (field-gives allowed at h) k
+  then-field allowed at next Q h k =
+      then-gives (λ v. allowed v ≡ true) just at (image-field allowed bytes at) next Q (field-gives allowed at h) k
 
   position-gives : (rules count before at : ℕ) → at ≤ length bytes
       → Gives (λ p. (before ≤ p .rule) × PositionInRange rules count p) one-position-numbers at (read-position bytes rules count before at)
   unfolding read-position
   position-gives rules count before at h =
-      let Q : Position → ℕ → Type 0 = λ p end. ((before ≤ p .rule) × PositionInRange rules count p) × Taken bytes at (one-position-numbers p) end in
+      let Q : Position → ℕ → Type 0 = λ p end. ((before ≤ p .rule) × PositionInRange rules count p) × Taken bytes at
+      (one-position-numbers p) end in
       then-field _ at _ Q h
       (λ low m₁ a₁ t₁. then-field _ m₁ _ Q (t₁ .inside)
       (λ high m₂ a₂ t₂. then-field _ m₂ _ Q (t₂ .inside)
@@ -141,20 +153,24 @@ module _ (bytes : List ℕ) where
       }), taken-append t₁ (taken-append t₂ (taken-append t₃ (taken-append t₄ t₅)))))))))
 
   production-gives : (skips : List Bool) (count least at : ℕ) → at ≤ length bytes
-      → Gives (λ p. (least ≤ p .head) × ProductionInRange skips count p) one-production-numbers at (read-production bytes skips count least at)
+      → Gives (λ p. (least ≤ p .head) × ProductionInRange skips count p) one-production-numbers at
+      (read-production bytes skips count least at)
   unfolding read-production
   production-gives skips count least at h =
-      let Q : Production → ℕ → Type 0 = λ p end. ((least ≤ p .head) × ProductionInRange skips count p) × Taken bytes at (one-production-numbers p) end in
+      let Q : Production → ℕ → Type 0 = λ p end. ((least ≤ p .head) × ProductionInRange skips count p) × Taken bytes at
+      (one-production-numbers p) end in
       then-field _ at _ Q h
       (λ rule m₁ a₁ t₁. then-field _ m₁ _ Q (t₁ .inside)
       (λ size m₂ a₂ t₂. then-gives (λ l. (length l ≡ size) × All (λ n. ltb n count ≡ true) l) (all-numbers just) m₂
       (read-list (image-field (λ v. ltb v count) bytes) size m₂) _ Q
-      (list-gives (λ n. ltb n count ≡ true) just (image-field (λ v. ltb v count) bytes) (field-gives (λ v. ltb v count)) size m₂ (t₂ .inside))
+      (list-gives (λ n. ltb n count ≡ true) just (image-field (λ v. ltb v count) bytes) (field-gives (λ v. ltb v count)) size m₂
+      (t₂ .inside))
       (λ tail m₃ g t₃.
       let below = and-true-second (leb least rule) (ltb rule (length skips) && not (getD skips rule true)) a₁ in
       let short : size ≤ most-tail = true-between 0 most-tail size a₂ .1 in
       let same = g .0 in
-      accepted _ m₃ ((leb→le least rule (true-holds (leb least rule) (and-true-first (leb least rule) (ltb rule (length skips) && not (getD skips rule true)) a₁)), record {
+      accepted _ m₃ ((leb→le least rule (true-holds (leb least rule)
+      (and-true-first (leb least rule) (ltb rule (length skips) && not (getD skips rule true)) a₁)), record {
         rule-below = ltb-true rule (length skips) (and-true-first (ltb rule (length skips)) (not (getD skips rule true)) below);
         not-skipping = negated (getD skips rule true) (and-true-second (ltb rule (length skips)) (not (getD skips rule true)) below);
         tail-length = omega arith;
@@ -169,16 +185,19 @@ module _ (bytes : List ℕ) where
       each [] g = tt
       each (n ∷ l) g = (ltb-true n count (g .0), each l (g .1))
 
-  row-gives : (skips : List Bool) (count at : ℕ) → at ≤ length bytes → Gives (RowInRange skips count) one-row-numbers at (read-row bytes skips count at)
+  row-gives : (skips : List Bool) (count at : ℕ) → at ≤ length bytes
+      → Gives (RowInRange skips count) one-row-numbers at (read-row bytes skips count at)
   unfolding read-row
   row-gives skips count at h =
       let Q : Row → ℕ → Type 0 = λ r end. RowInRange skips count r × Taken bytes at (one-row-numbers r) end in
       let Good : ℕ → Production → Type 0 = λ least p. (least ≤ p .head) × ProductionInRange skips count p in
       then-gives (λ b. Unit {0}) flag-number at (read-flag bytes at) _ Q (flag-gives at h)
       (λ empty m₁ a₁ t₁. then-field _ m₁ _ Q (t₁ .inside)
-      (λ size m₂ a₂ t₂. then-gives (λ l. (length l ≡ size) × EachFrom Good (λ least p. suc (p .head)) 0 l) (all-numbers one-production-numbers) m₂
+      (λ size m₂ a₂ t₂. then-gives (λ l. (length l ≡ size) × EachFrom Good (λ least p. suc (p .head)) 0 l)
+      (all-numbers one-production-numbers) m₂
       (read-many (read-production bytes skips count) (λ least p. suc (p .head)) 0 size m₂) _ Q
-      (many-gives Good one-production-numbers (read-production bytes skips count) (λ least p. suc (p .head)) (production-gives skips count) size 0 m₂ (t₂ .inside))
+      (many-gives Good one-production-numbers (read-production bytes skips count) (λ least p. suc (p .head))
+      (production-gives skips count) size 0 m₂ (t₂ .inside))
       (λ ps m₃ g t₃.
       let few : size ≤ most-rules = true-between 0 most-rules size a₂ .1 in
       let same = g .0 in
@@ -186,7 +205,8 @@ module _ (bytes : List ℕ) where
       taken-append t₁ (taken-append (taken-as (ap just (sym same)) t₂) (taken-as (productions-are ps) t₃))))))
     where
       ranges : (least : ℕ) (ps : List Production)
-          → EachFrom (λ least p. (least ≤ p .head) × ProductionInRange skips count p) (λ least p. suc (p .head)) least ps → All (ProductionInRange skips count) ps
+          → EachFrom (λ least p. (least ≤ p .head) × ProductionInRange skips count p) (λ least p. suc (p .head)) least ps
+          → All (ProductionInRange skips count) ps
       ranges least [] g = tt
       ranges least (p ∷ ps) g = (g .0 .1, ranges (suc (p .head)) ps (g .1))
 
@@ -225,15 +245,19 @@ module _ (bytes : List ℕ) where
   image-gives =
       then-field _ 0 _ Readable (omega arith)
       (λ version m₁ a₁ t₁. then-field _ m₁ _ Readable (t₁ .inside)
-      (λ R m₂ a₂ t₂. then-gives (λ l. (length l ≡ R) × All (λ b. Unit {0}) l) (all-numbers flag-number) m₂ (read-list (read-flag bytes) R m₂) _ Readable
+      (λ R m₂ a₂ t₂. then-gives (λ l. (length l ≡ R) × All (λ b. Unit {0}) l) (all-numbers flag-number) m₂
+      (read-list (read-flag bytes) R m₂) _ Readable
       (list-gives (λ b. Unit {0}) flag-number (read-flag bytes) flag-gives R m₂ (t₂ .inside))
       (λ skips m₃ g₃ t₃. then-field _ m₃ _ Readable (t₃ .inside)
-      (λ P m₄ a₄ t₄. then-gives (λ l. (length l ≡ P) × EachFrom (λ before p. (before ≤ p .rule) × PositionInRange R P p) (λ before p. p .rule) 0 l)
+      (λ P m₄ a₄ t₄. then-gives (λ l. (length l ≡ P) × EachFrom (λ before p. (before ≤ p .rule) × PositionInRange R P p)
+      (λ before p. p .rule) 0 l)
       (all-numbers one-position-numbers) m₄ (read-many (read-position bytes R P) (λ before p. p .rule) 0 P m₄) _ Readable
-      (many-gives (λ before p. (before ≤ p .rule) × PositionInRange R P p) one-position-numbers (read-position bytes R P) (λ before p. p .rule) (position-gives R P) P 0 m₄ (t₄ .inside))
+      (many-gives (λ before p. (before ≤ p .rule) × PositionInRange R P p) one-position-numbers (read-position bytes R P)
+      (λ before p. p .rule) (position-gives R P) P 0 m₄ (t₄ .inside))
       (λ ps m₅ g₅ t₅. then-field _ m₅ _ Readable (t₅ .inside)
       (λ first m₆ a₆ t₆. then-field _ m₆ _ Readable (t₆ .inside)
-      (λ N m₇ a₇ t₇. then-gives (λ l. (length l ≡ N) × All (RowInRange skips N) l) (all-numbers one-row-numbers) m₇ (read-list (read-row bytes skips N) N m₇) _ Readable
+      (λ N m₇ a₇ t₇. then-gives (λ l. (length l ≡ N) × All (RowInRange skips N) l) (all-numbers one-row-numbers) m₇
+      (read-list (read-row bytes skips N) N m₇) _ Readable
       (list-gives (RowInRange skips N) one-row-numbers (read-row bytes skips N) (row-gives skips N) N m₇ (t₇ .inside))
       (λ rows m₈ g₈ t₈.
       let one = true-between 1 1 version a₁ in
@@ -258,7 +282,8 @@ module _ (bytes : List ℕ) where
         rows-in-range = subst (λ (n : ℕ). All (RowInRange skips n) rows) same-N (g₈ .1);
       })
       (taken-append (taken-as (ap just (let z : version ≡ 1 = omega arith in z)) t₁) (taken-append (taken-as (ap just same-R) t₂)
-      (taken-append (taken-as (flags-are skips) t₃) (taken-append (taken-as (ap just same-P) t₄) (taken-append (taken-as (positions-are ps) t₅)
+      (taken-append (taken-as (flags-are skips) t₃) (taken-append (taken-as (ap just same-P) t₄)
+      (taken-append (taken-as (positions-are ps) t₅)
       (taken-append t₆ (taken-append (taken-as (ap just same-N) t₇) (taken-as (rows-are rows) t₈))))))))))))))))
 
 -- Whatever is read as an image is in range, and reading ends at the last byte.

@@ -54,7 +54,8 @@ module _ (rules : List Rule) (rows : List Row) (inside : TailsInside rows) (some
   met = reached (fused rules rows)
 
   -- A node's productions in the image, as fusion and numbering made them.
-  made : (n : ℕ) → Met n met → (row-of image (number-of met n)) .productions ≡ map (renumbered met) (fused-from rules 0 ((row-of rows n) .productions))
+  made : (n : ℕ) → Met n met
+      → (row-of image (number-of met n)) .productions ≡ map (renumbered met) (fused-from rules 0 ((row-of rows n) .productions))
   unfolding renumbered-row fused-row
   made n t =
       ap (λ (w : Row). w .productions) (row-at-number (fused rules rows) n t)
@@ -74,7 +75,8 @@ module _ (rules : List Rule) (rows : List Row) (inside : TailsInside rows) (some
         tail-length = subst (λ (tail : List ℕ). length tail ≤ most-tail) (sym (o .3)) (omega arith);
         members-below = subst (All (λ n. n < length image)) (sym (o .3))
           (all-map (λ n. n < length image) (number-of met) (o .0 .tail)
-          (all-of (λ n. number-of met n < length image) (o .0 .tail) (λ x k. s .number-below x (all-member (λ x. Met x met) (o .0 .tail) (o .4) x k))));
+          (all-of (λ n. number-of met n < length image) (o .0 .tail)
+          (λ x k. s .number-below x (all-member (λ x. Met x met) (o .0 .tail) (o .4) x k))));
       }
 
   row-range : (n : ℕ) → Met n met → RowInRange (map skips-rule rules) (length image) (row-of image (number-of met n))
@@ -95,7 +97,8 @@ module _ (rules : List Rule) (rows : List Row) (inside : TailsInside rows) (some
       (λ n m. let t = met-member n met m in
       subst (RowInRange (map skips-rule rules) (length image)) (row-at-number (fused rules rows) n t) (row-range n t))))
     where
-      made-all : numbered (fused rules rows) ≡ map (renumbered-row (fused rules rows) (reached (fused rules rows))) (reached (fused rules rows))
+      made-all : numbered (fused rules rows)
+          ≡ map (renumbered-row (fused rules rows) (reached (fused rules rows))) (reached (fused rules rows))
       made-all = unfold numbered in refl
 
   pub some-image-rows : 1 ≤ length (numbered (fused rules rows))
