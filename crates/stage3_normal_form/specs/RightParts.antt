@@ -1,15 +1,15 @@
 -- The nodes that stand in tails are right parts of sequences, of which an expression has as many as sequence nodes.
 use mathlib.Core.Path.{_≡_, refl, sym, ap, subst, _∙_}
-use mathlib.Core.List.{List, [], _∷_, _++_, map, flatMap, List·Memᴰ, List·Memᴰ·head, List·Memᴰ·tail, Memᴰ·append-left, Memᴰ·append-right}
+use mathlib.Core.List.{List, [], _∷_, _++_, map, flatMap, List·Memᴰ, List·Memᴰ·head, Memᴰ·append-left, Memᴰ·append-right}
 use mathlib.Core.Bool.{false}
 use Prim.Native.Nat.{ℕ, zero, suc, _+_}
 use native.Mathlib.Omega.{arith}
-use lib.ListN.{getD, length, length-append}
+use lib.ListN.{length, length-append}
 use Rattle.stage0_laws.specs.Lists.{All}
 use Rattle.stage1_sheet.specs.Expression.{Expression, epsilon, bottom, token, sequence, alternative, fixed-point, variable, size}
 use Rattle.stage1_sheet.specs.ListLaws.{flatMap-append}
 use Rattle.stage2_types.specs.Nodes.{Node, epsilon-node, bottom-node, token-node, sequence-node, alternative-node, fixed-point-node,
-  variable-node, Binder, guard, no-binder, variable-of, nodes-from, nodes}
+  variable-node, Binder, guard, nodes-from, nodes}
 use Rattle.stage3_normal_form.specs.Productions.{Production, row-of, ended-by, rows}
 use Rattle.stage3_normal_form.specs.NormalForm.{normal-form}
 use Rattle.stage3_normal_form.specs.NormalFormLaws.{kept-production}

@@ -2,24 +2,24 @@
 -- words, its expression has a type, and the bytes are those of its image (demand 2).
 use mathlib.Core.Path.{_≡_, refl, sym, ap, subst, _∙_}
 use mathlib.Core.Bool.{Bool, true, false, cond}
-use mathlib.Core.List.{List, [], _∷_}
+use mathlib.Core.List.{List, []}
 use mathlib.Core.Logic.{_↔_}
 use mathlib.Core.Option.{Option, none, some}
-use Prim.Native.Nat.{ℕ, zero, suc, _≤_, _<_}
+use Prim.Native.Nat.{ℕ, _≤_, _<_}
 use native.Mathlib.Omega.{arith}
 use lib.ListN.{length, getD}
 use lib.Dec.{ltb, leb, leb→le, le→leb, nleb→lt}
 use borrow.Author.Tests.{ltb-true, ltb-false, le-ltb}
 use Rattle.stage0_laws.specs.Truth.{holds-true, true-holds}
 use Rattle.stage1_sheet.specs.Limits.{most-sheet-bytes}
-use Rattle.stage1_sheet.specs.Sheet.{Rule, Sheet}
-use Rattle.stage1_sheet.specs.WellFormed.{WithinLimits, Spells, WellFormed}
+use Rattle.stage1_sheet.specs.Sheet.{Sheet}
+use Rattle.stage1_sheet.specs.WellFormed.{Spells, WellFormed}
 use Rattle.stage1_sheet.specs.SheetFields.{SheetRefusal}
 use Rattle.stage1_sheet.specs.Field.{Reading, stop, got}
 use Rattle.stage1_sheet.specs.FieldLaws.{Bytes}
 use Rattle.stage1_sheet.specs.Reading.{Contents, read-sheet}
 use Rattle.stage1_sheet.specs.Places.{contents-of}
-use Rattle.stage1_sheet.specs.ReadingLaws.{Accepted, read-accepted, read-refused, refused-not-well-formed, spelled-read, spelled-once}
+use Rattle.stage1_sheet.specs.ReadingLaws.{read-accepted, read-refused, refused-not-well-formed, spelled-read}
 use Rattle.stage2_types.specs.Types.{HasType}
 use Rattle.stage2_types.specs.Nodes.{nodes}
 use Rattle.stage2_types.specs.LeastTypes.{least-types}

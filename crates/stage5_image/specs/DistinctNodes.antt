@@ -1,18 +1,17 @@
 -- Nodes that stand once each and are all among the members of a list are no more than that list is long.
 use mathlib.Core.Path.{_≡_, refl, sym, ap, subst, _∙_}
 use mathlib.Core.Bool.{Bool, true, false, _||_}
-use mathlib.Core.List.{List, [], _∷_, _++_, flatMap, List·Memᴰ, List·Memᴰ·head, List·Memᴰ·tail, List·Memᴰ·not-nil, List·Memᴰ·cases-cons,
-  List·Memᴰ·append-cases}
-use mathlib.Core.Logic.{_⊎_, inl, inr, ⊎-elim}
+use mathlib.Core.List.{List, [], _∷_, _++_, List·Memᴰ, List·Memᴰ·head, List·Memᴰ·tail, List·Memᴰ·not-nil, List·Memᴰ·cases-cons}
+use mathlib.Core.Logic.{⊎-elim}
 use Prim.Native.Nat.{ℕ, zero, suc, _+_, _≤_, _<_}
 use native.Mathlib.Omega.{arith}
 use native.Mathlib.Nat.{not-suc-le-zero}
 use native.Mathlib.Decide.{ℕ-discrete}
-use lib.Dec.{T, eqb}
-use lib.ListN.{getD, length, take, length-take, take-append-drop, drop}
-use lib.Seq.{take-suc, take-length, length-take-le}
+use lib.Dec.{eqb}
+use lib.ListN.{getD, length, take, take-append-drop, drop}
+use lib.Seq.{take-suc, length-take-le}
 use borrow.Author.Tests.{eq-eqb}
-use Rattle.stage0_laws.specs.Truth.{true-holds, holds-true}
+use Rattle.stage0_laws.specs.Truth.{true-holds}
 use Rattle.stage5_image.specs.Members.{member-at}
 use Rattle.stage5_image.specs.Numbering.{is-met, number-of}
 use Rattle.stage5_image.specs.MetNodes.{Met, Once, met-last, number-left, number-below}

@@ -2,20 +2,19 @@
 -- Nothing here speaks of numbering or of an image.
 use mathlib.Core.Path.{_≡_, refl, sym, ap, subst, _∙_}
 use mathlib.Core.Bool.{Bool, true, false}
-use mathlib.Core.List.{List, [], _∷_, _++_, map, List·Memᴰ, List·Memᴰ·head, List·Memᴰ·tail, List·Memᴰ·not-nil, List·Memᴰ·cases-cons,
-  Memᴰ·cast}
-use mathlib.Core.Logic.{_⊎_, inl, inr, ⊎-elim}
+use mathlib.Core.List.{List, [], _∷_, List·Memᴰ, List·Memᴰ·head, List·Memᴰ·tail, List·Memᴰ·not-nil, List·Memᴰ·cases-cons}
+use mathlib.Core.Logic.{⊎-elim}
 use mathlib.Core.Option.{Option, none, some}
 use Prim.Native.Nat.{ℕ, zero, suc, _+_, _≤_, _<_}
 use native.Mathlib.Omega.{arith}
-use lib.Dec.{T, eqb, eqb→eq}
+use lib.Dec.{eqb, eqb→eq}
 use lib.ListN.{length}
 use borrow.Author.Tests.{eq-eqb, ne-eqb}
 use Rattle.stage0_laws.specs.Truth.{true-holds}
 use Rattle.stage1_sheet.specs.Sheet.{Rule}
-use Rattle.stage3_normal_form.specs.Productions.{Production, Row}
+use Rattle.stage3_normal_form.specs.Productions.{Production}
 use Rattle.stage4_lexer.specs.Words.{RuleAt, first-rule, later-rule}
-use Rattle.stage5_image.specs.Fusion.{production-of, by-rule, fused-from, fused-row, fused}
+use Rattle.stage5_image.specs.Fusion.{production-of, by-rule, fused-from}
 use Rattle.stage5_image.specs.ImageRanges.{Rising}
 use Rattle.stage5_image.specs.Unfolding.{Returns}
 

@@ -1,22 +1,20 @@
 -- How long an image is: an image in range has at most 1,070 bytes and 1,058 for each nonterminal, and a sheet's image has at most
 -- 32 nonterminals, so that it fits 65,536 bytes.
-use mathlib.Core.Path.{_≡_, refl, sym, ap, subst, _∙_}
+use mathlib.Core.Path.{_≡_, refl, ap, subst, _∙_}
 use mathlib.Core.Bool.{Bool, true, false}
-use mathlib.Core.List.{List, [], _∷_, _++_, map, flatMap, List·Memᴰ, List·Memᴰ·head, List·Memᴰ·tail, List·Memᴰ·cases-cons}
-use mathlib.Core.Logic.{_⊎_, inl, inr, ⊎-elim}
-use mathlib.Core.Option.{Option, none}
-use Prim.Native.Nat.{ℕ, zero, suc, _+_, _*_, _/_, _%_, _≤_, _<_}
+use mathlib.Core.List.{List, [], _∷_, _++_, flatMap, List·Memᴰ, List·Memᴰ·head, List·Memᴰ·tail, List·Memᴰ·cases-cons}
+use mathlib.Core.Logic.{⊎-elim}
+use mathlib.Core.Option.{none}
+use Prim.Native.Nat.{ℕ, _+_, _*_, _/_, _≤_, _<_}
 use native.Mathlib.Omega.{arith}
-use native.Mathlib.Nat.{mul-le-mul-right}
-use lib.ListN.{length, length-append, length-map}
-use lib.Dec.{ltb}
+use lib.ListN.{length, length-append}
 use borrow.Author.Tests.{lt-ltb, le-ltb}
 use Rattle.stage0_laws.specs.Lists.{All}
 use Rattle.stage0_laws.specs.Order.{lt-or-le}
 use Rattle.stage0_number.specs.Number.{encode, encode-in}
 use Rattle.stage0_number.specs.Laws.{encode-ten}
-use Rattle.stage1_sheet.specs.Limits.{most-rules, most-classes, most-expression-nodes, most-byte}
-use Rattle.stage1_sheet.specs.Expression.{Expression, size}
+use Rattle.stage1_sheet.specs.Limits.{most-rules, most-expression-nodes, most-byte}
+use Rattle.stage1_sheet.specs.Expression.{Expression}
 use Rattle.stage1_sheet.specs.Sheet.{Rule, Sheet}
 use Rattle.stage1_sheet.specs.Spelling.{spell}
 use Rattle.stage1_sheet.specs.FieldLaws.{spell-append}
@@ -28,21 +26,18 @@ use Rattle.stage3_normal_form.specs.NormalForm.{normal-form}
 use Rattle.stage3_normal_form.specs.RightParts.{right-parts, right-parts-count, tails-right}
 use Rattle.stage3_normal_form.specs.Tails.{sequence-count, sequence-count-bound}
 use Rattle.stage4_lexer.specs.Positions.{Position, empty-match}
-use Rattle.stage5_image.specs.Compile.{work-bytes}
 use Rattle.stage5_image.specs.DistinctNodes.{distinct-few}
 use Rattle.stage5_image.specs.MetNodes.{first-met-member}
 use Rattle.stage5_image.specs.Fusion.{fused}
 use Rattle.stage5_image.specs.Image.{Image, image-of, flag, flag-numbers, position-numbers, production-numbers, row-numbers,
   image-numbers, image-bytes}
 use Rattle.stage5_image.specs.ImageLaws.{normal-form-inside, normal-form-some, image-in-range}
-use Rattle.stage5_image.specs.ImageNumbers.{all-numbers, flag-number, one-position-numbers, one-production-numbers,
-  one-row-numbers, flags-are, positions-are,
-  productions-are, rows-are}
+use Rattle.stage5_image.specs.ImageNumbers.{all-numbers, flag-number, one-position-numbers, one-production-numbers, one-row-numbers,
+  flags-are, positions-are, productions-are, rows-are}
 use Rattle.stage5_image.specs.ImageRanges.{PositionInRange, ProductionInRange, RowInRange, InRange}
-use Rattle.stage5_image.specs.ImageReading.{most-tail}
 use Rattle.stage5_image.specs.Members.{all-member, of-flatMap}
-use Rattle.stage5_image.specs.Numbering.{reached, numbered}
-use Rattle.stage5_image.specs.NumberingLaws.{Reached, row-by-row, numbered-count}
+use Rattle.stage5_image.specs.Numbering.{reached}
+use Rattle.stage5_image.specs.NumberingLaws.{row-by-row, numbered-count}
 use Rattle.stage5_image.specs.Simulation.{reached-fused, fused-member}
 
 -- ---- bytes of numbers

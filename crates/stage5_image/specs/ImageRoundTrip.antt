@@ -1,12 +1,12 @@
 -- Round trip: an image in range, written as bytes, is read back as it was, to its last byte; and bytes are readable exactly if
 -- they are those of an image in range. What reading any bytes gives is said in ReadableImages.
-use mathlib.Core.Path.{_≡_, refl, sym, ap, ap₂, subst, _∙_}
+use mathlib.Core.Path.{_≡_, refl, sym, ap, subst, _∙_}
 use mathlib.Core.Bool.{Bool, true, false, not, _&&_, cond}
-use mathlib.Core.List.{List, [], _∷_, _++_, map, append-nil, append-assoc}
+use mathlib.Core.List.{List, [], _∷_, _++_}
 use mathlib.Core.Logic.{_↔_}
-use Prim.Native.Nat.{ℕ, zero, suc, _+_, _^_, _≤_, _<_}
+use Prim.Native.Nat.{ℕ, suc, _^_, _≤_, _<_}
 use native.Mathlib.Omega.{arith}
-use lib.Dec.{eqb, ltb, leb, le→leb, lt→ltb}
+use lib.Dec.{ltb, leb, le→leb, lt→ltb}
 use lib.ListN.{length, getD}
 use lib.Pow.{pow-mono}
 use borrow.Author.Tests.{eq-eqb, lt-ltb}
@@ -19,13 +19,11 @@ use Rattle.stage1_sheet.specs.FieldLaws.{Bytes, Stands, after, stands-first, st
 use Rattle.stage3_normal_form.specs.Productions.{Production, Row}
 use Rattle.stage4_lexer.specs.Positions.{Position}
 use Rattle.stage4_lexer.specs.PositionBounds.{NeverFalling}
-use Rattle.stage5_image.specs.Image.{Image, flag, flag-numbers, position-numbers, production-numbers, row-numbers, image-numbers,
-  image-bytes}
+use Rattle.stage5_image.specs.Image.{Image, flag, flag-numbers, position-numbers, image-numbers, image-bytes}
 use Rattle.stage5_image.specs.ImageReading.{most-tail, image-field, read-flag, read-list, read-position, read-production, read-row,
   image-end, read-image}
 use Rattle.stage5_image.specs.ImageNumbers.{all-numbers, just, flag-number, one-position-numbers, one-production-numbers,
-  one-row-numbers, tail-is,
-  flags-are, positions-are, productions-are, rows-are, EachFrom}
+  one-row-numbers, tail-is, flags-are, positions-are, productions-are, rows-are, EachFrom}
 use Rattle.stage5_image.specs.ReadableImages.{read-in-range, read-exact}
 use Rattle.stage5_image.specs.ImageRanges.{PositionInRange, ProductionInRange, Rising, RowInRange, InRange}
 

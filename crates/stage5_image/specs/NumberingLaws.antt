@@ -3,8 +3,7 @@
 use mathlib.Core.Path.{_≡_, refl, sym, ap, subst, _∙_}
 use mathlib.Core.Bool.{Bool, true, false}
 use mathlib.Core.List.{List, [], _∷_, _++_, map, append-assoc, append-nil, flatMap, List·Memᴰ, List·Memᴰ·head, List·Memᴰ·tail,
-  List·Memᴰ·not-nil,
-  List·Memᴰ·cases-cons, List·Memᴰ·append-cases, List·Memᴰ·eq-of-singleton, Memᴰ·append-left, Memᴰ·append-right}
+  List·Memᴰ·not-nil, List·Memᴰ·cases-cons, List·Memᴰ·append-cases, List·Memᴰ·eq-of-singleton, Memᴰ·append-left, Memᴰ·append-right}
 use mathlib.Core.Logic.{⊎-elim}
 use Prim.Native.Nat.{ℕ, zero, suc, _+_, _≤_, _<_}
 use native.Mathlib.Omega.{arith}
@@ -18,8 +17,8 @@ use Rattle.stage3_normal_form.specs.Productions.{Production, Row, no-production
 use Rattle.stage5_image.specs.DistinctNodes.{distinct-below}
 use Rattle.stage5_image.specs.MetNodes.{Met, met-at, meet-all-has, meet-all-keeps, Once, once-meet-all, number-below, first-met,
   first-met-member, meet-all-order}
-use Rattle.stage5_image.specs.Numbering.{is-met, meet, meet-all, tail-members, meet-rows, reached, number-of, renumbered,
-  renumbered-row, numbered}
+use Rattle.stage5_image.specs.Numbering.{is-met, meet, meet-all, tail-members, meet-rows, reached, number-of, renumbered-row,
+  numbered}
 
 -- ---- the order
 

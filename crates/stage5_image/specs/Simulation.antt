@@ -2,9 +2,9 @@
 -- Stated for any rows whose tail members are rows' numbers. Nothing here speaks of texts or of what is pending.
 use mathlib.Core.Path.{_≡_, refl, sym, ap, subst, _∙_}
 use mathlib.Core.Bool.{Bool, true, false}
-use mathlib.Core.List.{List, [], _∷_, _++_, map, List·Memᴰ, List·Memᴰ·not-nil, Memᴰ·cast, Memᴰ·map, Memᴰ·of-map}
+use mathlib.Core.List.{List, [], _∷_, map, List·Memᴰ, Memᴰ·of-map}
 use mathlib.Core.Option.{Option, none, some}
-use Prim.Native.Nat.{ℕ, zero, suc, _+_, _≤_, _<_}
+use Prim.Native.Nat.{ℕ, zero, suc, _+_, _<_}
 use native.Mathlib.Omega.{arith}
 use lib.Dec.{eqb}
 use lib.ListN.{getD, length, length-map, List·getD-map}
@@ -14,7 +14,7 @@ use Rattle.stage3_normal_form.specs.Productions.{Production, Row, no-production
 use Rattle.stage5_image.specs.Fusion.{production-of, by-rule, fused-from, fused-row, fused}
 use Rattle.stage5_image.specs.FusionLaws.{Found, production-found, as-rule, rule-production, FusedOf, fused-of}
 use Rattle.stage5_image.specs.Members.{all-of}
-use Rattle.stage5_image.specs.Numbering.{tail-members, reached, number-of, renumbered, renumbered-row, numbered}
+use Rattle.stage5_image.specs.Numbering.{reached, number-of, renumbered, renumbered-row, numbered}
 use Rattle.stage5_image.specs.MetNodes.{Met, number-below as node-number}
 use Rattle.stage5_image.specs.NumberingLaws.{TailsInside, Reached, reached-is, row-at-number, tail-member, of-tail-members,
   numbered-count}

@@ -1,18 +1,15 @@
 -- What rows unfold to: the image's rows to the rule sequences that spell what the rows by token unfold to. That a row has at most
 -- one production a token is a hypothesis here; what the rows by token unfold to is said in the normal form's stage.
 use mathlib.Core.Path.{_≡_, refl, sym, ap, ap₂, subst, _∙_}
-use mathlib.Core.Bool.{Bool, true, false}
-use mathlib.Core.List.{List, [], _∷_, _++_, map, map-append, append-nil, append-assoc, nil≢cons, cons≢nil, head-eq-of-cons-eq,
-  tail-eq-of-cons-eq, List·Memᴰ, Memᴰ·cast}
-use mathlib.Core.Logic.{_⊎_, inl, inr, _↔_, ⊎-elim}
+use mathlib.Core.Bool.{true}
+use mathlib.Core.List.{List, [], _∷_, _++_, map, map-append, nil≢cons, cons≢nil, head-eq-of-cons-eq, tail-eq-of-cons-eq, List·Memᴰ}
+use mathlib.Core.Logic.{_↔_}
 use mathlib.Core.Option.{Option, none, some}
-use Prim.Native.Nat.{ℕ, zero, suc, _+_, _≤_, _<_}
+use Prim.Native.Nat.{ℕ, _<_}
 use native.Mathlib.Omega.{arith}
-use lib.ListN.{getD, length, length-append}
+use lib.ListN.{length}
 use Rattle.stage0_laws.specs.Lists.{All}
-use Rattle.stage0_laws.specs.Truth.{holds-true, true-holds}
-use Rattle.stage1_sheet.specs.Sheet.{Rule, Sheet}
-use Rattle.stage2_types.specs.Denotation.{Language, followed-by, Denotes}
+use Rattle.stage1_sheet.specs.Sheet.{Rule}
 use Rattle.stage3_normal_form.specs.Productions.{Production, Row, row-of}
 use Rattle.stage3_normal_form.specs.Expansion.{Expands, complete, expand-empty, expand-token}
 use Rattle.stage5_image.specs.Fusion.{production-of, fused}
@@ -22,7 +19,7 @@ use Rattle.stage5_image.specs.Numbering.{numbered}
 use Rattle.stage5_image.specs.NumberingLaws.{TailsInside}
 use Rattle.stage5_image.specs.Simulation.{Simulates, tail-of, tail-numbers, TailKnown, image-simulates}
 use Rattle.stage5_image.specs.Unfolding.{Unfolds, none-pending, by-epsilon, by-production, StartUnfolds, Returns, SpellsTokens,
-  no-tokens, one-more, DenotedRules}
+  no-tokens, one-more}
 
 -- In each row at most one production begins with a token.
 abbrev pub OnePerToken : List Row → Type 0
