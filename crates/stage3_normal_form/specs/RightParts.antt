@@ -8,8 +8,7 @@ use lib.ListN.{length, length-append}
 use Rattle.stage0_laws.specs.Lists.{All}
 use Rattle.stage1_sheet.specs.Expression.{Expression, epsilon, bottom, token, sequence, alternative, fixed-point, variable, size}
 use Rattle.stage1_sheet.specs.ListLaws.{flatMap-append}
-use Rattle.stage2_types.specs.Nodes.{Node, epsilon-node, bottom-node, token-node, sequence-node, alternative-node, fixed-point-node,
-  variable-node, Binder, guard, nodes-from, nodes}
+use Rattle.stage2_types.specs.Nodes.{Node, epsilon-node, bottom-node, token-node, sequence-node, alternative-node, fixed-point-node, variable-node, Binder, guard, nodes-from, nodes}
 use Rattle.stage3_normal_form.specs.Productions.{Production, row-of, ended-by, rows}
 use Rattle.stage3_normal_form.specs.NormalForm.{normal-form}
 use Rattle.stage3_normal_form.specs.NormalFormLaws.{kept-production}
@@ -39,11 +38,19 @@ parts-from epsilon p fs = refl
 parts-from bottom p fs = refl
 parts-from (token k) p fs = refl
 parts-from (sequence g h) p fs =
-    omega (arith, parts-append (nodes-from g (suc p) fs) (nodes-from h (suc p + size g) (map guard fs)), parts-from g (suc p) fs,
-    parts-from h (suc p + size g) (map guard fs))
+    omega (
+      arith,
+      parts-append (nodes-from g (suc p) fs) (nodes-from h (suc p + size g) (map guard fs)),
+      parts-from g (suc p) fs,
+      parts-from h (suc p + size g) (map guard fs),
+    )
 parts-from (alternative g h) p fs =
-    omega (arith, parts-append (nodes-from g (suc p) fs) (nodes-from h (suc p + size g) fs), parts-from g (suc p) fs, parts-from h
-    (suc p + size g) fs)
+    omega (
+      arith,
+      parts-append (nodes-from g (suc p) fs) (nodes-from h (suc p + size g) fs),
+      parts-from g (suc p) fs,
+      parts-from h (suc p + size g) fs,
+    )
 parts-from (fixed-point g) p fs = omega (arith, parts-from g (suc p) (record { node = p; guarded = false } ∷ fs))
 parts-from (variable n) p fs = refl
 

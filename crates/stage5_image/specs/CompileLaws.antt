@@ -29,8 +29,7 @@ use Rattle.stage2_types.specs.Typing.{sheet-typed-iff}
 use Rattle.stage4_lexer.specs.EmptyWord.{none-empty, first-empty-rule}
 use Rattle.stage4_lexer.specs.Positions.{empty-match}
 use Rattle.stage4_lexer.specs.Words.{WordOf}
-use Rattle.stage5_image.specs.Compile.{work-bytes, Compiled, refused, too-long, compiled, fitted, after-types, after-rules,
-  after-reading, compile}
+use Rattle.stage5_image.specs.Compile.{work-bytes, Compiled, refused, too-long, compiled, fitted, after-types, after-rules, after-reading, compile}
 use Rattle.stage5_image.specs.Image.{Image, image-of, image-bytes}
 use Rattle.stage5_image.specs.ImageLaws.{image-denotes, image-read-back}
 use Rattle.stage5_image.specs.ImageLength.{image-fits}
@@ -119,9 +118,13 @@ module _ (bytes : List ℕ) (work room : ℕ) where
   unfolding compile after-reading after-rules after-types contents-of
   passes-fitted {s} p w =
       let l : length bytes ≤ most-sheet-bytes = p .spells .bytes-most in
-      rw (le-ltb work work-bytes w, le-ltb most-sheet-bytes (length bytes) l, spelled-read bytes s (p .spells), none-empty (s .rules) .1
-      (p .no-empty-word),
-      sheet-typed-iff s (p .spells .limits) .1 (p .typed))
+      rw (
+        le-ltb work work-bytes w,
+        le-ltb most-sheet-bytes (length bytes) l,
+        spelled-read bytes s (p .spells),
+        none-empty (s .rules) .1 (p .no-empty-word),
+        sheet-typed-iff s (p .spells .limits) .1 (p .typed),
+      )
 
 -- ---- success
 
@@ -151,10 +154,10 @@ module _ (bytes : List ℕ) (b : Bytes bytes) (work room : ℕ) where
   compiled-iff image = (
     compiled-from (compile-answers bytes work room b) image,
     λ h.
-      let same = h .1 .2 in
-      passes-fitted bytes work room (h .1 .1) (h .0)
-      ∙ fitted-compiled room (image-bytes (image-of (h .1 .0))) (subst (λ (l : List ℕ). length l ≤ room) same (h .2))
-      ∙ ap compiled (sym same),
+        let same = h .1 .2 in
+        passes-fitted bytes work room (h .1 .1) (h .0)
+        ∙ fitted-compiled room (image-bytes (image-of (h .1 .0))) (subst (λ (l : List ℕ). length l ≤ room) same (h .2))
+        ∙ ap compiled (sym same),
   )
 
   too-long-from : {c : Compiled} → Compiles bytes work room c → (n : ℕ) → c ≡ too-long n
@@ -185,8 +188,11 @@ module _ (bytes : List ℕ) (b : Bytes bytes) (work room : ℕ) where
       let s = r .0 in
       let p = r .1 in
       let w = p .spells .limits in
-      let typed = p .typed .1 in
-      (s, p .spells, image-of s,
-      subst (λ (l : List ℕ). read-image l ≡ got (image-of s) (length l)) (sym (r .2))
-      (image-read-back s w (none-empty (s .rules) .1 (p .no-empty-word)) typed),
-      image-denotes s (w .closed) typed)
+      let typed = p .typed .1 in (
+        s,
+        p .spells,
+        image-of s,
+        subst (λ (l : List ℕ). read-image l ≡ got (image-of s) (length l)) (sym (r .2))
+            (image-read-back s w (none-empty (s .rules) .1 (p .no-empty-word)) typed),
+        image-denotes s (w .closed) typed,
+      )

@@ -64,8 +64,10 @@ unfolding fused-from
 fused-later rule rules r s ps h = go (rule .action)
   where
     go : (a : ℕ)
-        → production-of s (elim a [ zero ↦ fused-from rules (suc r) ps | suc k ↦ by-rule r (production-of k ps)
-        (fused-from rules (suc r) ps) ])
+        → production-of s (elim a [
+          | zero ↦ fused-from rules (suc r) ps
+          | suc k ↦ by-rule r (production-of k ps) (fused-from rules (suc r) ps)
+        ])
         ≡ production-of s (fused-from rules (suc r) ps)
     go zero = refl
     go (suc k) = by-rule-other r s (production-of k ps) (fused-from rules (suc r) ps) h
@@ -208,8 +210,10 @@ fused-count (rule ∷ rules) r ps = go (rule .action) (fused-count rules (suc r)
     found (some q) h = omega arith
 
     go : (a : ℕ) → length (fused-from rules (suc r) ps) ≤ length rules
-        → length {A = Production} (elim a [ zero ↦ fused-from rules (suc r) ps | suc k ↦ by-rule r (production-of k ps)
-            (fused-from rules (suc r) ps) ])
+        → length {A = Production} (elim a [
+          | zero ↦ fused-from rules (suc r) ps
+          | suc k ↦ by-rule r (production-of k ps) (fused-from rules (suc r) ps)
+        ])
         ≤ suc (length rules)
     go zero h = omega arith
     go (suc k) h = found (production-of k ps) h

@@ -53,10 +53,9 @@ unfolding image-of
 image-denotes s c d ks =
     let e = s .expression in
     let image = image-unfolds (s .rules) (normal-form e) (normal-form-inside e (s .tokens) c) (normal-form-some e) (normal-form-one d) ks in
-    let expands = unfolds-expands (normal-form e) (0 ∷ []) in
-    (
+    let expands = unfolds-expands (normal-form e) (0 ∷ []) in (
       λ u. let r = image .0 u in (r .0, normalization-sound d (r .0) .1 (expands (r .0) .0 (r .1)), r .2),
-      λ r. image .1 (r .0, expands (r .0) .1 (normalization-sound d (r .0) .0 (r .1)), r .2)
+      λ r. image .1 (r .0, expands (r .0) .1 (normalization-sound d (r .0) .0 (r .1)), r .2),
     )
 
 -- ---- ranges
@@ -65,9 +64,10 @@ position-ranges : (rules count : ℕ) (ps : List Position) → All ByteClass ps 
     → All (λ p. p .follow < 2 ^ count) ps
     → All (PositionInRange rules count) ps
 position-ranges rules count [] b r f = tt
-position-ranges rules count (p ∷ ps) b r f =
-    (record { low-high = b .0 .0; high-byte = b .0 .1; rule-below = r .0; follow-below = f .0 }, position-ranges rules count ps (b .1)
-        (r .1) (f .1))
+position-ranges rules count (p ∷ ps) b r f = (
+  record { low-high = b .0 .0; high-byte = b .0 .1; rule-below = r .0; follow-below = f .0 },
+  position-ranges rules count ps (b .1) (r .1) (f .1),
+)
 
 pub image-in-range : (s : Sheet) {a : LanguageType} → WithinLimits s → empty-match (s .rules) 0 ≡ none → [] ⊢ s .expression ∶ a
     → InRange (image-of s)
@@ -87,8 +87,8 @@ image-in-range s w m d =
       some-positions = p .count-least;
       position-count = p .count-most;
       positions-in-range = subst (λ (r : ℕ). All (PositionInRange r (length (positions (s .rules)))) (positions (s .rules))) (sym l)
-        (position-ranges (length (s .rules)) (length (positions (s .rules))) (positions (s .rules)) (p .byte-classes) (p .rules-under)
-        (p .follows-under));
+          (position-ranges (length (s .rules)) (length (positions (s .rules))) (positions (s .rules)) (p .byte-classes) (p .rules-under)
+          (p .follows-under));
       never-falling = p .rules-rising;
       first-below = p .first-under;
       some-rows = some-image-rows (s .rules) (normal-form e) inside (normal-form-some e) short rm;

@@ -29,11 +29,9 @@ use Rattle.stage4_lexer.specs.Positions.{Position, empty-match}
 use Rattle.stage5_image.specs.DistinctNodes.{distinct-few}
 use Rattle.stage5_image.specs.MetNodes.{first-met-member}
 use Rattle.stage5_image.specs.Fusion.{fused}
-use Rattle.stage5_image.specs.Image.{Image, image-of, flag, flag-numbers, position-numbers, production-numbers, row-numbers,
-  image-numbers, image-bytes}
+use Rattle.stage5_image.specs.Image.{Image, image-of, flag, flag-numbers, position-numbers, production-numbers, row-numbers, image-numbers, image-bytes}
 use Rattle.stage5_image.specs.ImageLaws.{normal-form-inside, normal-form-some, image-in-range}
-use Rattle.stage5_image.specs.ImageNumbers.{all-numbers, flag-number, one-position-numbers, one-production-numbers, one-row-numbers,
-  flags-are, positions-are, productions-are, rows-are}
+use Rattle.stage5_image.specs.ImageNumbers.{all-numbers, flag-number, one-position-numbers, one-production-numbers, one-row-numbers, flags-are, positions-are, productions-are, rows-are}
 use Rattle.stage5_image.specs.ImageRanges.{PositionInRange, ProductionInRange, RowInRange, InRange}
 use Rattle.stage5_image.specs.Members.{all-member, of-flatMap}
 use Rattle.stage5_image.specs.Numbering.{reached}
@@ -73,8 +71,9 @@ width-all : {A : Type 0} (numbers : A → List ℕ) (most : ℕ) (l : List A) �
     → width (all-numbers numbers l) ≤ length l * most
 unfolding spell
 width-all numbers most [] h = omega arith
-width-all numbers most (a ∷ l) h = let x = h .0 in omega (arith, width-append (numbers a) (all-numbers numbers l),
-    width-all numbers most l (h .1))
+width-all numbers most (a ∷ l) h =
+    let x = h .0 in
+    omega (arith, width-append (numbers a) (all-numbers numbers l), width-all numbers most l (h .1))
 
 -- ---- bytes of an image in range
 
@@ -92,10 +91,15 @@ position-width rules count p few g =
     let b = g .high-byte in
     let c = g .rule-below in
     let rest = width-small (p .rule ∷ flag (p .last) ∷ []) (omega arith, (flag-small (p .last), tt)) in
-    omega (arith, width-cons (p .low) (p .high ∷ p .rule ∷ flag (p .last) ∷ p .follow ∷ []), two-bytes (p .low) (omega arith),
-    width-cons (p .high) (p .rule ∷ flag (p .last) ∷ p .follow ∷ []), two-bytes (p .high) b, width-append (p .rule ∷ flag (p .last) ∷ [])
-    (p .follow ∷ []),
-    ten (p .follow))
+    omega (
+      arith,
+      width-cons (p .low) (p .high ∷ p .rule ∷ flag (p .last) ∷ p .follow ∷ []),
+      two-bytes (p .low) (omega arith),
+      width-cons (p .high) (p .rule ∷ flag (p .last) ∷ p .follow ∷ []),
+      two-bytes (p .high) b,
+      width-append (p .rule ∷ flag (p .last) ∷ []) (p .follow ∷ []),
+      ten (p .follow),
+    )
   where
     ten : (n : ℕ) → width (n ∷ []) ≤ 10
     ten n = unfold spell in omega (arith, width-cons n [], encode-ten n)
@@ -118,9 +122,13 @@ row-width skips count row few-rules few g =
     let a = g .production-count in
     let ps = row .productions in
     let most = width-all one-production-numbers 33 ps (each ps (g .productions-in-range)) in
-    omega (arith, width-append (flag (row .empty) ∷ length ps ∷ []) (production-numbers ps), width-small
-    (flag (row .empty) ∷ length ps ∷ []) (flag-small (row .empty), (omega arith, tt)),
-    ap width (productions-are ps), most)
+    omega (
+      arith,
+      width-append (flag (row .empty) ∷ length ps ∷ []) (production-numbers ps),
+      width-small (flag (row .empty) ∷ length ps ∷ []) (flag-small (row .empty), (omega arith, tt)),
+      ap width (productions-are ps),
+      most,
+    )
   where
     each : (ps : List Production) → All (ProductionInRange skips count) ps → All (λ p. width (one-production-numbers p) ≤ 33) ps
     each [] h = tt

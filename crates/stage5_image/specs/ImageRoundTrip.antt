@@ -20,10 +20,8 @@ use Rattle.stage3_normal_form.specs.Productions.{Production, Row}
 use Rattle.stage4_lexer.specs.Positions.{Position}
 use Rattle.stage4_lexer.specs.PositionBounds.{NeverFalling}
 use Rattle.stage5_image.specs.Image.{Image, flag, flag-numbers, position-numbers, image-numbers, image-bytes}
-use Rattle.stage5_image.specs.ImageReading.{most-tail, image-field, read-flag, read-list, read-position, read-production, read-row,
-  image-end, read-image}
-use Rattle.stage5_image.specs.ImageNumbers.{all-numbers, just, flag-number, one-position-numbers, one-production-numbers,
-  one-row-numbers, tail-is, flags-are, positions-are, productions-are, rows-are, EachFrom}
+use Rattle.stage5_image.specs.ImageReading.{most-tail, image-field, read-flag, read-list, read-position, read-production, read-row, image-end, read-image}
+use Rattle.stage5_image.specs.ImageNumbers.{all-numbers, just, flag-number, one-position-numbers, one-production-numbers, one-row-numbers, tail-is, flags-are, positions-are, productions-are, rows-are, EachFrom}
 use Rattle.stage5_image.specs.ReadableImages.{read-in-range, read-exact}
 use Rattle.stage5_image.specs.ImageRanges.{PositionInRange, ProductionInRange, Rising, RowInRange, InRange}
 
@@ -171,8 +169,12 @@ module _ (bytes : List ℕ) where
       (λ m₅ s₅. then-field _ m₅ (i .first) _ end _ (got i end) (omega arith) (lt-ltb (i .first) (2 ^ P) fb) s₅
       (λ m₆ s₆. then-field _ m₆ N _ end _ (got i end) (omega arith) (between-true 1 most-expression-nodes N (g .some-rows) nc) s₆
       (λ m₇ s₇.
-      ap (λ (z : Reading (List Row)). and-then z (λ rows end. image-end bytes (record { skips =
-          i .skips; positions = i .positions; first = i .first; rows = rows }) end))
+      ap (λ (z : Reading (List Row)). and-then z (λ rows end. image-end bytes (record {
+        skips = i .skips;
+        positions = i .positions;
+        first = i .first;
+        rows = rows;
+      }) end))
       (list-stands one-row-numbers (read-row bytes (i .skips) N) (RowInRange (i .skips) N)
       (λ row from to h. row-stands (i .skips) N row from to rc nc h) (i .rows) m₇ end (g .rows-in-range)
       (subst (λ (l : List ℕ). Stands bytes m₇ l end) (sym (rows-are (i .rows))) s₇))
@@ -199,5 +201,5 @@ pub readable-iff : (bytes : List ℕ) → Bytes bytes → (i : Image)
     → (read-image bytes ≡ got i (length bytes)) ↔ (InRange i × (bytes ≡ image-bytes i))
 readable-iff bytes b i = (
   λ e. (read-in-range bytes i (length bytes) e .0, read-exact bytes b i (length bytes) e),
-  λ g. subst (λ (l : List ℕ). read-image l ≡ got i (length l)) (sym (g .1)) (read-back i (g .0))
+  λ g. subst (λ (l : List ℕ). read-image l ≡ got i (length l)) (sym (g .1)) (read-back i (g .0)),
 )

@@ -1,7 +1,6 @@
 -- What holds of every member of a list: by membership, of joined lists and of mapped ones. Laws of lists in general.
 use mathlib.Core.Path.{refl, sym, subst}
-use mathlib.Core.List.{List, [], _∷_, _++_, map, flatMap, List·Memᴰ, List·Memᴰ·head, List·Memᴰ·tail, List·Memᴰ·not-nil,
-  List·Memᴰ·cases-cons, List·Memᴰ·append-cases}
+use mathlib.Core.List.{List, [], _∷_, _++_, map, flatMap, List·Memᴰ, List·Memᴰ·head, List·Memᴰ·tail, List·Memᴰ·not-nil, List·Memᴰ·cases-cons, List·Memᴰ·append-cases}
 use mathlib.Core.Logic.{⊎-elim}
 use Prim.Native.Nat.{ℕ, zero, suc, _<_}
 use native.Mathlib.Omega.{arith}
@@ -44,5 +43,5 @@ pub of-flatMap : {A B : Type 0} (f : A → List B) (l : List A) (b : B) → List
 unfolding flatMap
 of-flatMap f [] b m = absurd (List·Memᴰ·not-nil m)
 of-flatMap f (a ∷ l) b m =
-    ⊎-elim (λ k. (a, List·Memᴰ·head refl, k)) (λ k. let r =
-        of-flatMap f l b k in (r .0, List·Memᴰ·tail (r .1), r .2)) (List·Memᴰ·append-cases (f a) m)
+    ⊎-elim (λ k. (a, List·Memᴰ·head refl, k)) (λ k. let r = of-flatMap f l b k in (r .0, List·Memᴰ·tail (r .1), r .2))
+    (List·Memᴰ·append-cases (f a) m)

@@ -1,8 +1,7 @@
 -- The nodes met so far: which they are, in which order they joined, and the number of each.
 use mathlib.Core.Path.{_≡_, refl, sym, ap, subst, _∙_}
 use mathlib.Core.Bool.{Bool, true, false, _||_, cond}
-use mathlib.Core.List.{List, [], _∷_, _++_, append-assoc, append-nil, List·Memᴰ, List·Memᴰ·head, List·Memᴰ·tail, List·Memᴰ·not-nil,
-  List·Memᴰ·cases-cons}
+use mathlib.Core.List.{List, [], _∷_, _++_, append-assoc, append-nil, List·Memᴰ, List·Memᴰ·head, List·Memᴰ·tail, List·Memᴰ·not-nil, List·Memᴰ·cases-cons}
 use mathlib.Core.Logic.{⊎-elim}
 use Prim.Native.Nat.{ℕ, zero, suc, _<_}
 use native.Mathlib.Omega.{arith}
@@ -62,7 +61,7 @@ first-met-same a b (n ∷ l) e =
   where
     go : (c d : Bool) → c ≡ d → first-met a l ≡ first-met b l → first-met (n ∷ a) l ≡ first-met (n ∷ b) l
         → _≡_ {A = List ℕ} (elim c [ true ↦ first-met a l | false ↦ n ∷ first-met (n ∷ a) l ])
-            (elim d [ true ↦ first-met b l | false ↦ n ∷ first-met (n ∷ b) l ])
+        (elim d [ true ↦ first-met b l | false ↦ n ∷ first-met (n ∷ b) l ])
     go true true p x y = x
     go true false p x y = let z : _≡_ {A = ℕ} 0 1 = cc in absurd (omega arith)
     go false true p x y = let z : _≡_ {A = ℕ} 0 1 = cc in absurd (omega arith)

@@ -2,8 +2,7 @@
 -- rows and are numbered as first met. Then the rows by number.
 use mathlib.Core.Path.{_≡_, refl, sym, ap, subst, _∙_}
 use mathlib.Core.Bool.{Bool, true, false}
-use mathlib.Core.List.{List, [], _∷_, _++_, map, append-assoc, append-nil, flatMap, List·Memᴰ, List·Memᴰ·head, List·Memᴰ·tail,
-  List·Memᴰ·not-nil, List·Memᴰ·cases-cons, List·Memᴰ·append-cases, List·Memᴰ·eq-of-singleton, Memᴰ·append-left, Memᴰ·append-right}
+use mathlib.Core.List.{List, [], _∷_, _++_, map, append-assoc, append-nil, flatMap, List·Memᴰ, List·Memᴰ·head, List·Memᴰ·tail, List·Memᴰ·not-nil, List·Memᴰ·cases-cons, List·Memᴰ·append-cases, List·Memᴰ·eq-of-singleton, Memᴰ·append-left, Memᴰ·append-right}
 use mathlib.Core.Logic.{⊎-elim}
 use Prim.Native.Nat.{ℕ, zero, suc, _+_, _≤_, _<_}
 use native.Mathlib.Omega.{arith}
@@ -15,10 +14,8 @@ use lib.Seq.{take-append-le, take-suc, take-all}
 use borrow.Author.Tests.{ltb-true, ltb-false}
 use Rattle.stage3_normal_form.specs.Productions.{Production, Row, no-productions, row-of}
 use Rattle.stage5_image.specs.DistinctNodes.{distinct-below}
-use Rattle.stage5_image.specs.MetNodes.{Met, met-at, meet-all-has, meet-all-keeps, Once, once-meet-all, number-below, first-met,
-  first-met-member, meet-all-order}
-use Rattle.stage5_image.specs.Numbering.{is-met, meet, meet-all, tail-members, meet-rows, reached, number-of, renumbered-row,
-  numbered}
+use Rattle.stage5_image.specs.MetNodes.{Met, met-at, meet-all-has, meet-all-keeps, Once, once-meet-all, number-below, first-met, first-met-member, meet-all-order}
+use Rattle.stage5_image.specs.Numbering.{is-met, meet, meet-all, tail-members, meet-rows, reached, number-of, renumbered-row, numbered}
 
 -- ---- the order
 
@@ -121,7 +118,7 @@ module _ (rows : List Row) (inside : TailsInside rows) where
       let l = length-append met (first-met met (new-at met i)) in
       let s = w .some in record {
         below = λ x m. ⊎-elim (λ k. w .below x k) (λ k. inside (getD met i 0) x (first-met-member met (new-at met i) x k))
-          (List·Memᴰ·append-cases met (subst (List·Memᴰ x) e m));
+            (List·Memᴰ·append-cases met (subst (List·Memᴰ x) e m));
         some = rw e (omega arith);
         first = ap (λ (l : List ℕ). getD l 0 0) e ∙ List·getD-append met (first-met met (new-at met i)) 0 0 s ∙ w .first;
         once = once-meet-all met (new-at met i) (w .once);
@@ -157,8 +154,14 @@ module _ (rows : List Row) (inside : TailsInside rows) where
   reached-is h = go (walked (length rows) 0 (0 ∷ []) (omega arith) start)
     where
       start : Walked 0 (0 ∷ [])
-      start = record { below = λ x m. let z = List·Memᴰ·eq-of-singleton m in omega arith; some = omega arith; first = refl; once = once-start; done = λ j l k x m. absurd (not-suc-le-zero l);
-        ordered = unfold meet-all flatMap in refl }
+      start = record {
+        below = λ x m. let z = List·Memᴰ·eq-of-singleton m in omega arith;
+        some = omega arith;
+        first = refl;
+        once = once-start;
+        done = λ j l k x m. absurd (not-suc-le-zero l);
+        ordered = unfold meet-all flatMap in refl;
+      }
 
       go : (j : ℕ) × (length (meet-rows rows (length rows) 0 (0 ∷ [])) ≤ j) × Walked j (meet-rows rows (length rows) 0 (0 ∷ []))
           → Reached rows (meet-rows rows (length rows) 0 (0 ∷ []))
@@ -169,11 +172,11 @@ module _ (rows : List Row) (inside : TailsInside rows) where
             start-number = ap (number-of met) (sym (w .first)) ∙ w .once 0 (w .some);
             once = w .once;
             closed = λ n t x m. let b = number-below n met t in
-              w .done (number-of met n) (let l = b .0 in let k = r .1 in omega arith) (b .0) x
-              (subst (λ (z : ℕ). List·Memᴰ x (tail-members ((row-of rows z) .productions))) (sym (b .1)) m);
+                w .done (number-of met n) (let l = b .0 in let k = r .1 in omega arith) (b .0) x
+                (subst (λ (z : ℕ). List·Memᴰ x (tail-members ((row-of rows z) .productions))) (sym (b .1)) m);
             few = few met (r .0) w;
             in-order = w .ordered ∙ ap (λ (l : List ℕ). meet-all (0 ∷ []) (row-by-row rows l)) (take-all (r .0) met (r .1))
-              ∙ meet-all-order (0 ∷ []) (row-by-row rows met) ∙ (unfold is-met in refl);
+                ∙ meet-all-order (0 ∷ []) (row-by-row rows met) ∙ (unfold is-met in refl);
           }
 
 -- ---- the rows by number

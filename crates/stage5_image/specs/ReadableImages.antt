@@ -16,16 +16,13 @@ use Rattle.stage0_number.specs.declared.Number.{Number}
 use Rattle.stage0_number.specs.declared.Number.the-variants.{Read, Refused}
 use Rattle.stage1_sheet.specs.Limits.{most-rules, most-classes, most-expression-nodes, most-byte}
 use Rattle.stage1_sheet.specs.Field.{Reading, stop, got, between, field-of, read-field, read-many}
-use Rattle.stage1_sheet.specs.FieldLaws.{Bytes, Stands, stands-none, stands-append, stands-whole, Outcome, refused, accepted,
-  then-outcome, outcome-imply, outcome-got, outcome-stop, field-outcome, true-between}
+use Rattle.stage1_sheet.specs.FieldLaws.{Bytes, Stands, stands-none, stands-append, stands-whole, Outcome, refused, accepted, then-outcome, outcome-imply, outcome-got, outcome-stop, field-outcome, true-between}
 use Rattle.stage3_normal_form.specs.Productions.{Production}
 use Rattle.stage4_lexer.specs.Positions.{Position}
 use Rattle.stage4_lexer.specs.PositionBounds.{NeverFalling}
 use Rattle.stage5_image.specs.Image.{Image, flag, image-numbers, image-bytes}
-use Rattle.stage5_image.specs.ImageReading.{most-tail, image-field, read-flag, read-list, read-position, read-production, read-row,
-  image-end, read-image}
-use Rattle.stage5_image.specs.ImageNumbers.{all-numbers, just, flag-number, one-position-numbers, one-production-numbers,
-  one-row-numbers, tail-is, flags-are, positions-are, productions-are, rows-are, EachFrom}
+use Rattle.stage5_image.specs.ImageReading.{most-tail, image-field, read-flag, read-list, read-position, read-production, read-row, image-end, read-image}
+use Rattle.stage5_image.specs.ImageNumbers.{all-numbers, just, flag-number, one-position-numbers, one-production-numbers, one-row-numbers, tail-is, flags-are, positions-are, productions-are, rows-are, EachFrom}
 use Rattle.stage5_image.specs.ImageRanges.{PositionInRange, ProductionInRange, Rising, RowInRange, InRange}
 
 -- Numbers were read from a place on: their end lies within the bytes, and if these are bytes, the numbers stand there.
@@ -61,11 +58,14 @@ module _ (bytes : List ℕ) where
 
       chosen : (v used : ℕ) → decode bytes at ≡ Read v used → (c : Bool) → allowed v ≡ c
           → Gives (λ v. allowed v ≡ true) just at (cond c (got v (at + used)) (stop 13 at))
-      chosen v used e true a = accepted v (at + used) (a, record {
-        inside = decode-within bytes at e .inside;
-        stands = λ b.
-          stands v (at + used) b (ap (field-of 13 13 allowed at) e ∙ ap (λ (c : Bool). cond c (got v (at + used)) (stop 13 at)) a);
-      })
+      chosen v used e true a = accepted v (at + used) (
+        a,
+        record {
+          inside = decode-within bytes at e .inside;
+          stands = λ b.
+              stands v (at + used) b (ap (field-of 13 13 allowed at) e ∙ ap (λ (c : Bool). cond c (got v (at + used)) (stop 13 at)) a);
+        },
+      )
       chosen v used e false a = refused 13 at (refl, h)
 
       go : (n : Number) → decode bytes at ≡ n → Gives (λ v. allowed v ≡ true) just at (field-of 13 13 allowed at n)
@@ -123,12 +123,18 @@ module _ (bytes : List ℕ) where
       (λ follow m₅ g₅.
       let range = true-between low most-byte high (g₂ .0) in
       let rising = leb→le before rule (true-holds (leb before rule) (and-true-first (leb before rule) (ltb rule rules) (g₃ .0))) in
-      accepted _ m₅ ((rising, record {
-        low-high = range .0;
-        high-byte = range .1;
-        rule-below = ltb-true rule rules (and-true-second (leb before rule) (ltb rule rules) (g₃ .0));
-        follow-below = ltb-true follow (2 ^ count) (g₅ .0);
-      }), taken-append (g₁ .1) (taken-append (g₂ .1) (taken-append (g₃ .1) (taken-append (g₄ .1) (g₅ .1))))))))))
+      accepted _ m₅ (
+        (
+          rising,
+          record {
+            low-high = range .0;
+            high-byte = range .1;
+            rule-below = ltb-true rule rules (and-true-second (leb before rule) (ltb rule rules) (g₃ .0));
+            follow-below = ltb-true follow (2 ^ count) (g₅ .0);
+          },
+        ),
+        taken-append (g₁ .1) (taken-append (g₂ .1) (taken-append (g₃ .1) (taken-append (g₄ .1) (g₅ .1)))),
+      ))))))
 
   -- ---- productions and rows
 
@@ -148,12 +154,18 @@ module _ (bytes : List ℕ) where
       let rising = leb→le least rule (true-holds (leb least rule) (and-true-first (leb least rule) inside (g₁ .0))) in
       let short : size ≤ most-tail = true-between 0 most-tail size (g₂ .0) .1 in
       let same = g₃ .0 .0 in
-      accepted _ m₃ ((rising, record {
-        rule-below = ltb-true rule (length skips) (and-true-first (ltb rule (length skips)) (not (getD skips rule true)) below);
-        not-skipping = negated (getD skips rule true) (and-true-second (ltb rule (length skips)) (not (getD skips rule true)) below);
-        tail-length = omega arith;
-        members-below = each tail (g₃ .0 .1);
-      }), taken-append (g₁ .1) (taken-append (taken-as (ap just (sym same)) (g₂ .1)) (taken-as (tail-is tail) (g₃ .1)))))))
+      accepted _ m₃ (
+        (
+          rising,
+          record {
+            rule-below = ltb-true rule (length skips) (and-true-first (ltb rule (length skips)) (not (getD skips rule true)) below);
+            not-skipping = negated (getD skips rule true) (and-true-second (ltb rule (length skips)) (not (getD skips rule true)) below);
+            tail-length = omega arith;
+            members-below = each tail (g₃ .0 .1);
+          },
+        ),
+        taken-append (g₁ .1) (taken-append (taken-as (ap just (sym same)) (g₂ .1)) (taken-as (tail-is tail) (g₃ .1))),
+      ))))
     where
       negated : (b : Bool) → not b ≡ true → b ≡ false
       negated true e = sym e
@@ -173,9 +185,10 @@ module _ (bytes : List ℕ) where
       (λ ps m₃ g₃.
       let few : size ≤ most-rules = true-between 0 most-rules size (g₂ .0) .1 in
       let same = g₃ .0 .0 in
-      accepted _ m₃
-      (record { production-count = omega arith; productions-in-range = ranges 0 ps (g₃ .0 .1); rising = rises 0 ps (g₃ .0 .1) },
-      taken-append (g₁ .1) (taken-append (taken-as (ap just (sym same)) (g₂ .1)) (taken-as (productions-are ps) (g₃ .1)))))))
+      accepted _ m₃ (
+        record { production-count = omega arith; productions-in-range = ranges 0 ps (g₃ .0 .1); rising = rises 0 ps (g₃ .0 .1) },
+        taken-append (g₁ .1) (taken-append (taken-as (ap just (sym same)) (g₂ .1)) (taken-as (productions-are ps) (g₃ .1))),
+      ))))
     where
       ranges : (least : ℕ) (ps : List Production) → EachFrom (GoodProduction skips count) (λ least p. suc (p .head)) least ps
           → All (ProductionInRange skips count) ps

@@ -70,9 +70,9 @@ module _ (rules : List Rule) (rows : List Row) (inside : TailsInside rows) (some
         not-skipping = rule-not-skipping (o .2 .at) (o .2 .returns);
         tail-length = subst (λ (tail : List ℕ). length tail ≤ most-tail) (sym (o .3)) (omega arith);
         members-below = subst (All (λ n. n < length image)) (sym (o .3))
-          (all-map (λ n. n < length image) (number-of met) (o .0 .tail)
-          (all-of (λ n. number-of met n < length image) (o .0 .tail)
-          (λ x k. s .number-below x (all-member (λ x. Met x met) (o .0 .tail) (o .4) x k))));
+            (all-map (λ n. n < length image) (number-of met) (o .0 .tail)
+            (all-of (λ n. number-of met n < length image) (o .0 .tail)
+            (λ x k. s .number-below x (all-member (λ x. Met x met) (o .0 .tail) (o .4) x k))));
       }
 
   row-range : (n : ℕ) → Met n met → RowInRange (map skips-rule rules) (length image) (row-of image (number-of met n))

@@ -16,8 +16,7 @@ use Rattle.stage5_image.specs.FusionLaws.{Found, production-found, as-ru
 use Rattle.stage5_image.specs.Members.{all-of}
 use Rattle.stage5_image.specs.Numbering.{reached, number-of, renumbered, renumbered-row, numbered}
 use Rattle.stage5_image.specs.MetNodes.{Met, number-below as node-number}
-use Rattle.stage5_image.specs.NumberingLaws.{TailsInside, Reached, reached-is, row-at-number, tail-member, of-tail-members,
-  numbered-count}
+use Rattle.stage5_image.specs.NumberingLaws.{TailsInside, Reached, reached-is, row-at-number, tail-member, of-tail-members, numbered-count}
 use Rattle.stage5_image.specs.Unfolding.{Returns}
 
 -- ---- fusion of all rows
@@ -28,8 +27,10 @@ fused-none [] r = refl
 fused-none (rule ∷ rules) r = go (rule .action) (fused-none rules (suc r))
   where
     go : (a : ℕ) → fused-from rules (suc r) [] ≡ []
-        → _≡_ {A = List Production} (elim a [ zero ↦ fused-from rules (suc r) [] | suc k ↦ by-rule r (production-of k [])
-            (fused-from rules (suc r) []) ]) []
+        → _≡_ {A = List Production} (elim a [
+          | zero ↦ fused-from rules (suc r) []
+          | suc k ↦ by-rule r (production-of k []) (fused-from rules (suc r) [])
+        ]) []
     go zero e = e
     go (suc k) e = e
 
@@ -159,12 +160,15 @@ module _ (rules : List Rule) (rows : List Row) (inside : TailsInside rows) (some
       (subst (λ (w : Row). List·Memᴰ p (w .productions)) (image-row n t) m) in
       let f = fused-member rules rows n (o .0) (o .1) in
       let at : p .head ≡ f .offset = ap (λ (z : Production). z .head) (sym (o .2)) ∙ f .rule ∙
-      (let z : 0 + f .offset ≡ f .offset = omega arith in z) in
-      (f .source, f .member, subst (λ (z : ℕ). Returns rules z (f .source .head)) (sym at) (f .returned),
-      ap (λ (z : Production). z .tail) (sym (o .2)) ∙ ap (map (number-of met)) (f .same-tail),
-      all-of (λ x. Met x met) (f .source .tail)
-      (λ x k. reached-fused .closed n t x (tail-member (o .0) x ((row-of all-fused n) .productions) (o .1)
-      (subst (λ (l : List ℕ). List·Memᴰ x l) (sym (f .same-tail)) k))))
+      (let z : 0 + f .offset ≡ f .offset = omega arith in z) in (
+        f .source,
+        f .member,
+        subst (λ (z : ℕ). Returns rules z (f .source .head)) (sym at) (f .returned),
+        ap (λ (z : Production). z .tail) (sym (o .2)) ∙ ap (map (number-of met)) (f .same-tail),
+        all-of (λ x. Met x met) (f .source .tail)
+            (λ x k. reached-fused .closed n t x (tail-member (o .0) x ((row-of all-fused n) .productions) (o .1)
+            (subst (λ (l : List ℕ). List·Memᴰ x l) (sym (f .same-tail)) k))),
+      )
 
   -- The image's rows, made by fusion, reaching and numbering, do what the rows by token do.
   pub image-simulates : Simulates rules rows (numbered (fused rules rows)) (number-of (reached (fused rules rows)))

@@ -18,8 +18,7 @@ use Rattle.stage5_image.specs.Members.{all-append}
 use Rattle.stage5_image.specs.Numbering.{numbered}
 use Rattle.stage5_image.specs.NumberingLaws.{TailsInside}
 use Rattle.stage5_image.specs.Simulation.{Simulates, tail-of, tail-numbers, TailKnown, image-simulates}
-use Rattle.stage5_image.specs.Unfolding.{Unfolds, none-pending, by-epsilon, by-production, StartUnfolds, Returns, SpellsTokens,
-  no-tokens, one-more}
+use Rattle.stage5_image.specs.Unfolding.{Unfolds, none-pending, by-epsilon, by-production, StartUnfolds, Returns, SpellsTokens, no-tokens, one-more}
 
 -- In each row at most one production begins with a token.
 abbrev pub OnePerToken : List Row → Type 0
@@ -41,9 +40,11 @@ module _ (rules : List Rule) (rows image : List Row) (number : ℕ → ℕ) (Kno
   to-tokens none-pending (n ∷ pending) e k = absurd (nil≢cons e)
   to-tokens (by-epsilon empty u) [] e k = absurd (cons≢nil e)
   to-tokens (by-epsilon {n = m} empty u) (n ∷ pending) e k =
-      let r = to-tokens u pending (tail-eq-of-cons-eq e) (k .1) in
-      (r .0, by-epsilon (sym (s .same-empty n (k .0)) ∙ subst (λ (z : ℕ). (row-of image z) .empty ≡ true) (head-eq-of-cons-eq e) empty)
-      (r .1), r .2)
+      let r = to-tokens u pending (tail-eq-of-cons-eq e) (k .1) in (
+        r .0,
+        by-epsilon (sym (s .same-empty n (k .0)) ∙ subst (λ (z : ℕ). (row-of image z) .empty ≡ true) (head-eq-of-cons-eq e) empty) (r .1),
+        r .2,
+      )
   to-tokens (by-production m u) [] e k = absurd (cons≢nil e)
   to-tokens (by-production {pending = rest'} {p = p} m u) (n ∷ pending) e k =
       let o = s .sources n (k .0) p (subst (λ (z : ℕ). List·Memᴰ p ((row-of image z) .productions)) (head-eq-of-cons-eq e) m) in
@@ -90,10 +91,9 @@ module _ (rules : List Rule) (rows image : List Row) (number : ℕ → ℕ) (Kno
   -- The image's start unfolds to the rule sequences that spell what the rows by token unfold to.
   pub start-unfolds : OnePerToken rows → (ks : List ℕ) → StartUnfolds image ks ↔ SpellsUnfolded rules rows (0 ∷ []) ks
   start-unfolds one ks =
-      let start : 0 ∷ [] ≡ map number (0 ∷ []) = ap (λ (n : ℕ). n ∷ []) (sym (s .start-number)) in
-      (
+      let start : 0 ∷ [] ≡ map number (0 ∷ []) = ap (λ (n : ℕ). n ∷ []) (sym (s .start-number)) in (
         λ u. to-tokens u (0 ∷ []) start (s .start-known, tt),
-        λ r. subst (λ (l : List ℕ). Unfolds image l ks) (sym start) (from-tokens one (r .1) (r .2) (s .start-known, tt))
+        λ r. subst (λ (l : List ℕ). Unfolds image l ks) (sym start) (from-tokens one (r .1) (r .2) (s .start-known, tt)),
       )
 
 -- For the image's rows as they are made.
