@@ -212,9 +212,13 @@ nonterminals-few s c =
     let few = distinct-few (reached rows) (0 ∷ right-parts (nodes e)) (r .once) (reached-right (s .rules) e (s .tokens) c) in
     omega (arith, numbered-count rows, right-parts-count e)
 
--- The image of a sheet that compiling accepts fits 65,536 bytes.
+-- 1,070 bytes, and 1,058 for each of 32 nonterminals.
+abbrev pub most-image-bytes : ℕ
+most-image-bytes = 34926
+
+-- The image of a sheet that compiling accepts is no longer.
 pub image-fits : (s : Sheet) {a : LanguageType} → WithinLimits s → empty-match (s .rules) 0 ≡ none → [] ⊢ s .expression ∶ a
-    → length (image-bytes (image-of s)) ≤ 34926
+    → length (image-bytes (image-of s)) ≤ most-image-bytes
 image-fits s w m d =
     let few = nonterminals-few s (w .closed) in
     let most = w .nodes-most in

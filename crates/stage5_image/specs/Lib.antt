@@ -22,3 +22,4 @@ pub mod RowRanges
 pub mod ImageLaws
 pub mod ImageLength
 pub mod CompileLaws
+pub mod CompileQuestions

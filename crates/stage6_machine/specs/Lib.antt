@@ -2,8 +2,10 @@
 pub mod Answer
 pub mod Run
 pub mod OwnAnswer
+pub mod Lexes
 pub mod Computing
 pub mod OwnAnswerLaws
+pub mod AcceptanceLaws
 pub mod TakingLaws
 pub mod RunAnswers
 pub mod FaithfulImage

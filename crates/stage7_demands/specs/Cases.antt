@@ -1,17 +1,25 @@
 -- The cases that document 01 marks with ★, as rows of one table, and the theorem that covers all rows. A row gives what the
 -- page gives; a text is written as its bytes.
-use mathlib.Core.Path.{_≡_, refl}
+use mathlib.Core.Path.{_≡_, refl, ap, subst, _∙_}
 use mathlib.Core.List.{List, [], _∷_, _++_}
-use Prim.Native.Nat.{ℕ, zero, suc, _+_, _*_}
+use Prim.Native.Nat.{ℕ, zero, suc, _+_, _*_, _≤_}
+use native.Mathlib.Omega.{arith}
+use lib.Dec.{T, leb, leb→le}
 use lib.ListN.{length}
 use Rattle.stage0_laws.specs.Lists.{All}
 use Rattle.stage1_sheet.specs.Expression.{Expression, token, sequence, fixed-point, variable}
 use Rattle.stage2_types.specs.Denotation.{Denotes, denotation, iterate}
 use Rattle.stage5_image.specs.Compile.{Compiled, refused, compiled, compile, written-part}
 use Rattle.stage6_machine.specs.Answer.{Answer, answer}
-use Rattle.stage6_machine.specs.Run.{run}
+use Rattle.stage6_machine.specs.Run.{most-text-bytes, run}
+use Rattle.stage6_machine.specs.OwnAnswer.{OwnAnswer}
 use Rattle.stage6_machine.specs.Computing.{computing-machine}
+use Rattle.stage1_sheet.specs.Sheet.{Sheet}
+use Rattle.stage1_sheet.specs.WellFormed.{Spells}
+use Rattle.stage1_sheet.specs.FieldLaws.{all-bytes, tested-bytes}
 use Rattle.stage1_sheet.specs.SheetD.{with-expression, bytes-of-D}
+use Rattle.stage7_demands.specs.Demands.{Demand3}
+use Rattle.stage7_demands.specs.Proofs.{demand-3}
 use Rattle.stage7_demands.specs.ImageD.{rules-of-image-D, image-D}
 
 pub data Case : Type 0 where
@@ -30,9 +38,10 @@ compiled-sheet sheet = compile sheet 65536 65536
 unfoldable pub answer-of : List ℕ → List ℕ → Answer
 answer-of sheet text = run (written-part (compiled-sheet sheet)) text (1 + 30 * length text)
 
+-- A reading holds as what the machine answers and as the sheet's own answer.
 abbrev pub Holds : Case → Type 0
 Holds (compiles sheet c) = compiled-sheet sheet ≡ c
-Holds (reads sheet text a) = answer-of sheet text ≡ a
+Holds (reads sheet text a) = (answer-of sheet text ≡ a) × ((s : Sheet) → Spells sheet s → OwnAnswer s text a)
 Holds (denotes-nothing e) = (tokens : List ℕ) → Denotes e tokens → ⊥
 
 -- μα.N·α
@@ -70,6 +79,67 @@ endless-iterate : (i : ℕ) (w : List ℕ) → iterate (λ L. denotation (sequen
 endless-iterate zero w h = h
 endless-iterate (suc i) w h = endless-iterate i (h .1) (h .4)
 
+-- What is computed of a case: for a reading, the sheet's image and what the machine answers over it.
+abbrev Computes : Case → Type 0
+Computes (compiles sheet c) = compiled-sheet sheet ≡ c
+Computes (reads sheet text a) =
+    (image : List ℕ) × (compiled-sheet sheet ≡ compiled image) × (run image text (1 + 30 * length text) ≡ a)
+    × T (all-bytes sheet) × T (leb (length text) most-text-bytes)
+Computes (denotes-nothing e) = (tokens : List ℕ) → Denotes e tokens → ⊥
+
+-- By demand 3 that is also the sheet's own answer.
+holds : (c : Case) → Computes c → Holds c
+unfolding compiled-sheet answer-of written-part
+holds (compiles sheet c) h = h
+holds (reads sheet text a) h = (
+  ap (λ (c : Compiled). run (written-part c) text (1 + 30 * length text)) (h .1) ∙ h .2,
+  λ s spells. subst (OwnAnswer s text) (h .2)
+      (demand-3 .own-answer sheet (tested-bytes sheet (h .3)) 65536 65536 (h .0) (h .1) s spells text (1 + 30 * length text)
+      (leb→le (length text) most-text-bytes (h .4)) (omega arith)),
+)
+holds (denotes-nothing e) h = h
+
+all-hold : (cs : List Case) → All Computes cs → All Holds cs
+all-hold [] h = tt
+all-hold (c ∷ cs) h = (holds c (h .0), all-hold cs (h .1))
+
+all-computed : All Computes cases
+unfolding cases compiled-sheet computing-machine
+all-computed = (
+  refl,
+  (
+    (image-D, refl, refl, tt, tt),
+    (
+      (image-D, refl, refl, tt, tt),
+      (
+        (image-D, refl, refl, tt, tt),
+        (
+          (image-D, refl, refl, tt, tt),
+          (
+            (image-D, refl, refl, tt, tt),
+            (
+              refl,
+              (
+                refl,
+                (
+                  refl,
+                  (
+                    refl,
+                    (
+                      refl,
+                      ((λ w h. endless-iterate (h .0) w (h .1)), (refl, (refl, tt))),
+                    ),
+                  ),
+                ),
+              ),
+            ),
+          ),
+        ),
+      ),
+    ),
+  ),
+)
+
+-- Every row holds.
 pub cases-hold : All Holds cases
-unfolding cases compiled-sheet answer-of computing-machine
-cases-hold = (refl, (refl, (refl, (refl, (refl, (refl, (refl, (refl, (refl, (refl, (refl, ((λ w h. endless-iterate (h .0) w (h .1)), (refl, (refl, tt))))))))))))))
+cases-hold = all-hold cases all-computed

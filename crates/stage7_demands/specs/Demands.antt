@@ -1,0 +1,54 @@
+-- The three demands, each as one statement to be held against the page, over the definitions that the code's contracts cite.
+-- The proofs are elsewhere: `Proofs` puts them together.
+use mathlib.Core.Path.{_≡_}
+use mathlib.Core.List.{List, [], _∷_}
+use mathlib.Core.Logic.{_↔_, _⊎_}
+use Prim.Native.Nat.{ℕ, _+_, _*_, _≤_, _<_}
+use lib.ListN.{length, take, drop, replicate}
+use Rattle.stage1_sheet.specs.Sheet.{Sheet}
+use Rattle.stage1_sheet.specs.WellFormed.{Spells}
+use Rattle.stage1_sheet.specs.FieldLaws.{Bytes}
+use Rattle.stage1_sheet.specs.Field.{got}
+use Rattle.stage5_image.specs.Image.{image-of, image-bytes}
+use Rattle.stage5_image.specs.ImageReading.{read-image}
+use Rattle.stage5_image.specs.Unfolding.{StartUnfolds, DenotedRules}
+use Rattle.stage5_image.specs.Compile.{work-bytes, Compiled, compiled, compile, compile-answer, image-after, work-after}
+use Rattle.stage5_image.specs.CompileLaws.{Acceptable}
+use Rattle.stage6_machine.specs.Answer.{Answer}
+use Rattle.stage6_machine.specs.Run.{most-text-bytes, run, stack-after}
+use Rattle.stage6_machine.specs.OwnAnswer.{OwnAnswer}
+
+-- Demand 1. "A caller may hand over any sheet, image, text and buffers, of any length and content, and always gets an answer that
+-- document 01 fixes: a result, or the number and place of the first question that fails, and what every lent buffer then holds."
+-- Compiling and running are functions of all that is handed over (`compile`, `run`), and so are the buffers at the end
+-- (`image-after`, `work-after`, `stack-after`); here, that they answer with the page's numbers and leave the buffers' lengths.
+pub record Demand1 : Type 0 where
+  pub compiling : (sheet : List ℕ) (work room : ℕ) → (compile-answer (compile sheet work room)) .number ≤ 11
+  pub running : (image text : List ℕ) (entries : ℕ)
+      → ((run image text entries) .number ≡ 0) ⊎ ((12 ≤ (run image text entries) .number) × ((run image text entries) .number ≤ 17))
+  pub image-kept : (sheet : List ℕ) (work : ℕ) (buffer : List ℕ)
+      → length (image-after (compile sheet work (length buffer)) buffer) ≡ length buffer
+  pub work-kept : (work : List ℕ) → length (work-after work) ≡ length work
+  pub stack-kept : (a : Answer) (stack : List ℕ) → length (stack-after a stack) ≡ length stack
+
+-- Demand 2. "Given the work area that document 01 names, a sheet is accepted exactly if it is well formed, no lexer rule matches the
+-- empty text, its expression has a type under the published typing rules, and the image fits. The image is then the one normal
+-- form that document 01 sets out, and its start unfolds to exactly the rule sequences that spell a token sequence which the
+-- expression denotes, each token spelled by any rule that returns it."
+pub record Demand2 : Type 0 where
+  pub accepted-exactly : (sheet : List ℕ) → Bytes sheet → (work room : ℕ) → work-bytes ≤ work
+      → ((image : List ℕ) × (compile sheet work room ≡ compiled image)) ↔ ((s : Sheet) × Acceptable sheet room s)
+  pub normal-form : (sheet : List ℕ) → Bytes sheet → (work room : ℕ) (image : List ℕ) → compile sheet work room ≡ compiled image
+      → (s : Sheet) → Spells sheet s
+      → (image ≡ image-bytes (image-of s)) × (read-image image ≡ got (image-of s) (length image))
+  pub unfolds-exactly : (sheet : List ℕ) → Bytes sheet → (work room : ℕ) (image : List ℕ) → compile sheet work room ≡ compiled image
+      → (s : Sheet) → Spells sheet s → (rules : List ℕ) → StartUnfolds ((image-of s) .rows) rules ↔ DenotedRules s rules
+
+-- Demand 3. "Whatever bytes a text holds, for every sheet that demand 2 accepts, running the image fixed there over the text gives
+-- exactly the sheet's own answer .. Only, the text must be within the limit and the stack have at least 1 + 30 × its length entries."
+pub record Demand3 : Type 0 where
+  pub own-answer : (sheet : List ℕ) → Bytes sheet → (work room : ℕ) (image : List ℕ) → compile sheet work room ≡ compiled image
+      → (s : Sheet) → Spells sheet s
+      → (text : List ℕ) (entries : ℕ) → length text ≤ most-text-bytes → 1 + 30 * length text ≤ entries
+      → OwnAnswer s text (run image text entries)
+  pub exactly : (s : Sheet) (text : List ℕ) (a b : Answer) → OwnAnswer s text a → OwnAnswer s text b → a ≡ b
