@@ -41,8 +41,14 @@ passes-compile : (sheet : List ℕ) (work room : ℕ) (c : Contents) (end : ℕ)
     → compile sheet work room ≡ compiled (image-bytes (image-of (c .sheet)))
 unfolding compile after-reading after-rules after-types fitted
 passes-compile sheet work room c end w p =
-    rw (le-ltb work work-bytes w, le-ltb most-sheet-bytes (length sheet) (p .short), p .reads, p .rules-pass, p .types-pass,
-    le-leb (length (image-bytes (image-of (c .sheet)))) room (p .fits))
+    rw (
+      le-ltb work work-bytes w,
+      le-ltb most-sheet-bytes (length sheet) (p .short),
+      p .reads,
+      p .rules-pass,
+      p .types-pass,
+      le-leb (length (image-bytes (image-of (c .sheet)))) room (p .fits),
+    )
 
 -- Success has no other way.
 not-compiled : {X : Type 0} (question place : ℕ) {image : List ℕ} → refused question place ≡ compiled image → X

@@ -9,3 +9,4 @@ pub mod AcceptanceLaws
 pub mod TakingLaws
 pub mod RunAnswers
 pub mod FaithfulImage
+pub mod Examples

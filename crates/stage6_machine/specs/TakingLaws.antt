@@ -76,5 +76,5 @@ module _ (rules : List Rule) (rows image : List Row) (number : ℕ → ℕ) (Kno
       let a = (row-of image (number n)) .empty in
       let b = all-nullable image (map number nodes) in (
         (λ e. (sym (same .same-empty n (h .0)) ∙ and-true-first a b e, r .0 (and-true-second a b e))),
-        λ e. ap₂ _&&_ (same .same-empty n (h .0) ∙ e .0) (r .1 (e .1))
+        λ e. ap₂ _&&_ (same .same-empty n (h .0) ∙ e .0) (r .1 (e .1)),
       )

@@ -105,10 +105,40 @@ all-hold (c ∷ cs) h = (holds c (h .0), all-hold cs (h .1))
 
 all-computed : All Computes cases
 unfolding cases compiled-sheet computing-machine
-all-computed =
-    (refl, ((image-D, refl, refl, tt, tt), ((image-D, refl, refl, tt, tt), ((image-D, refl, refl, tt, tt), ((image-D, refl, refl, tt, tt),
-    ((image-D, refl, refl, tt, tt), (refl, (refl, (refl, (refl, (refl,
-    ((λ w h. endless-iterate (h .0) w (h .1)), (refl, (refl, tt))))))))))))))
+all-computed = (
+  refl,
+  (
+    (image-D, refl, refl, tt, tt),
+    (
+      (image-D, refl, refl, tt, tt),
+      (
+        (image-D, refl, refl, tt, tt),
+        (
+          (image-D, refl, refl, tt, tt),
+          (
+            (image-D, refl, refl, tt, tt),
+            (
+              refl,
+              (
+                refl,
+                (
+                  refl,
+                  (
+                    refl,
+                    (
+                      refl,
+                      ((λ w h. endless-iterate (h .0) w (h .1)), (refl, (refl, tt))),
+                    ),
+                  ),
+                ),
+              ),
+            ),
+          ),
+        ),
+      ),
+    ),
+  ),
+)
 
 -- Every row holds.
 pub cases-hold : All Holds cases
