@@ -145,3 +145,7 @@ compiled-acceptable sheet bytes work room image e =
         m .1 .3,
       ),
     )
+
+-- An image that is written fits, whatever the sheet's bytes are.
+pub compiled-fits : (sheet : List ℕ) (work room : ℕ) (image : List ℕ) → compile sheet work room ≡ compiled image → length image ≤ room
+compiled-fits sheet work room image e = let m = (compiled-made sheet room image work e) .1 in rw (m .3) ((m .2) .fits)

@@ -9,4 +9,5 @@ pub mod AcceptanceLaws
 pub mod TakingLaws
 pub mod RunAnswers
 pub mod FaithfulImage
+pub mod RunNumbers
 pub mod Examples

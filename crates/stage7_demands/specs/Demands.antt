@@ -1,10 +1,10 @@
 -- The three demands, each as one statement to be held against the page, over the definitions that the code's contracts cite.
 -- The proofs are elsewhere: `Proofs` puts them together.
 use mathlib.Core.Path.{_≡_}
-use mathlib.Core.List.{List, [], _∷_}
-use mathlib.Core.Logic.{_↔_, _⊎_}
-use Prim.Native.Nat.{ℕ, _+_, _*_, _≤_, _<_}
-use lib.ListN.{length, take, drop, replicate}
+use mathlib.Core.List.{List}
+use mathlib.Core.Logic.{_↔_}
+use Prim.Native.Nat.{ℕ, _+_, _*_, _≤_}
+use lib.ListN.{length}
 use Rattle.stage1_sheet.specs.Sheet.{Sheet}
 use Rattle.stage1_sheet.specs.WellFormed.{Spells}
 use Rattle.stage1_sheet.specs.FieldLaws.{Bytes}
@@ -12,20 +12,22 @@ use Rattle.stage1_sheet.specs.Field.{got}
 use Rattle.stage5_image.specs.Image.{image-of, image-bytes}
 use Rattle.stage5_image.specs.ImageReading.{read-image}
 use Rattle.stage5_image.specs.Unfolding.{StartUnfolds, DenotedRules}
-use Rattle.stage5_image.specs.Compile.{work-bytes, Compiled, compiled, compile, compile-answer, image-after, work-after}
+use Rattle.stage5_image.specs.Compile.{work-bytes, compiled, compile, image-after, work-after}
 use Rattle.stage5_image.specs.CompileLaws.{Acceptable}
+use Rattle.stage5_image.specs.CompileQuestions.{Compiles}
 use Rattle.stage6_machine.specs.Answer.{Answer}
 use Rattle.stage6_machine.specs.Run.{most-text-bytes, run, stack-after}
 use Rattle.stage6_machine.specs.OwnAnswer.{OwnAnswer}
+use Rattle.stage6_machine.specs.RunNumbers.{RunEnds}
 
 -- Demand 1. "A caller may hand over any sheet, image, text and buffers, of any length and content, and always gets an answer that
 -- document 01 fixes: a result, or the number and place of the first question that fails, and what every lent buffer then holds."
 -- Compiling and running are functions of all that is handed over (`compile`, `run`), and so are the buffers at the end
--- (`image-after`, `work-after`, `stack-after`); here, that they answer with the page's numbers and leave the buffers' lengths.
+-- (`image-after`, `work-after`, `stack-after`): the code's contracts are equations with them. Here, that compiling ends at the first
+-- question that fails, in the page's terms; that running ends with one of the page's numbers; and that buffers keep their lengths.
 pub record Demand1 : Type 0 where
-  pub compiling : (sheet : List ℕ) (work room : ℕ) → (compile-answer (compile sheet work room)) .number ≤ 11
-  pub running : (image text : List ℕ) (entries : ℕ)
-      → ((run image text entries) .number ≡ 0) ⊎ ((12 ≤ (run image text entries) .number) × ((run image text entries) .number ≤ 17))
+  pub compiling : (sheet : List ℕ) → Bytes sheet → (work room : ℕ) → Compiles sheet work room (compile sheet work room)
+  pub running : (image text : List ℕ) (entries : ℕ) → RunEnds (length text) (length image) (run image text entries)
   pub image-kept : (sheet : List ℕ) (work : ℕ) (buffer : List ℕ)
       → length (image-after (compile sheet work (length buffer)) buffer) ≡ length buffer
   pub work-kept : (work : List ℕ) → length (work-after work) ≡ length work

@@ -1,13 +1,14 @@
 -- The demands hold: their parts put together.
 use mathlib.Core.Path.{_≡_, refl, sym, ap, subst, _∙_}
-use mathlib.Core.Bool.{Bool, true, false, cond}
-use mathlib.Core.List.{List, [], _∷_}
-use mathlib.Core.Logic.{_↔_, _⊎_, inl, inr}
-use mathlib.Core.Option.{Option, none, some}
-use Prim.Native.Nat.{ℕ, zero, suc, _+_, _*_, _≤_, _<_}
+use mathlib.Core.Bool.{Bool, true, false, cond, _||_}
+use mathlib.Core.List.{List, _++_}
+use mathlib.Core.Logic.{_↔_}
+use mathlib.Core.Option.{none}
+use Prim.Native.Nat.{ℕ, _+_, _*_, _≤_}
 use native.Mathlib.Omega.{arith}
-use lib.ListN.{length, drop}
-use borrow.Author.Tests.{le-ltb}
+use lib.ListN.{length, drop, replicate, length-append, length-drop, length-replicate}
+use lib.Dec.{eqb, ltb}
+use borrow.Author.Tests.{le-ltb, ltb-false}
 use Rattle.stage1_sheet.specs.Sheet.{Sheet}
 use Rattle.stage1_sheet.specs.WellFormed.{Spells}
 use Rattle.stage1_sheet.specs.FieldLaws.{Bytes}
@@ -19,15 +20,51 @@ use Rattle.stage5_image.specs.Image.{image-of, image-bytes}
 use Rattle.stage5_image.specs.ImageReading.{read-image}
 use Rattle.stage5_image.specs.Unfolding.{StartUnfolds, DenotedRules}
 use Rattle.stage5_image.specs.ImageLaws.{image-denotes, image-read-back}
-use Rattle.stage5_image.specs.Compile.{work-bytes, compiled, compile}
-use Rattle.stage5_image.specs.CompileLaws.{Acceptable, acceptable-compiles, compiled-acceptable}
+use Rattle.stage5_image.specs.Compile.{work-bytes, Compiled, refused, too-long, compiled, compile, image-after, work-after}
+use Rattle.stage5_image.specs.CompileLaws.{Acceptable, acceptable-compiles, compiled-acceptable, compiled-fits}
+use Rattle.stage5_image.specs.CompileQuestions.{compile-answers}
 use Rattle.stage6_machine.specs.Answer.{Answer}
-use Rattle.stage6_machine.specs.Run.{most-text-bytes, run, run-reading, run-image}
+use Rattle.stage6_machine.specs.Run.{most-text-bytes, run, run-reading, stack-after}
 use Rattle.stage6_machine.specs.OwnAnswer.{OwnAnswer}
 use Rattle.stage6_machine.specs.OwnAnswerLaws.{own-answer-one}
+use Rattle.stage6_machine.specs.RunNumbers.{run-ends}
 use Rattle.stage6_machine.specs.RunAnswers.{run-image-answers}
 use Rattle.stage6_machine.specs.FaithfulImage.{Stands, start-stands, image-faithful}
-use Rattle.stage7_demands.specs.Demands.{Demand2, Demand3}
+use Rattle.stage7_demands.specs.Demands.{Demand1, Demand2, Demand3}
+
+-- ---- demand 1
+
+image-kept : (sheet : List ℕ) (work : ℕ) (buffer : List ℕ) → length (image-after (compile sheet work (length buffer)) buffer) ≡ length buffer
+unfolding image-after
+image-kept sheet work buffer = go (compile sheet work (length buffer)) refl
+  where
+    go : (c : Compiled) → compile sheet work (length buffer) ≡ c → length (image-after c buffer) ≡ length buffer
+    go (refused question place) e = refl
+    go (too-long needed) e = refl
+    go (compiled image) e =
+        let fits = compiled-fits sheet work (length buffer) image e in
+        omega (arith, length-append image (drop (length image) buffer), length-drop (length image) buffer)
+
+work-kept : (work : List ℕ) → length (work-after work) ≡ length work
+unfolding work-after
+work-kept work = go (ltb (length work) work-bytes) refl
+  where
+    go : (b : Bool) → ltb (length work) work-bytes ≡ b → length (cond b work (replicate work-bytes 0 ++ drop work-bytes work)) ≡ length work
+    go true e = refl
+    go false e =
+        let l = ltb-false (length work) work-bytes e in
+        omega (arith, length-append (replicate work-bytes 0) (drop work-bytes work), length-replicate {A = ℕ} work-bytes 0, length-drop work-bytes work)
+
+stack-kept : (a : Answer) (stack : List ℕ) → length (stack-after a stack) ≡ length stack
+unfolding stack-after
+stack-kept a stack = go (eqb (a .number) 12 || eqb (a .number) 13)
+  where
+    go : (b : Bool) → length (cond b stack (replicate (length stack) 0)) ≡ length stack
+    go true = refl
+    go false = length-replicate {A = ℕ} (length stack) 0
+
+pub demand-1 : Demand1
+demand-1 = record { compiling = λ sheet bytes work room. compile-answers sheet work room bytes; running = run-ends; image-kept = image-kept; work-kept = work-kept; stack-kept = stack-kept }
 
 -- ---- demand 2
 
