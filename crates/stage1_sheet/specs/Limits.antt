@@ -1,4 +1,4 @@
--- The limits that document 01 sets, each named once. A limit counts what is still allowed.
+-- The limits that document 01 sets on a sheet, each named once. A limit is the largest number that is allowed.
 use Prim.Native.Nat.{ℕ}
 
 -- "The sheet": token count 1 to 24, rule count 1 to 32.

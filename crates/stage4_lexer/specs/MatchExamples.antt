@@ -9,6 +9,7 @@ use Rattle.stage0_laws.specs.Bits.{bit}
 use Rattle.stage0_laws.specs.Lists.{All}
 use Rattle.stage1_sheet.specs.Regex.{empty, class, concat, union, star, class-count}
 use Rattle.stage1_sheet.specs.Sheet.{Rule}
+use Rattle.stage1_sheet.specs.SheetD.{sheet-D}
 use Rattle.stage4_lexer.specs.Positions.{nullable, first, last, follow, part-positions, positions-from, positions, first-from}
 use Rattle.stage4_lexer.specs.Positions.{first-positions, empty-match}
 use Rattle.stage4_lexer.specs.Match.{Match, no-match, matched, longer}
@@ -17,11 +18,7 @@ use Rattle.stage4_lexer.specs.LongestMatchLaws.{Right, match-right}
 
 -- "one or more digits give N, `/` gives S, a blank skips"
 abbrev pub rules-of-d : List Rule
-rules-of-d =
-    record { action = 1; regex = concat (class 48 57) (star (class 48 57)) }
-    ∷ record { action = 2; regex = class 47 47 }
-    ∷ record { action = 0; regex = class 32 32 }
-    ∷ []
+rules-of-d = sheet-D .rules
 
 -- "`a`, `ab`, `b` giving A, B, C"
 abbrev pub rules-a-ab-b : List Rule

@@ -21,5 +21,6 @@ pub mod ImageRoundTrip
 pub mod RowRanges
 pub mod ImageLaws
 pub mod ImageLength
+pub mod BufferLaws
 pub mod CompileLaws
 pub mod CompileQuestions

@@ -9,5 +9,6 @@ pub mod AcceptanceLaws
 pub mod TakingLaws
 pub mod RunAnswers
 pub mod FaithfulImage
+pub mod StackLaws
 pub mod RunNumbers
 pub mod Examples

@@ -21,7 +21,7 @@ use Rattle.stage4_lexer.specs.Walk.{longest-match}
 use Rattle.stage4_lexer.specs.LongestMatchLaws.{Right}
 use Rattle.stage5_image.specs.Image.{Image}
 use Rattle.stage6_machine.specs.Answer.{Answer, answer}
-use Rattle.stage6_machine.specs.Run.{take-rule, all-nullable, at-text-end, run-from, run-image}
+use Rattle.stage6_machine.specs.Run.{take-rule, all-nullable, at-text-end, run-from, run-image, long-enough}
 use Rattle.stage6_machine.specs.OwnAnswer.{Allowed, ActionOf, AnswersFrom, accepts, ends-early, no-rule, skips, takes, refuses, OwnAnswer}
 
 -- What taking a token's rule answers: refused, and no denoted sequence goes on with the token; or taken, some does, and the
@@ -40,7 +40,7 @@ pub record Faithful (s : Sheet) (image : Image) (Stands : List ℕ → List ℕ 
   pub ending : (pending tokens : List ℕ) → Stands pending tokens → (all-nullable (image .rows) pending ≡ true) ↔ Denotes (s .expression) tokens
 
 module _ (s : Sheet) (text : List ℕ) (image : Image) (entries : ℕ) (Stands : List ℕ → List ℕ → Type 0)
-    (faithful : Faithful s image Stands) (room : 1 + 30 * length text ≤ entries) where
+    (faithful : Faithful s image Stands) (room : long-enough text ≤ entries) where
   -- At place p, with the rest of the text and the pending ones for the tokens so far, of which there are `count`.
   record Here (rest : List ℕ) (p : ℕ) (pending tokens : List ℕ) (count : ℕ) : Type 0 where
     rest-is : rest ≡ drop p text

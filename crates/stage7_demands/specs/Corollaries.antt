@@ -3,7 +3,7 @@
 use mathlib.Core.Path.{_≡_}
 use mathlib.Core.List.{List}
 use mathlib.Core.Logic.{_↔_}
-use Prim.Native.Nat.{ℕ, _+_, _*_, _≤_}
+use Prim.Native.Nat.{ℕ, _≤_}
 use lib.ListN.{length}
 use Rattle.stage1_sheet.specs.Sheet.{Sheet}
 use Rattle.stage1_sheet.specs.WellFormed.{Spells}
@@ -11,7 +11,7 @@ use Rattle.stage1_sheet.specs.FieldLaws.{Bytes}
 use Rattle.stage2_types.specs.Denotation.{Denotes}
 use Rattle.stage5_image.specs.Compile.{compiled, compile}
 use Rattle.stage6_machine.specs.Answer.{answer}
-use Rattle.stage6_machine.specs.Run.{most-text-bytes, run}
+use Rattle.stage6_machine.specs.Run.{most-text-bytes, run, long-enough}
 use Rattle.stage6_machine.specs.Lexes.{Lexes}
 use Rattle.stage6_machine.specs.AcceptanceLaws.{accepted-iff, own-answer-not-17}
 use Rattle.stage7_demands.specs.Demands.{Demand3}
@@ -20,7 +20,7 @@ use Rattle.stage7_demands.specs.Proofs.{demand-3}
 -- A sheet that compiling accepted, its image, a text within the limit, and a long enough stack.
 module _ (sheet : List ℕ) (bytes : Bytes sheet) (work room : ℕ) (image : List ℕ) (accepted : compile sheet work room ≡ compiled image)
     (s : Sheet) (spells : Spells sheet s) (text : List ℕ) (entries : ℕ)
-    (short : length text ≤ most-text-bytes) (long : 1 + 30 * length text ≤ entries) where
+    (short : length text ≤ most-text-bytes) (long : long-enough text ≤ entries) where
   -- A text is accepted exactly when longest match over all rules reads it to its end and the expression denotes the tokens found.
   pub text-accepted-iff : ((run image text entries) .number ≡ 0)
       ↔ ((tokens : List ℕ) × Lexes s text 0 tokens × Denotes (s .expression) tokens × (run image text entries ≡ answer 0 (length text) (length tokens)))

@@ -3,7 +3,7 @@
 use mathlib.Core.Path.{_≡_}
 use mathlib.Core.List.{List}
 use mathlib.Core.Logic.{_↔_}
-use Prim.Native.Nat.{ℕ, _+_, _*_, _≤_}
+use Prim.Native.Nat.{ℕ, _≤_}
 use lib.ListN.{length}
 use Rattle.stage1_sheet.specs.Sheet.{Sheet}
 use Rattle.stage1_sheet.specs.WellFormed.{Spells}
@@ -16,7 +16,7 @@ use Rattle.stage5_image.specs.Compile.{work-bytes, compiled, compile, image-aft
 use Rattle.stage5_image.specs.CompileLaws.{Acceptable}
 use Rattle.stage5_image.specs.CompileQuestions.{Compiles}
 use Rattle.stage6_machine.specs.Answer.{Answer}
-use Rattle.stage6_machine.specs.Run.{most-text-bytes, run, stack-after}
+use Rattle.stage6_machine.specs.Run.{most-text-bytes, run, long-enough, stack-after}
 use Rattle.stage6_machine.specs.OwnAnswer.{OwnAnswer}
 use Rattle.stage6_machine.specs.RunNumbers.{RunEnds}
 
@@ -51,6 +51,6 @@ pub record Demand2 : Type 0 where
 pub record Demand3 : Type 0 where
   pub own-answer : (sheet : List ℕ) → Bytes sheet → (work room : ℕ) (image : List ℕ) → compile sheet work room ≡ compiled image
       → (s : Sheet) → Spells sheet s
-      → (text : List ℕ) (entries : ℕ) → length text ≤ most-text-bytes → 1 + 30 * length text ≤ entries
+      → (text : List ℕ) (entries : ℕ) → length text ≤ most-text-bytes → long-enough text ≤ entries
       → OwnAnswer s text (run image text entries)
   pub exactly : (s : Sheet) (text : List ℕ) (a b : Answer) → OwnAnswer s text a → OwnAnswer s text b → a ≡ b

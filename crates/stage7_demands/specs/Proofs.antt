@@ -4,7 +4,7 @@ use mathlib.Core.Bool.{Bool, true, false, cond, _||_}
 use mathlib.Core.List.{List, _++_}
 use mathlib.Core.Logic.{_↔_}
 use mathlib.Core.Option.{none}
-use Prim.Native.Nat.{ℕ, _+_, _*_, _≤_}
+use Prim.Native.Nat.{ℕ, _≤_}
 use native.Mathlib.Omega.{arith}
 use lib.ListN.{length, drop, replicate, length-append, length-drop, length-replicate}
 use lib.Dec.{eqb, ltb}
@@ -24,7 +24,7 @@ use Rattle.stage5_image.specs.Compile.{work-bytes, Compiled, refused, too-long,
 use Rattle.stage5_image.specs.CompileLaws.{Acceptable, acceptable-compiles, compiled-acceptable, compiled-fits}
 use Rattle.stage5_image.specs.CompileQuestions.{compile-answers}
 use Rattle.stage6_machine.specs.Answer.{Answer}
-use Rattle.stage6_machine.specs.Run.{most-text-bytes, run, run-reading, stack-after}
+use Rattle.stage6_machine.specs.Run.{most-text-bytes, run, run-reading, long-enough, stack-after}
 use Rattle.stage6_machine.specs.OwnAnswer.{OwnAnswer}
 use Rattle.stage6_machine.specs.OwnAnswerLaws.{own-answer-one}
 use Rattle.stage6_machine.specs.RunNumbers.{run-ends}
@@ -107,7 +107,7 @@ demand-2 = record { accepted-exactly = accepted-exactly; normal-form = accepted-
 
 own-answer : (sheet : List ℕ) → Bytes sheet → (work room : ℕ) (image : List ℕ) → compile sheet work room ≡ compiled image
     → (s : Sheet) → Spells sheet s
-    → (text : List ℕ) (entries : ℕ) → length text ≤ most-text-bytes → 1 + 30 * length text ≤ entries
+    → (text : List ℕ) (entries : ℕ) → length text ≤ most-text-bytes → long-enough text ≤ entries
     → OwnAnswer s text (run image text entries)
 unfolding run run-reading
 own-answer sheet bytes work room image e s spells text entries short room-enough =
