@@ -72,7 +72,7 @@ WithinUnion δ γ = (n : ℕ) (w : List ℕ) → language-at δ n w → (i : ℕ
 
 abbrev pub Continuous : Expression → Type 1
 Continuous g =
-    (δ : Environment) (γ : ℕ → Environment) → Rising γ → WithinUnion δ γ → (w : List ℕ) → denotation g δ w → (i : ℕ) × denotation g (γ i) w
+  (δ : Environment) (γ : ℕ → Environment) → Rising γ → WithinUnion δ γ → (w : List ℕ) → denotation g δ w → (i : ℕ) × denotation g (γ i) w
 
 -- A fixed point, by its iterates, each of which is a rising chain itself.
 module _ (g : Expression) (c : Continuous g) (δ : Environment) (γ : ℕ → Environment) (r : Rising γ) (k : WithinUnion δ γ) where
@@ -103,13 +103,8 @@ denotation-continuous (sequence g k) δ γ r c w h =
     let x = denotation-continuous g δ γ r c (h .0) (h .3) in
     let y = denotation-continuous k δ γ r c (h .1) (h .4) in (
       x .0 + y .0,
-      (
-        h .0,
-        h .1,
-        h .2,
-        denotation-monotone g (r (x .0) (x .0 + y .0) (omega arith)) (h .0) (x .1),
-        denotation-monotone k (r (y .0) (x .0 + y .0) (omega arith)) (h .1) (y .1),
-      ),
+      (h .0, h .1, h .2, denotation-monotone g (r (x .0) (x .0 + y .0) (omega arith)) (h .0) (x .1),
+          denotation-monotone k (r (y .0) (x .0 + y .0) (omega arith)) (h .1) (y .1)),
     )
 denotation-continuous (alternative g k) δ γ r c w (inl h) = let x = denotation-continuous g δ γ r c w h in (x .0, inl (x .1))
 denotation-continuous (alternative g k) δ γ r c w (inr h) = let x = denotation-continuous k δ γ r c w h in (x .0, inr (x .1))
@@ -135,7 +130,7 @@ module _ (g : Expression) (γ : Environment) where
   roll : (w : List ℕ) → body (denotation (fixed-point g) γ) w → denotation (fixed-point g) γ w
   roll w h =
       let x = denotation-continuous g (least-fixed-point body ∷ γ) (λ i. iterate body i ∷ γ)
-      (λ i j l. pointwise-cons (iterate-rises body body-monotone i j l) (included-self γ)) within-union w h in
+          (λ i j l. pointwise-cons (iterate-rises body body-monotone i j l) (included-self γ)) within-union w h in
       (suc (x .0), x .1)
     where
       within-union : WithinUnion (least-fixed-point body ∷ γ) (λ i. iterate body i ∷ γ)
