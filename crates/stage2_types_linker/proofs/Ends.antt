@@ -20,8 +20,8 @@ use Rattle.stage2_types_columns.specs.declared.NodeLinks.{NodeLinks}
 use Rattle.stage2_types_linker.specs.declared.Due.{Due}
 use Rattle.stage2_types_linker.specs.declared.Walk.{Walk}
 use Rattle.stage2_types_linker.specs.Walking.{first-walk, walk-step, CanStep}
-use Rattle.stage2_types_linker.specs.Linked.{SheetExpression, LinksOf}
-use Rattle.stage2_types_linker.specs.HeldOnce.{held-once}
+use Rattle.stage2_types_columns.specs.Linked.{SheetExpression, LinksOf}
+use Rattle.stage2_types_columns.specs.HeldOnce.{held-once}
 use Rattle.stage2_types_linker.proofs.Parts.{pending, items-due}
 use Rattle.stage2_types_linker.proofs.Completed.{completed}
 use Rattle.stage2_types_linker.proofs.Walked.{Walked}

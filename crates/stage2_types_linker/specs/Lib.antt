@@ -1,4 +1,2 @@
--- One turn of the pass over an expression's nodes, and what its result holds.
+-- One turn of the pass over an expression's nodes, as the code makes it.
 pub mod Walking
-pub mod Linked
-pub mod HeldOnce

@@ -1,4 +1,4 @@
--- What the pass over an expression's nodes promises.
+-- When columns of links are those of a sheet's expression. How they are made is not said here.
 use mathlib.Core.Path.{_≡_}
 use mathlib.Core.List.{List}
 use Prim.Native.Nat.{ℕ, _≤_}
