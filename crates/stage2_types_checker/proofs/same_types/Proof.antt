@@ -1,3 +1,4 @@
+use borrow.Author.Tests.{not-true, not-false}
 use mathlib.Core.Bool.{true, false}
 use mathlib.Core.Path.{_≡_, _∙_}
 use Prim.Native.Nat.{_-_, _≤_}
@@ -36,7 +37,13 @@ same-type-requires c κs = tt
 
 -- src/lib.rt:219:13
 returns : tie.Need-returns Inv-loop μ-loop
-returns c = same-not (type-in (c .before .before .before .before .before .before .before .before .before .before .before .before .args .t2)) (type-in (c .before .before .before .before .before .before .before .before .before .before .before .before .args .t3)) (c .before .before .before .before .before .before .before .before .before .before .before .before .args .count) (c .before .before .before .before .before .before .before .before .before .before .before .loop .i) (omega arith) (same-read (type-in (c .before .before .before .before .before .before .before .before .before .before .before .before .args .t2)) (type-in (c .before .before .before .before .before .before .before .before .before .before .before .before .args .t3)) (c .before .before .before .before .before .before .before .before .before .before .before .loop .i) false (c .before .before .before .before .before .before .type-at .ensures) (c .before .before .type-at2 .ensures) (c .before .same-type .ensures) (c .if1 .taken)) ∙ c .before .before .before .before .before .before .before .before .before .before .before .loop .inv .1
+returns c =
+    let z = c .before .before .before .before .before .before .before .before .before .before .before .before in
+    let l = c .before .before .before .before .before .before .before .before .before .before .before .loop in
+    let f = type-in (z .args .t2) in
+    let g = type-in (z .args .t3) in
+    same-not f g (z .args .count) (l .i) (omega arith)
+    (same-read f g (l .i) false (c .before .before .before .before .before .before .type-at .ensures) (c .before .before .type-at2 .ensures) (c .before .same-type .ensures) (not-true _ (c .if1 .taken))) ∙ l .inv .1
 
 -- src/lib.rt:221:9
 add-i : tie.Need-add-i Inv-loop μ-loop
@@ -49,11 +56,19 @@ loop-less c = omega arith
 -- src/lib.rt:214:5
 loop-again : tie.Need-loop-again Inv-loop μ-loop
 loop-again c =
-    (omega arith, same-on (type-in (c .before .before .before .before .before .before .before .before .before .before .before .before .args .t2)) (type-in (c .before .before .before .before .before .before .before .before .before .before .before .before .args .t3)) (c .before .before .before .before .before .before .before .before .before .before .before .before .args .count) (c .before .before .before .before .before .before .before .before .before .before .before .loop .i) (omega arith) (same-read (type-in (c .before .before .before .before .before .before .before .before .before .before .before .before .args .t2)) (type-in (c .before .before .before .before .before .before .before .before .before .before .before .before .args .t3)) (c .before .before .before .before .before .before .before .before .before .before .before .loop .i) true (c .before .before .before .before .before .before .type-at .ensures) (c .before .before .type-at2 .ensures) (c .before .same-type .ensures) (c .if1 .left)) ∙ c .before .before .before .before .before .before .before .before .before .before .before .loop .inv .1)
+    let z = c .before .before .before .before .before .before .before .before .before .before .before .before in
+    let l = c .before .before .before .before .before .before .before .before .before .before .before .loop in
+    let f = type-in (z .args .t2) in
+    let g = type-in (z .args .t3) in
+    (omega arith, same-on f g (z .args .count) (l .i) (omega arith)
+      (same-read f g (l .i) true (c .before .before .before .before .before .before .type-at .ensures) (c .before .before .type-at2 .ensures) (c .before .same-type .ensures) (not-false _ (c .if1 .left))) ∙ l .inv .1)
 
 -- src/lib.rt:209:1
 returns-2 : tie.Need-returns-2 Inv-loop μ-loop
-returns-2 c = same-end (type-in (c .before .before .args .t2)) (type-in (c .before .before .args .t3)) (c .before .before .args .count) (c .before .loop .i) (omega arith) ∙ c .before .loop .inv .1
+returns-2 c =
+    let z = c .before .before in
+    let l = c .before .loop in
+    same-end (type-in (z .args .t2)) (type-in (z .args .t3)) (z .args .count) (l .i) (omega arith) ∙ l .inv .1
 
 pub same-types-spec : {M : Type 1} → statement M
 same-types-spec =
