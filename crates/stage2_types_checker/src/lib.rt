@@ -205,7 +205,7 @@ pub fn next_types(links: NodeLinks, types: TypeColumns) -> TypeColumns
     out
 }
 
-pub fn same_types(count: usize, a: TypeColumns, b: TypeColumns) -> bool
+fn same_types(count: usize, a: TypeColumns, b: TypeColumns) -> bool
     requires { ⌜ count ≤ 64 ⌝ }
     ensures { λ r. ⌜ r ≡ same-types (held-types count a) (held-types count b) ⌝ }
 {
@@ -288,16 +288,16 @@ pub fn first_fault(links: NodeLinks, types: TypeColumns) -> Fault
     ensures { λ r. ⌜ fault-of r ≡ first-fault (held-types (links .count) types) (held-nodes links) 0 ⌝ }
 {
     let count = links.count;
-    let mut i = 0;
-    while i < count {
-        let tag = links.tag[i];
-        let link = links.link[i];
-        let guarded = has(links.guarded, i);
-        let number = node_fault(types.null, &types.first, &types.flast, tag, link, guarded, i);
+    let mut node = 0;
+    while node < count {
+        let tag = links.tag[node];
+        let link = links.link[node];
+        let guarded = has(links.guarded, node);
+        let number = node_fault(types.null, &types.first, &types.flast, tag, link, guarded, node);
         if number != 0 {
-            return Fault::At(number, i as u8);
+            return Fault::At(number, node as u8);
         }
-        i += 1;
+        node += 1;
     }
     Fault::Nothing
 }

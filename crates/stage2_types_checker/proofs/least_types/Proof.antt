@@ -1,3 +1,5 @@
+-- `stage2_types_checker::least_types` meets its contract. The loop's invariant: the rounds that are left
+-- lead from the present types to the least ones.
 use mathlib.Core.Path.{_≡_, _∙_}
 use native.Mathlib.Omega.{arith}
 use Rattle.stage2_types.specs.LeastTypes.{types-of}
@@ -5,10 +7,6 @@ use Rattle.stage2_types_columns.specs.Held.{held-nodes}
 use Rattle.stage2_types_checker.proofs.Rounds.{settled, rounds-first, rounds-over, rounds-stop, rounds-on}
 use Rattle.stage2_types_checker.proofs.least_types.Statement.{statement}
 use Rattle.stage2_types_checker.proofs.least_types.Tie as tie
-use Rattle.stage2_types_checker.proofs.least_types.Reads as reads
-use Rattle.stage2_types_checker.proofs.least_types.Lts as lts
-use Rattle.stage2_types_checker.proofs.next_types.Reads as next-types-reads
-use Rattle.stage2_types_checker.proofs.same_types.Reads as same-types-reads
 
 abbrev Inv-loop : tie.InvT-loop
 Inv-loop links count types₀ rounds₀ types rounds = settled links rounds types ≡ types-of (held-nodes links)
@@ -16,43 +14,36 @@ Inv-loop links count types₀ rounds₀ types rounds = settled links rounds type
 abbrev μ-loop : tie.MeasureT-loop
 μ-loop links count types₀ rounds₀ types rounds = rounds
 
--- src/lib.rt:236:22
 mul-rounds : tie.Need-mul-rounds Inv-loop μ-loop
 mul-rounds c = omega (arith, c .pre .count-fits)
 
--- src/lib.rt:237:5
 loop-holds : tie.Need-loop-holds Inv-loop μ-loop
 loop-holds c = rounds-first (c .args .links) (c .pre .count-fits)
 
--- src/lib.rt:238:13
 next-types-requires : tie.Need-next-types-requires Inv-loop μ-loop
 next-types-requires c κs = c .before .before .pre
 
--- src/lib.rt:239:13
 same-types-requires : tie.Need-same-types-requires Inv-loop μ-loop
 same-types-requires c κs = c .before .before .before .pre .count-fits
 
--- src/lib.rt:241:13
 returns : tie.Need-returns Inv-loop μ-loop
 returns c =
     let l = c .before .before .before .before .loop in
-    rounds-stop (c .before .before .before .before .before .args .links) (l .types) _ (l .rounds) _ (c .before .before .next-types .ensures) (c .before .same-types .ensures) (omega arith) (c .if1 .taken) ∙ l .inv
+    rounds-stop (c .before .before .before .before .before .args .links) (l .types) _ (l .rounds) _ (c .before .before .next-types .ensures)
+    (c .before .same-types .ensures) (omega arith) (c .if1 .taken) ∙ l .inv
 
--- src/lib.rt:244:9
 sub-rounds : tie.Need-sub-rounds Inv-loop μ-loop
 sub-rounds c = omega arith
 
--- src/lib.rt:237:5
 loop-less : tie.Need-loop-less Inv-loop μ-loop
 loop-less c = omega arith
 
--- src/lib.rt:237:5
 loop-again : tie.Need-loop-again Inv-loop μ-loop
 loop-again c =
     let l = c .before .before .before .before .loop in
-    rounds-on (c .before .before .before .before .before .args .links) (l .types) _ (l .rounds) _ (c .before .before .next-types .ensures) (c .before .same-types .ensures) (omega arith) (c .if1 .left) ∙ l .inv
+    rounds-on (c .before .before .before .before .before .args .links) (l .types) _ (l .rounds) _ (c .before .before .next-types .ensures)
+    (c .before .same-types .ensures) (omega arith) (c .if1 .left) ∙ l .inv
 
--- src/lib.rt:226:1
 returns-2 : tie.Need-returns-2 Inv-loop μ-loop
 returns-2 c = rounds-over (c .before .before .args .links) (c .before .loop .types) (c .before .loop .rounds) (omega arith) ∙ c .before .loop .inv
 

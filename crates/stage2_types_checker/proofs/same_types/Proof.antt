@@ -1,17 +1,15 @@
-use borrow.Author.Tests.{not-true, not-false}
+-- `stage2_types_checker::same_types` meets its contract. The loop's invariant: what is left of both
+-- columns is the same exactly if the whole of both is.
 use mathlib.Core.Bool.{true, false}
 use mathlib.Core.Path.{_≡_, _∙_}
 use Prim.Native.Nat.{_-_, _≤_}
 use native.Mathlib.Omega.{arith}
+use borrow.Author.Tests.{not-true, not-false}
 use Rattle.stage2_types.specs.LeastTypes.{same-types}
 use Rattle.stage2_types_columns.specs.Held.{held-types}
 use Rattle.stage2_types_checker.proofs.Rounds.{type-in, same-from, same-first, same-read, same-on, same-not, same-end}
 use Rattle.stage2_types_checker.proofs.same_types.Statement.{statement}
 use Rattle.stage2_types_checker.proofs.same_types.Tie as tie
-use Rattle.stage2_types_checker.proofs.same_types.Reads as reads
-use Rattle.stage2_types_checker.proofs.same_types.Lts as lts
-use Rattle.stage2_types_checker.proofs.same_type.Reads as same-type-reads
-use Rattle.stage2_types_checker.proofs.type_at.Reads as type-at-reads
 
 abbrev Inv-loop : tie.InvT-loop
 Inv-loop count a b i₀ i = (i ≤ count) × (same-from (type-in a) (type-in b) count i ≡ same-types (held-types count a) (held-types count b))
@@ -19,23 +17,18 @@ Inv-loop count a b i₀ i = (i ≤ count) × (same-from (type-in a) (type-in b) 
 abbrev μ-loop : tie.MeasureT-loop
 μ-loop count a b i₀ i = count - i
 
--- src/lib.rt:214:5
 loop-holds : tie.Need-loop-holds Inv-loop μ-loop
 loop-holds c = (omega arith, same-first (c .args .count) (c .args .t2) (c .args .t3))
 
--- src/lib.rt:215:13
 type-at-requires : tie.Need-type-at-requires Inv-loop μ-loop
 type-at-requires c κs = omega (arith, c .before .before .before .before .before .pre)
 
--- src/lib.rt:216:13
 type-at-requires-2 : tie.Need-type-at-requires-2 Inv-loop μ-loop
 type-at-requires-2 c κs = omega (arith, c .before .before .before .before .before .before .before .before .before .pre)
 
--- src/lib.rt:217:13
 same-type-requires : tie.Need-same-type-requires Inv-loop μ-loop
 same-type-requires c κs = tt
 
--- src/lib.rt:219:13
 returns : tie.Need-returns Inv-loop μ-loop
 returns c =
     let z = c .before .before .before .before .before .before .before .before .before .before .before .before in
@@ -45,15 +38,12 @@ returns c =
     same-not f g (z .args .count) (l .i) (omega arith)
     (same-read f g (l .i) false (c .before .before .before .before .before .before .type-at .ensures) (c .before .before .type-at2 .ensures) (c .before .same-type .ensures) (not-true _ (c .if1 .taken))) ∙ l .inv .1
 
--- src/lib.rt:221:9
 add-i : tie.Need-add-i Inv-loop μ-loop
 add-i c = omega (arith, c .before .before .before .before .before .before .before .before .before .before .before .before .pre)
 
--- src/lib.rt:214:5
 loop-less : tie.Need-loop-less Inv-loop μ-loop
 loop-less c = omega arith
 
--- src/lib.rt:214:5
 loop-again : tie.Need-loop-again Inv-loop μ-loop
 loop-again c =
     let z = c .before .before .before .before .before .before .before .before .before .before .before .before in
@@ -63,7 +53,6 @@ loop-again c =
     (omega arith, same-on f g (z .args .count) (l .i) (omega arith)
       (same-read f g (l .i) true (c .before .before .before .before .before .before .type-at .ensures) (c .before .before .type-at2 .ensures) (c .before .same-type .ensures) (not-false _ (c .if1 .left))) ∙ l .inv .1)
 
--- src/lib.rt:209:1
 returns-2 : tie.Need-returns-2 Inv-loop μ-loop
 returns-2 c =
     let z = c .before .before in

@@ -1,20 +1,15 @@
-use Rattle.stage2_types.specs.Types.{sequence-type}
+-- `stage2_types_checker::sequence_type` meets its contract: FIRST and FLAST of the parts, as far as the other part is nullable.
 use borrow.Author.Needs.{needs}
+use Rattle.stage2_types.specs.Types.{sequence-type}
 use Rattle.stage2_types_checker.proofs.sequence_type.Statement.{statement}
 use Rattle.stage2_types_checker.proofs.sequence_type.Tie as tie
-use Rattle.stage2_types_checker.proofs.sequence_type.Reads as reads
-use Rattle.stage2_types_checker.proofs.sequence_type.Lts as lts
-use Rattle.stage2_types_checker.proofs.set_if.Reads as set-if-reads
 
--- src/lib.rt:70:9
 set-if-requires : tie.Need-set-if-requires
 set-if-requires c κs = search needs
 
--- src/lib.rt:71:9
 set-if-requires-2 : tie.Need-set-if-requires-2
 set-if-requires-2 c κs = search needs
 
--- src/lib.rt:67:1
 returns : tie.Need-returns
 unfolding sequence-type
 returns c = rw (c .before .before .before .before .before .before .before .set-if .ensures, c .before .before .before .before .set-if2 .ensures)
