@@ -1,13 +1,11 @@
+-- `stage2_types_linker::link_nodes` meets its contract. The loop's invariant: the pass has come to
+-- the present node, for whatever expression the columns hold.
 use mathlib.Core.Path.{sym, subst}
 use Prim.Native.Nat.{_-_, _≤_}
 use native.Mathlib.Omega.{arith}
 use Rattle.stage2_types_linker.proofs.Ends.{WalkingFor, walking-first, can-walk, walk-on, walk-ended, walking-last}
 use Rattle.stage2_types_linker.proofs.link_nodes.Statement.{statement}
 use Rattle.stage2_types_linker.proofs.link_nodes.Tie as tie
-use Rattle.stage2_types_linker.proofs.link_nodes.Reads as reads
-use Rattle.stage2_types_linker.proofs.link_nodes.Lts as lts
-use Rattle.stage2_types_linker.proofs.first_walk.Reads as first-walk-reads
-use Rattle.stage2_types_linker.proofs.walk_step.Reads as walk-step-reads
 
 abbrev Inv-loop : tie.InvT-loop
 Inv-loop nodes count w₀ i₀ w i = (i ≤ nodes .count) × (nodes .count ≤ 64) × WalkingFor nodes i w
@@ -15,23 +13,20 @@ Inv-loop nodes count w₀ i₀ w i = (i ≤ nodes .count) × (nodes .count ≤ 6
 abbrev μ-loop : tie.MeasureT-loop
 μ-loop nodes count w₀ i₀ w i = nodes .count - i
 
--- src/lib.rt:154:9
 first-walk-requires : tie.Need-first-walk-requires Inv-loop μ-loop
 first-walk-requires c κs = tt
 
--- src/lib.rt:156:5
 loop-holds : tie.Need-loop-holds Inv-loop μ-loop
-loop-holds c = (omega arith, c .before .pre .held .nodes-fit, subst (WalkingFor (c .before .args .t1) 0) (sym (c .first-walk .ensures)) (walking-first (c .before .args .t1)))
+loop-holds c =
+    let n = c .before .args .t1 in
+    (omega arith, c .before .pre .held .nodes-fit, subst (WalkingFor n 0) (sym (c .first-walk .ensures)) (walking-first n))
 
--- src/lib.rt:157:19
 element-copy-out-tag : tie.Need-element-copy-out-tag Inv-loop μ-loop
 element-copy-out-tag c = omega arith
 
--- src/lib.rt:158:22
 element-copy-out-number : tie.Need-element-copy-out-number Inv-loop μ-loop
 element-copy-out-number c = omega arith
 
--- src/lib.rt:159:9
 walk-step-requires : tie.Need-walk-step-requires Inv-loop μ-loop
 walk-step-requires c κs =
     let l = c .before .before .before .loop in
@@ -39,22 +34,18 @@ walk-step-requires c κs =
     let n = c .before .before .before .before .before .args .t1 in
     can-walk n (l .w) (l .i) (l .inv .2) s (omega arith)
 
--- src/lib.rt:160:9
 add-i : tie.Need-add-i Inv-loop μ-loop
 add-i c = omega arith
 
--- src/lib.rt:156:5
 loop-less : tie.Need-loop-less Inv-loop μ-loop
 loop-less c = omega arith
 
--- src/lib.rt:156:5
 loop-again : tie.Need-loop-again Inv-loop μ-loop
 loop-again c =
     let l = c .before .before .before .before .loop in
     let n = c .before .before .before .before .before .before .args .t1 in
     (omega arith, l .inv .1, walk-on n (l .w) _ (l .i) (l .inv .2) (omega arith) (c .walk-step .ensures))
 
--- src/lib.rt:149:1
 returns : tie.Need-returns Inv-loop μ-loop
 returns c =
     let z = c .before .before .before .before .before in

@@ -1,25 +1,20 @@
+-- `stage2_types_linker::taken` meets its contract: a right part, or none.
 use borrow.Author.Tests.{lt-ltb, le-ltb}
-use Rattle.stage2_types_linker.specs.Walking.{linked, taken}
 use borrow.Author.Needs.{needs}
+use Rattle.stage2_types_linker.specs.Walking.{linked, taken}
 use Rattle.stage2_types_linker.proofs.taken.Statement.{statement}
 use Rattle.stage2_types_linker.proofs.taken.Tie as tie
-use Rattle.stage2_types_linker.proofs.taken.Reads as reads
-use Rattle.stage2_types_linker.proofs.taken.Lts as lts
 
--- src/lib.rt:51:18
 sub-out : tie.Need-sub-out
 sub-out c = search needs
 
--- src/lib.rt:54:9
 element-write-out : tie.Need-element-write-out
 element-write-out c = search needs
 
--- src/lib.rt:55:9
 returns : tie.Need-returns
 unfolding taken linked
 returns c = rw (lt-ltb (c .before .args .parent) 64 (c .if1 .taken))
 
--- src/lib.rt:46:1
 returns-2 : tie.Need-returns-2
 unfolding taken linked
 returns-2 c = rw (le-ltb (c .before .args .parent) 64 (c .if1 .left))
