@@ -1,5 +1,5 @@
 -- The tests on two types, and the question that a node is asked, from its tag and link: a law for each way through the code.
-use mathlib.Core.Path.{_≡_, refl, sym, ap, ap₂, _∙_}
+use mathlib.Core.Path.{_≡_, refl, sym}
 use mathlib.Core.Bool.{Bool, true, false, not, _&&_, Bool·beq, and-false}
 use Prim.Native.Nat.{ℕ, zero, suc, _+_, _≤_, _<_}
 use native.Mathlib.Numerals.{add-one}
@@ -12,7 +12,6 @@ use Rattle.stage2_types.specs.Nodes.{variable-node}
 use Rattle.stage2_types.specs.LeastTypes.{same-type}
 use Rattle.stage2_types.specs.Questions.{separable, apart, unless}
 use Rattle.stage2_types_columns.specs.Held.{node-of}
-use Rattle.stage2_types_columns.specs.Within.{NodeWithin}
 use Rattle.stage2_types_checker.specs.TypeBy.{fault-by}
 use Rattle.stage2_types_checker.specs.Found.{asked}
 use Rattle.stage2_types_checker.proofs.Equation.{other-node}

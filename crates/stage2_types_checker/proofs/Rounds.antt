@@ -1,9 +1,9 @@
 -- The loops of the type check: a round over all nodes, the comparison of two rounds, the rounds, and the first question that fails.
-use mathlib.Core.Path.{_≡_, refl, sym, ap, ap₂, subst, _∙_}
-use mathlib.Core.Bool.{Bool, true, false, not, _&&_, _||_, cond, or-false}
-use mathlib.Core.List.{List, [], _∷_, map}
+use mathlib.Core.Path.{_≡_, refl, sym, ap, ap₂, _∙_}
+use mathlib.Core.Bool.{Bool, true, false, _&&_, _||_, cond, or-false}
+use mathlib.Core.List.{List, _∷_}
 use mathlib.Core.Logic.{_⊎_, inl, inr}
-use mathlib.Core.Option.{Option, none, some}
+use mathlib.Core.Option.{Option}
 use Prim.Native.Nat.{ℕ, zero, suc, _+_, _-_, _*_, _^_, _≤_, _<_}
 use native.Mathlib.Numerals.{add-one}
 use native.Mathlib.Omega.{arith}
@@ -21,7 +21,7 @@ use Rattle.stage2_types.specs.Types.{LanguageType, bottom-type}
 use Rattle.stage2_types.specs.Nodes.{Node, epsilon-node, bottom-node, token-node, sequence-node, alternative-node, fixed-point-node, variable-node}
 use Rattle.stage2_types.specs.LeastTypes.{node-type, next-types, same-type, same-types, type-rounds, types-of}
 use Rattle.stage2_types.specs.Questions as questions
-use Rattle.stage2_types.specs.Questions.{node-fault, first-fault}
+use Rattle.stage2_types.specs.Questions.{first-fault}
 use Rattle.stage2_types_columns.specs.Tabulate.{tabulate, tabulate-length, tabulate-same, tabulate-map, tabulate-next, tabulate-end}
 use Rattle.stage2_types_columns.specs.Held.{node-of, held-node, held-nodes, held-type, held-types}
 use Rattle.stage2_types_columns.specs.Within.{NodeWithin, within-more, LinksFit}
@@ -30,7 +30,6 @@ use Rattle.stage2_types_columns.specs.declared.TypeColumns.{TypeColumns}
 use Rattle.stage2_types_checker.specs.TypeBy.{type-by, fault-by, node-type-by, node-fault-by}
 use Rattle.stage2_types_checker.specs.Found.{language-type, fault-of, asked}
 use Rattle.stage2_types_checker.specs.declared.NodeType.{NodeType}
-use Rattle.stage2_types_checker.specs.declared.Fault.{Fault}
 use Rattle.stage2_types_checker.specs.declared.Fault.the-variants.{Nothing, At}
 
 abbrev pub node-at : NodeLinks → ℕ → Node

@@ -1,7 +1,6 @@
 -- A node's equation and its question, from a function that gives each node's type. The code reads types out of columns, the
 -- definitions out of a list: on nodes that the list has, both are the same.
-use mathlib.Core.Path.{_≡_, refl, sym, ap, ap₂, _∙_}
-use mathlib.Core.Bool.{Bool}
+use mathlib.Core.Path.{_≡_, refl, ap, ap₂, _∙_}
 use mathlib.Core.Option.{Option, none}
 use Prim.Native.Nat.{ℕ, _<_}
 use native.Mathlib.Omega.{arith}

@@ -5,11 +5,11 @@ use mathlib.Core.List.{List, [], _∷_, _++_, map}
 use Prim.Native.Nat.{ℕ}
 use native.Mathlib.Omega.{arith}
 use lib.Dec.{eqb}
-use lib.ListN.{getD, length}
+use lib.ListN.{length}
 use Rattle.stage1_sheet.specs.Expression.{Expression}
 use Rattle.stage1_sheet.specs.Items.{ExpressionItem, epsilon-item, bottom-item, token-item, sequence-item, alternative-item, fixed-point-item, variable-item, expressions}
 use Rattle.stage1_sheet.specs.ExpressionItems.{expression-items-of, expression-tag, expressions-items}
-use Rattle.stage1_sheet_columns.specs.Holds.{number-after, NodesHold, NodesOf}
+use Rattle.stage1_sheet_columns.specs.Holds.{number-after, NodesOf}
 use Rattle.stage1_sheet_columns.specs.declared.NodeColumns.{NodeColumns}
 
 -- The item with this tag and number.

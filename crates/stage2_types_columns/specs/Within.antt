@@ -1,6 +1,6 @@
 -- An expression's nodes go by nodes of the same expression, and its tokens are tokens of a sheet. So columns of its links
 -- need no test before they are used.
-use mathlib.Core.Path.{_≡_, refl, sym, ap, subst, _∙_}
+use mathlib.Core.Path.{_≡_, sym, ap, subst, _∙_}
 use mathlib.Core.Bool.{false}
 use mathlib.Core.List.{List, [], _∷_, _++_, map}
 use Prim.Native.Nat.{ℕ, zero, suc, _+_, _≤_, _<_}
@@ -9,11 +9,10 @@ use lib.ListN.{getD, length, length-map}
 use Rattle.stage0_laws.specs.Lists.{All}
 use Rattle.stage1_sheet.specs.Limits.{most-tokens}
 use Rattle.stage1_sheet.specs.Expression.{Expression, epsilon, bottom, token, sequence, alternative, fixed-point, variable, size}
-use Rattle.stage1_sheet.specs.ExpressionItems.{expression-items-length}
 use Rattle.stage1_sheet.specs.WellFormed.{Closed}
 use Rattle.stage1_sheet_columns.specs.declared.NodeColumns.{NodeColumns}
 use Rattle.stage2_types.specs.Nodes.{Node, epsilon-node, bottom-node, token-node, sequence-node, alternative-node, fixed-point-node, variable-node, Binder, no-binder, guard, nodes-from, nodes}
-use Rattle.stage2_types_columns.specs.Tabulate.{tabulate, tabulate-length, tabulate-at}
+use Rattle.stage2_types_columns.specs.Tabulate.{tabulate-length, tabulate-at}
 use Rattle.stage2_types_columns.specs.Held.{held-node, held-nodes}
 use Rattle.stage2_types_columns.specs.Linked.{SheetExpression, LinksOf}
 use Rattle.stage2_types_columns.specs.declared.NodeLinks.{NodeLinks}

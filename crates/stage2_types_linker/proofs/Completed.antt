@@ -11,7 +11,7 @@ use lib.Seq.{getD-set-other}
 use Rattle.stage1_sheet.specs.Expression.{Expression, size}
 use Rattle.stage2_types_linker.specs.declared.Due.{Due}
 use Rattle.stage2_types_linker.specs.Walking.{linked}
-use Rattle.stage2_types_linker.proofs.Parts.{DueFits, DuesFit}
+use Rattle.stage2_types_linker.proofs.Parts.{DuesFit}
 
 pub linked-long : (link : List ℕ) (parent v : ℕ) → length (linked link parent v) ≡ length link
 unfolding linked

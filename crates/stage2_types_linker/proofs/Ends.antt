@@ -1,20 +1,20 @@
 -- The first turn and the end of the pass: what holds before it begins, and that its links are then the definition's.
 use mathlib.Core.Path.{_≡_, refl, sym, ap, subst, _∙_}
-use mathlib.Core.List.{List, [], _∷_, _++_, append-nil, map}
+use mathlib.Core.List.{List, [], _∷_, append-nil, map}
 use mathlib.Core.Logic.{inr}
 use Prim.Native.Nat.{ℕ, _+_, _<_}
 use native.Mathlib.Numerals.{add-one}
 use native.Mathlib.Omega.{arith}
-use lib.ListN.{getD, take, drop, length, drop-of-length-le, List·getD-map}
+use lib.ListN.{getD, take, length, drop-of-length-le, List·getD-map}
 use lib.Seq.{getD-take, ext-getD}
 use Rattle.stage1_sheet.specs.Expression.{Expression, size}
 use Rattle.stage1_sheet.specs.Items.{ExpressionItem, epsilon-item}
 use Rattle.stage1_sheet.specs.ExpressionItems.{expression-items-of, expression-tag, expression-items-length}
-use Rattle.stage1_sheet_columns.specs.Holds.{number-after, NodesHold, NodesOf}
+use Rattle.stage1_sheet_columns.specs.Holds.{number-after, NodesOf}
 use Rattle.stage1_sheet_columns.specs.declared.NodeColumns.{NodeColumns}
-use Rattle.stage2_types.specs.Nodes.{Node, bottom-node, nodes-from, nodes}
+use Rattle.stage2_types.specs.Nodes.{bottom-node, nodes-from, nodes}
 use Rattle.stage2_types.specs.NodeLaws.{nodes-length}
-use Rattle.stage2_types_columns.specs.Tabulate.{tabulate, tabulate-length, tabulate-at}
+use Rattle.stage2_types_columns.specs.Tabulate.{tabulate-length, tabulate-at}
 use Rattle.stage2_types_columns.specs.Held.{held-node, held-nodes}
 use Rattle.stage2_types_columns.specs.declared.NodeLinks.{NodeLinks}
 use Rattle.stage2_types_linker.specs.declared.Due.{Due}
@@ -22,9 +22,8 @@ use Rattle.stage2_types_linker.specs.declared.Walk.{Walk}
 use Rattle.stage2_types_linker.specs.Walking.{first-walk, walk-step, CanStep}
 use Rattle.stage2_types_columns.specs.Linked.{SheetExpression, LinksOf}
 use Rattle.stage2_types_columns.specs.HeldOnce.{held-once}
-use Rattle.stage2_types_linker.proofs.Parts.{pending, items-due}
+use Rattle.stage2_types_linker.proofs.Parts.{pending}
 use Rattle.stage2_types_linker.proofs.Completed.{completed}
-use Rattle.stage2_types_linker.proofs.Walked.{Walked}
 use Rattle.stage2_types_linker.proofs.Walking.{Columns, Walking, none-due, walking-step, walking-can}
 
 -- Columns that hold an expression have the tags and the numbers of its items.

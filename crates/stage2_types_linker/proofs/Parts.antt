@@ -1,7 +1,6 @@
 -- The expressions still to come during the pass, with their nodes and the fixed points that are open there. The code has no
 -- expressions: it has their open fixed points, and the stack.
 use mathlib.Core.Path.{_≡_, refl, ap, ap₂, _∙_}
-use mathlib.Core.Bool.{true}
 use mathlib.Core.List.{List, [], _∷_, _++_, map}
 use mathlib.Core.Logic.{_⊎_, inl, inr, ⊎-elim}
 use Prim.Native.Nat.{ℕ, zero, suc, _+_, _-_, _≤_, _<_}

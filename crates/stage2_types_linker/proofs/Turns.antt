@@ -1,16 +1,15 @@
 -- A turn of the pass on lists, for each kind of expression.
 use mathlib.Core.Path.{_≡_, refl, sym, ap, ap₂, _∙_}
 use mathlib.Core.Bool.{Bool, true, false, cond, _||_, or-false}
-use mathlib.Core.List.{List, [], _∷_, _++_, append-assoc, map}
+use mathlib.Core.List.{List, _∷_, _++_, append-assoc, map}
 use mathlib.Core.Logic.{inl, inr}
 use Prim.Native.Nat.{ℕ, suc, _+_, _-_, _^_, _≤_, _<_}
 use native.Mathlib.Numerals.{add-one}
 use native.Mathlib.Omega.{arith}
 use native.Mathlib.Nat.{pow-suc}
 use lib.Bits.{bitOr, or-lt}
-use lib.Dec.{ltb, eqb}
-use lib.Pow.{pow-lt}
-use lib.ListN.{getD, set, length, length-set}
+use lib.Dec.{ltb}
+use lib.ListN.{getD, set, length-set}
 use lib.Seq.{getD-set-same}
 use borrow.Author.Tests.{lt-ltb, le-ltb, ne-eqb, eq-eqb}
 use Rattle.stage0_laws.specs.Bits.{bit}
@@ -19,11 +18,11 @@ use Rattle.stage1_sheet.specs.Expression.{Expression, epsilon, bottom, token, s
 use Rattle.stage1_sheet.specs.Items.{ExpressionItem, epsilon-item, bottom-item, token-item, sequence-item, alternative-item, fixed-point-item, variable-item}
 use Rattle.stage1_sheet.specs.ExpressionItems.{expression-items-of}
 use Rattle.stage1_sheet.specs.WellFormed.{Closed}
-use Rattle.stage2_types.specs.Nodes.{Node, epsilon-node, bottom-node, token-node, sequence-node, alternative-node, fixed-point-node, variable-node, Binder, no-binder, variable-of, guard, nodes-from}
+use Rattle.stage2_types.specs.Nodes.{Node, epsilon-node, bottom-node, token-node, sequence-node, alternative-node, fixed-point-node, Binder, no-binder, variable-of, guard, nodes-from}
 use Rattle.stage2_types_columns.specs.Held.{node-of}
 use Rattle.stage2_types_linker.specs.declared.Due.{Due}
 use Rattle.stage2_types_linker.specs.Walking.{due, linked}
-use Rattle.stage2_types_linker.proofs.Parts.{binder, binders, binders-set, binders-guard, binders-at, items-due, nodes-due, DueFits, DuesFit, dues-on, nodes-due-set}
+use Rattle.stage2_types_linker.proofs.Parts.{binders, binders-set, binders-guard, binders-at, items-due, nodes-due, DuesFit, dues-on, nodes-due-set}
 use Rattle.stage2_types_linker.proofs.Completed.{linked-long, completed}
 use Rattle.stage2_types_linker.proofs.Walked.{Walked, unlinked, relinked}
 

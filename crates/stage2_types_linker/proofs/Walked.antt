@@ -1,28 +1,22 @@
 -- What holds before each turn of the pass, on lists: the turns keep it, one law for each kind of expression.
-use mathlib.Core.Path.{_≡_, refl, sym, ap, ap₂, subst, _∙_}
-use mathlib.Core.Bool.{Bool, true, false, cond, _||_}
-use mathlib.Core.List.{List, [], _∷_, _++_, append-assoc, map}
-use mathlib.Core.Logic.{_⊎_, inl, inr, ⊎-elim}
-use Prim.Native.Nat.{ℕ, zero, suc, _+_, _-_, _^_, _≤_, _<_}
+use mathlib.Core.Path.{_≡_, refl, sym, ap, subst, _∙_}
+use mathlib.Core.Bool.{Bool}
+use mathlib.Core.List.{List, [], _∷_}
+use mathlib.Core.Logic.{_⊎_, inl, inr}
+use Prim.Native.Nat.{ℕ, zero, suc, _+_, _^_, _<_}
 use native.Mathlib.Omega.{arith}
 use native.Mathlib.Nat.{pow-suc}
-use lib.Bits.{bitOr, or-lt}
-use lib.Dec.{ltb, eqb}
-use lib.Pow.{pow-lt}
 use lib.ListN.{getD, set, drop, length, length-set}
 use lib.Seq.{getD-set-same, getD-set-other}
-use borrow.Author.Tests.{lt-ltb, le-ltb, ne-eqb, eq-eqb}
 use Rattle.stage0_laws.specs.Bits.{bit}
-use Rattle.stage0_laws.specs.BitLaws.{bit-or, bit-one, bit-high}
 use Rattle.stage0_laws.specs.Order.{compare-cases}
-use Rattle.stage1_sheet.specs.Expression.{Expression, epsilon, bottom, token, sequence, alternative, fixed-point, variable, size}
+use Rattle.stage1_sheet.specs.Expression.{Expression, size}
 use Rattle.stage1_sheet.specs.Items.{ExpressionItem}
-use Rattle.stage1_sheet.specs.ExpressionItems.{expression-items-of}
-use Rattle.stage2_types.specs.Nodes.{Node, epsilon-node, bottom-node, token-node, sequence-node, alternative-node, fixed-point-node, variable-node, no-binder, guard, nodes-from}
+use Rattle.stage2_types.specs.Nodes.{Node, bottom-node}
 use Rattle.stage2_types_columns.specs.Held.{node-of, held-node}
 use Rattle.stage2_types_linker.specs.declared.Due.{Due}
-use Rattle.stage2_types_linker.specs.Walking.{due, linked}
-use Rattle.stage2_types_linker.proofs.Parts.{binder, binders, binders-set, binders-guard, binders-at, items-due, nodes-due, DueFits, DuesFit, dues-on, nodes-due-set}
+use Rattle.stage2_types_linker.specs.Walking.{linked}
+use Rattle.stage2_types_linker.proofs.Parts.{items-due, nodes-due, DuesFit, dues-on}
 use Rattle.stage2_types_linker.proofs.Completed.{linked-long, completed, completed-agrees, completed-here}
 
 -- ---- lists from a place on

@@ -1,18 +1,18 @@
 -- What holds before each turn of the code's pass, from its arrays: the turn stays within them, and keeps it.
-use mathlib.Core.Path.{_≡_, refl, sym, ap, ap₂, subst, _∙_}
+use mathlib.Core.Path.{_≡_, refl, sym, ap, subst, _∙_}
 use mathlib.Core.List.{List, [], _∷_, _++_}
-use Prim.Native.Nat.{ℕ, zero, suc, _+_, _-_, _≤_, _<_}
+use Prim.Native.Nat.{ℕ, zero, suc, _-_, _≤_, _<_}
 use native.Mathlib.Omega.{arith}
 use lib.ListN.{getD, set, drop, length, length-set, length-append, length-drop}
-use Rattle.stage1_sheet.specs.Expression.{Expression, epsilon, bottom, token, sequence, alternative, fixed-point, variable, size}
+use Rattle.stage1_sheet.specs.Expression.{Expression, epsilon, bottom, token, sequence, alternative, fixed-point, variable}
 use Rattle.stage1_sheet.specs.Items.{ExpressionItem, epsilon-item, bottom-item, token-item, sequence-item, alternative-item, fixed-point-item, variable-item}
-use Rattle.stage1_sheet.specs.ExpressionItems.{expression-items-of, expression-tag, expression-items-length}
+use Rattle.stage1_sheet.specs.ExpressionItems.{expression-items-of, expression-tag}
 use Rattle.stage1_sheet_columns.specs.Holds.{number-after}
 use Rattle.stage2_types.specs.Nodes.{Node}
 use Rattle.stage2_types_linker.specs.declared.Due.{Due}
 use Rattle.stage2_types_linker.specs.declared.Walk.{Walk}
 use Rattle.stage2_types_linker.specs.Walking.{due, due-at, next-due, linked, taken, with-due, with-link, with-owner, with-variable, with-parts, step-at, walk-step, CanStep}
-use Rattle.stage2_types_linker.proofs.Parts.{pending, pending-push, items-due, DueFits, DuesFit}
+use Rattle.stage2_types_linker.proofs.Parts.{pending, pending-push, items-due, DuesFit}
 use Rattle.stage2_types_linker.proofs.Walked.{Walked, drop-head}
 use Rattle.stage2_types_linker.proofs.Turns.{walked-epsilon, walked-bottom, walked-token, walked-sequence, walked-alternative, walked-fixed-point, walked-variable}
 

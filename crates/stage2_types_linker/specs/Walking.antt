@@ -1,8 +1,8 @@
 -- The pass over an expression's nodes, one node a turn, as the code makes it. That its links are those of the definition is
 -- proved from this, and not said here.
-use mathlib.Core.Bool.{Bool, cond}
+use mathlib.Core.Bool.{cond}
 use mathlib.Core.List.{List}
-use Prim.Native.Nat.{ℕ, zero, suc, _+_, _-_, _^_, _<_}
+use Prim.Native.Nat.{ℕ, suc, _-_, _^_, _<_}
 use mathlib.Core.Path.{_≡_}
 use lib.Dec.{eqb, ltb}
 use lib.Bits.{bitOr}

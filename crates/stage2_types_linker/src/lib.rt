@@ -4,7 +4,8 @@ use stage1_sheet_columns::NodeColumns;
 use stage2_types_columns::NodeLinks;
 ghost use mathlib.Core.Path.{_≡_};
 ghost use Prim.Native.Nat.{_+_, _-_, _≤_, _<_};
-ghost use Rattle.stage2_types_linker.specs.Walking.{due, first-walk, next-due, taken, with-due, with-link, with-owner, with-variable, with-parts, walk-step, CanStep};
+ghost use Rattle.stage2_types_linker.specs.Walking.{due, first-walk, next-due, taken, walk-step, CanStep};
+ghost use Rattle.stage2_types_linker.specs.Walking.{with-due, with-link, with-owner, with-variable, with-parts};
 ghost use Rattle.stage2_types_columns.specs.Linked.{SheetExpression, LinksOf};
 
 // An expression that is still to come: how many fixed points are open there, how many of these are guarded, counted from the
