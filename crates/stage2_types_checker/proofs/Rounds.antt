@@ -117,11 +117,18 @@ fill-one f i c t one l h is e = rw (add-one i, e) (record {
   where
     go : (q : ℕ) → q < suc i → (q < i) ⊎ ((q ≡ i) ⊎ (i < q)) → type-in (stored c i t (cond (t .null) (2 ^ i) 0)) q ≡ f q
     go q k (inl m) =
-        rw (one-other (t .null) (c .null) i q m, getD-set-other (c .first) i q (t .first) 0 (λ e. omega arith),
-          getD-set-other (c .flast) i q (t .flast) 0 (λ e. omega arith)) (h .filled q m)
+        rw (
+          one-other (t .null) (c .null) i q m,
+          getD-set-other (c .first) i q (t .first) 0 (λ e. omega arith),
+          getD-set-other (c .flast) i q (t .flast) 0 (λ e. omega arith),
+        ) (h .filled q m)
     go q k (inr (inl m)) =
-        rw (m, one-here (t .null) (c .null) i (h .null-low), getD-set-same (c .first) i (t .first) 0 (omega (arith, h .first-long)),
-          getD-set-same (c .flast) i (t .flast) 0 (omega (arith, h .flast-long))) is
+        rw (
+          m,
+          one-here (t .null) (c .null) i (h .null-low),
+          getD-set-same (c .first) i (t .first) 0 (omega (arith, h .first-long)),
+          getD-set-same (c .flast) i (t .flast) 0 (omega (arith, h .flast-long)),
+        ) is
     go q k (inr (inr m)) = absurd (omega arith)
 
 -- ---- a round
@@ -138,7 +145,7 @@ module _ (links : NodeLinks) (types : TypeColumns) where
       let n = links .count in
       tabulate-same (type-in c) (λ k. node-type (tabulate (type-in types) 0 n) (node-at links k)) 0 n
       (λ k l. let m : k < n = omega arith in
-        h .filled k m ∙ sym (node-type-by (type-in types) n (node-at links k) (fit .all-within k m)))
+      h .filled k m ∙ sym (node-type-by (type-in types) n (node-at links k) (fit .all-within k m)))
       ∙ sym (tabulate-map (node-type (tabulate (type-in types) 0 n)) (node-at links) 0 n)
 
 -- ---- two rounds compared
@@ -207,7 +214,7 @@ module _ (links : NodeLinks) where
   rounds-first fits = ap₂ (settle same-types (next-types (held-nodes links)))
       (ap (λ (n : ℕ). 49 * n) (sym (tabulate-length (node-at links) 0 (links .count))))
       (bottoms (links .count) 0 (held-type 0 (replicate 64 0) (replicate 64 0))
-        (λ k l. rw (bit-zero k, getD-replicate {A = ℕ} 64 k 0 0 (omega arith)))
+      (λ k l. rw (bit-zero k, getD-replicate {A = ℕ} 64 k 0 0 (omega arith)))
       ∙ ap (λ (n : ℕ). replicate n bottom-type) (sym (tabulate-length (node-at links) 0 (links .count))))
 
   pub rounds-over : (types : TypeColumns) (k : ℕ) → k ≡ 0 → held-types (links .count) types ≡ settled links k types
@@ -239,7 +246,6 @@ unfolding held-nodes
 faults-first links types = rw sub-zero
 
 module _ (links : NodeLinks) (types : TypeColumns) (fit : LinksFit links) (i : ℕ) where
-
   module _ (number : ℕ) (more : i < links .count) (is : asked number i ≡ fault-by (type-in types) (node-at links i) i) where
     next-fault : faults-from links types i ≡ or-else (asked number i) (faults-from links types (i + 1))
     unfolding first-fault held-types

@@ -4,7 +4,6 @@ use stage1_sheet_columns::NodeColumns;
 use stage2_types_columns::NodeLinks;
 use stage2_types_columns::TypeColumns;
 use stage2_types_linker::link_nodes;
-
 ghost use mathlib.Core.Path.{_≡_};
 ghost use mathlib.Core.Bool.{Bool, cond};
 ghost use Prim.Native.Nat.{ℕ, _+_, _-_, _*_, _^_, _≤_, _<_};
@@ -140,17 +139,22 @@ fn type_at<'a>(null: u64, first: &'a [u32; 64], flast: &'a [u32; 64], i: usize) 
 }
 
 // Figure 2's equation at node i, which has this tag and link.
-fn node_type<'a>(null: u64, first: &'a [u32; 64], flast: &'a [u32; 64], tag: u8, link: u8, i: usize) -> NodeType
+fn node_type<'a>(
+    null: u64,
+    first: &'a [u32; 64],
+    flast: &'a [u32; 64],
+    tag: u8,
+    link: u8,
+    i: usize,
+) -> NodeType
     requires { ⌜ ((guarded : Bool) → NodeWithin 64 (node-of tag link guarded i)) ⌝ }
-    ensures {
-        λ r. ⌜
-            (
-                (guarded : Bool)
-                → language-type r
-                ≡ type-by (held-type null (now (first .entry)) (now (flast .entry))) (node-of tag link guarded i)
-            )
-        ⌝
-    }
+    ensures { λ r. ⌜
+        (
+        (guarded : Bool)
+        → language-type r
+        ≡ type-by (held-type null (now (first .entry)) (now (flast .entry))) (node-of tag link guarded i)
+        )
+        ⌝ }
 {
     if tag == 0 {
         return without_flast(true, 0);
@@ -181,9 +185,7 @@ fn node_type<'a>(null: u64, first: &'a [u32; 64], flast: &'a [u32; 64], tag: u8,
 // All equations at once.
 pub fn next_types(links: NodeLinks, types: TypeColumns) -> TypeColumns
     requires { ⌜ LinksFit links ⌝ }
-    ensures {
-        λ r. ⌜ held-types (links .count) r ≡ next-types (held-nodes links) (held-types (links .count) types) ⌝
-    }
+    ensures { λ r. ⌜ held-types (links .count) r ≡ next-types (held-nodes links) (held-types (links .count) types) ⌝ }
 {
     let count = links.count;
     let mut out = TypeColumns {
@@ -247,14 +249,20 @@ pub fn least_types(links: NodeLinks) -> TypeColumns
 }
 
 // The question that node i is asked, if it fails, else 0.
-fn node_fault<'a>(null: u64, first: &'a [u32; 64], flast: &'a [u32; 64], tag: u8, link: u8, guarded: bool, i: usize) -> u8
+fn node_fault<'a>(
+    null: u64,
+    first: &'a [u32; 64],
+    flast: &'a [u32; 64],
+    tag: u8,
+    link: u8,
+    guarded: bool,
+    i: usize,
+) -> u8
     requires { ⌜ NodeWithin 64 (node-of tag link guarded i) ⌝ }
-    ensures {
-        λ r. ⌜
-            asked r i
-            ≡ fault-by (held-type null (now (first .entry)) (now (flast .entry))) (node-of tag link guarded i) i
-        ⌝
-    }
+    ensures { λ r. ⌜
+        asked r i
+        ≡ fault-by (held-type null (now (first .entry)) (now (flast .entry))) (node-of tag link guarded i) i
+        ⌝ }
 {
     let to = link as usize;
     if tag == 3 {
@@ -293,7 +301,15 @@ pub fn first_fault(links: NodeLinks, types: TypeColumns) -> Fault
         let tag = links.tag[node];
         let link = links.link[node];
         let guarded = has(links.guarded, node);
-        let number = node_fault(types.null, &types.first, &types.flast, tag, link, guarded, node);
+        let number = node_fault(
+            types.null,
+            &types.first,
+            &types.flast,
+            tag,
+            link,
+            guarded,
+            node,
+        );
         if number != 0 {
             return Fault::At(number, node as u8);
         }

@@ -79,7 +79,7 @@ module _ (tokens total : ℕ) (few : tokens ≤ most-tokens) where
     all-append (NodeWithin total) (nodes-from g (suc p) bs) _
         (from-within g (suc p) bs w (omega arith) (c .0))
         (from-within h (suc p + size g) (map guard bs) (guarded-within bs w) (omega arith)
-          (subst (λ n. Closed tokens n h) (sym (length-map bs guard)) (c .1))),
+        (subst (λ n. Closed tokens n h) (sym (length-map bs guard)) (c .1))),
   )
   from-within (alternative g h) p bs w l c = (
     (omega (arith, size-least g), omega (arith, size-least h)),

@@ -5,7 +5,9 @@ use Prim.Native.Nat.{_-_, _≤_}
 use native.Mathlib.Omega.{arith}
 use Rattle.stage2_types.specs.Questions.{first-fault}
 use Rattle.stage2_types_columns.specs.Held.{held-nodes, held-types}
-use Rattle.stage2_types_checker.proofs.Rounds.{node-fits, fault-read, faults-from, faults-first, fault-here, fault-later, fault-none}
+use Rattle.stage2_types_checker.specs.TypeBy.{fault-by}
+use Rattle.stage2_types_checker.specs.Found.{asked}
+use Rattle.stage2_types_checker.proofs.Rounds.{type-in, node-at, node-fits, fault-read, faults-from, faults-first, fault-here, fault-later, fault-none}
 use Rattle.stage2_types_checker.proofs.first_fault.Statement.{statement}
 use Rattle.stage2_types_checker.proofs.first_fault.Tie as tie
 
@@ -36,14 +38,22 @@ node-fault-requires c κs =
 cast-t20 : tie.Need-cast-t20 Inv-loop μ-loop
 cast-t20 c = omega (arith, c .before .before .before .before .before .before .before .before .before .before .pre .count-fits)
 
+-- The question that the present node is asked.
+read : (c : tie.After-node-fault Inv-loop μ-loop)
+    → let z = c .before .before .before .before .before .before .before .before .before in
+    let l = c .before .before .before .before .before .before .before .before .loop in
+    asked (c .node-fault .result) (l .node) ≡ fault-by (type-in (z .args .t2)) (node-at (z .args .t1) (l .node)) (l .node)
+read c =
+    let z = c .before .before .before .before .before .before .before .before .before in
+    let l = c .before .before .before .before .before .before .before .before .loop in
+    fault-read (z .args .t1) (z .args .t2) (l .node) (c .node-fault .result) (c .before .before .before .before .has .result)
+    (c .before .before .before .before .has .ensures) (c .node-fault .ensures)
+
 returns : tie.Need-returns Inv-loop μ-loop
 returns c =
     let z = c .before .before .before .before .before .before .before .before .before .before in
     let l = c .before .before .before .before .before .before .before .before .before .loop in
-    let read =
-        fault-read (z .args .t1) (z .args .t2) (l .node) (c .before .node-fault .result) (c .before .before .before .before .before .has .result)
-        (c .before .before .before .before .before .has .ensures) (c .before .node-fault .ensures) in
-    fault-here (z .args .t1) (z .args .t2) (z .pre) (l .node) (c .before .node-fault .result) (omega arith) read (c .if1 .taken) ∙ l .inv .1
+    fault-here (z .args .t1) (z .args .t2) (z .pre) (l .node) _ (omega arith) (read (c .before)) (c .if1 .taken) ∙ l .inv .1
 
 add-node : tie.Need-add-node Inv-loop μ-loop
 add-node c = omega (arith, c .before .before .before .before .before .before .before .before .before .before .pre .count-fits)
@@ -55,11 +65,7 @@ loop-again : tie.Need-loop-again Inv-loop μ-loop
 loop-again c =
     let z = c .before .before .before .before .before .before .before .before .before .before in
     let l = c .before .before .before .before .before .before .before .before .before .loop in
-    let read =
-        fault-read (z .args .t1) (z .args .t2) (l .node) (c .before .node-fault .result) (c .before .before .before .before .before .has .result)
-        (c .before .before .before .before .before .has .ensures) (c .before .node-fault .ensures) in
-    (omega arith, fault-later (z .args .t1) (z .args .t2) (z .pre) (l .node) (c .before .node-fault .result) (omega arith) read (c .if1 .left)
-      ∙ l .inv .1)
+    (omega arith, fault-later (z .args .t1) (z .args .t2) (z .pre) (l .node) _ (omega arith) (read (c .before)) (c .if1 .left) ∙ l .inv .1)
 
 returns-2 : tie.Need-returns-2 Inv-loop μ-loop
 returns-2 c =

@@ -54,9 +54,11 @@ loop-again : tie.Need-loop-again Inv-loop μ-loop
 unfolding held-node
 loop-again c =
     let z = c .before .before .before .before .before .before .before .before .before in
-    let l = c .before .before .before .before .before .before .before .before .loop in
-    (omega arith, fill-one (next-type (z .args .t1) (z .args .t2)) (l .i) (l .out) (c .before .node-type .result) (c .one-if .result)
-      (omega (arith, z .pre .count-fits)) (l .inv .1) (c .before .node-type .ensures (bit (z .args .t1 .guarded) (l .i))) (c .one-if .ensures))
+    let l = c .before .before .before .before .before .before .before .before .loop in (
+      omega arith,
+      fill-one (next-type (z .args .t1) (z .args .t2)) (l .i) (l .out) (c .before .node-type .result) (c .one-if .result)
+          (omega (arith, z .pre .count-fits)) (l .inv .1) (c .before .node-type .ensures (bit (z .args .t1 .guarded) (l .i))) (c .one-if .ensures),
+    )
 
 returns : tie.Need-returns Inv-loop μ-loop
 returns c =

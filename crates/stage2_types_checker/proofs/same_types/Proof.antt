@@ -49,9 +49,11 @@ loop-again c =
     let z = c .before .before .before .before .before .before .before .before .before .before .before .before in
     let l = c .before .before .before .before .before .before .before .before .before .before .before .loop in
     let f = type-in (z .args .t2) in
-    let g = type-in (z .args .t3) in
-    (omega arith, same-on f g (z .args .count) (l .i) (omega arith)
-      (same-read f g (l .i) true (c .before .before .before .before .before .before .type-at .ensures) (c .before .before .type-at2 .ensures) (c .before .same-type .ensures) (not-false _ (c .if1 .left))) ∙ l .inv .1)
+    let g = type-in (z .args .t3) in (
+      omega arith,
+      same-on f g (z .args .count) (l .i) (omega arith)
+          (same-read f g (l .i) true (c .before .before .before .before .before .before .type-at .ensures) (c .before .before .type-at2 .ensures) (c .before .same-type .ensures) (not-false _ (c .if1 .left))) ∙ l .inv .1,
+    )
 
 returns-2 : tie.Need-returns-2 Inv-loop μ-loop
 returns-2 c =
