@@ -1,20 +1,20 @@
 -- The loops of the type check: a round over all nodes, the comparison of two rounds, the rounds, and the first question that fails.
 use mathlib.Core.Path.{_≡_, refl, sym, ap, ap₂, _∙_}
-use mathlib.Core.Bool.{Bool, true, false, _&&_, _||_, cond, or-false}
+use mathlib.Core.Bool.{Bool, true, false, _&&_, cond}
 use mathlib.Core.List.{List, _∷_}
 use mathlib.Core.Logic.{_⊎_, inl, inr}
 use mathlib.Core.Option.{Option}
 use Prim.Native.Nat.{ℕ, zero, suc, _+_, _-_, _*_, _^_, _≤_, _<_}
 use native.Mathlib.Numerals.{add-one}
 use native.Mathlib.Omega.{arith}
-use native.Mathlib.Nat.{pow-suc, sub-zero}
-use lib.Bits.{bitOr, or-lt}
+use native.Mathlib.Nat.{sub-zero}
+use lib.Bits.{bitOr}
 use lib.Dec.{eqb}
 use lib.ListN.{getD, set, length, replicate, length-set, getD-replicate}
 use lib.Seq.{getD-set-same, getD-set-other}
-use borrow.Author.Tests.{ne-eqb, eq-eqb}
+use borrow.Author.Tests.{ne-eqb}
 use Rattle.stage0_laws.specs.Bits.{bit}
-use Rattle.stage0_laws.specs.BitLaws.{bit-or, bit-one, bit-zero, bit-high}
+use Rattle.stage0_laws.specs.BitLaws.{bit-zero}
 use Rattle.stage0_laws.specs.Lists.{settle, or-else}
 use Rattle.stage0_laws.specs.Order.{compare-cases}
 use Rattle.stage2_types.specs.Types.{LanguageType, bottom-type}
@@ -23,6 +23,7 @@ use Rattle.stage2_types.specs.LeastTypes.{node-type, next-types, same-type, sam
 use Rattle.stage2_types.specs.Questions as questions
 use Rattle.stage2_types.specs.Questions.{first-fault}
 use Rattle.stage2_types_columns.specs.Tabulate.{tabulate, tabulate-length, tabulate-same, tabulate-map, tabulate-next, tabulate-end}
+use Rattle.stage2_types_columns.specs.Joining.{joined-here, joined-below, joined-low}
 use Rattle.stage2_types_columns.specs.Held.{node-of, held-node, held-nodes, held-type, held-types}
 use Rattle.stage2_types_columns.specs.Within.{NodeWithin, within-more, LinksFit}
 use Rattle.stage2_types_columns.specs.declared.NodeLinks.{NodeLinks}
@@ -74,20 +75,6 @@ fault-read links types i number guarded e h = rw (← e) h
 
 -- ---- one node's type is stored
 
--- A set below 2^i, with i or without it.
-one-here : (b : Bool) (s i : ℕ) → s < 2 ^ i → bit (bitOr s (cond b (2 ^ i) 0)) i ≡ b
-one-here true s i l = bit-or s (2 ^ i) i ∙ ap₂ _||_ (bit-high i s i l (omega arith)) (bit-one i i ∙ eq-eqb i i refl)
-one-here false s i l = bit-or s 0 i ∙ ap₂ _||_ (bit-high i s i l (omega arith)) (bit-zero i)
-
-one-other : (b : Bool) (s i q : ℕ) → q < i → bit (bitOr s (cond b (2 ^ i) 0)) q ≡ bit s q
-one-other true s i q l =
-    bit-or s (2 ^ i) q ∙ ap (λ (x : Bool). bit s q || x) (bit-one i q ∙ ne-eqb i q (λ e. omega arith)) ∙ or-false (bit s q)
-one-other false s i q l = bit-or s 0 q ∙ ap (λ (x : Bool). bit s q || x) (bit-zero q) ∙ or-false (bit s q)
-
-one-low : (b : Bool) (s i : ℕ) → s < 2 ^ i → bitOr s (cond b (2 ^ i) 0) < 2 ^ suc i
-one-low true s i l = or-lt (suc i) s (2 ^ i) (omega (arith, pow-suc 2 i)) (omega (arith, pow-suc 2 i, l))
-one-low false s i l = or-lt (suc i) s 0 (omega (arith, pow-suc 2 i)) (omega (arith, pow-suc 2 i, l))
-
 -- The first i nodes have the types that f gives.
 pub record Filled (f : ℕ → LanguageType) (i : ℕ) (c : TypeColumns) : Type 0 where
   pub filled : (q : ℕ) → q < i → type-in c q ≡ f q
@@ -110,7 +97,7 @@ pub fill-one : (f : ℕ → LanguageType) (i : ℕ) (c : TypeColumns) (t : NodeT
 unfolding held-type
 fill-one f i c t one l h is e = rw (add-one i, e) (record {
   filled = λ q k. go q k (compare-cases q i);
-  null-low = one-low (t .null) (c .null) i (h .null-low);
+  null-low = joined-low (t .null) (c .null) i (h .null-low);
   first-long = length-set (c .first) i (t .first) ∙ h .first-long;
   flast-long = length-set (c .flast) i (t .flast) ∙ h .flast-long;
 })
@@ -118,14 +105,14 @@ fill-one f i c t one l h is e = rw (add-one i, e) (record {
     go : (q : ℕ) → q < suc i → (q < i) ⊎ ((q ≡ i) ⊎ (i < q)) → type-in (stored c i t (cond (t .null) (2 ^ i) 0)) q ≡ f q
     go q k (inl m) =
         rw (
-          one-other (t .null) (c .null) i q m,
+          joined-below (t .null) (c .null) i q m,
           getD-set-other (c .first) i q (t .first) 0 (λ e. omega arith),
           getD-set-other (c .flast) i q (t .flast) 0 (λ e. omega arith),
         ) (h .filled q m)
     go q k (inr (inl m)) =
         rw (
           m,
-          one-here (t .null) (c .null) i (h .null-low),
+          joined-here (t .null) (c .null) i (h .null-low),
           getD-set-same (c .first) i (t .first) 0 (omega (arith, h .first-long)),
           getD-set-same (c .flast) i (t .flast) 0 (omega (arith, h .flast-long)),
         ) is

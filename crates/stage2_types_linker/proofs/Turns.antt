@@ -1,51 +1,28 @@
 -- A turn of the pass on lists, for each kind of expression.
 use mathlib.Core.Path.{_≡_, refl, sym, ap, ap₂, _∙_}
-use mathlib.Core.Bool.{Bool, true, false, cond, _||_, or-false}
+use mathlib.Core.Bool.{false}
 use mathlib.Core.List.{List, _∷_, _++_, append-assoc, map}
 use mathlib.Core.Logic.{inl, inr}
 use Prim.Native.Nat.{ℕ, suc, _+_, _-_, _^_, _≤_, _<_}
 use native.Mathlib.Numerals.{add-one}
 use native.Mathlib.Omega.{arith}
 use native.Mathlib.Nat.{pow-suc}
-use lib.Bits.{bitOr, or-lt}
 use lib.Dec.{ltb}
 use lib.ListN.{getD, set, length-set}
 use lib.Seq.{getD-set-same}
-use borrow.Author.Tests.{lt-ltb, le-ltb, ne-eqb, eq-eqb}
-use Rattle.stage0_laws.specs.Bits.{bit}
-use Rattle.stage0_laws.specs.BitLaws.{bit-or, bit-one, bit-high}
+use borrow.Author.Tests.{lt-ltb, le-ltb}
 use Rattle.stage1_sheet.specs.Expression.{Expression, epsilon, bottom, token, sequence, alternative, fixed-point, variable, size}
 use Rattle.stage1_sheet.specs.Items.{ExpressionItem, epsilon-item, bottom-item, token-item, sequence-item, alternative-item, fixed-point-item, variable-item}
 use Rattle.stage1_sheet.specs.ExpressionItems.{expression-items-of}
 use Rattle.stage1_sheet.specs.WellFormed.{Closed}
 use Rattle.stage2_types.specs.Nodes.{Node, epsilon-node, bottom-node, token-node, sequence-node, alternative-node, fixed-point-node, Binder, no-binder, variable-of, guard, nodes-from}
+use Rattle.stage2_types_columns.specs.Joining.{joined, joined-here, joined-below, joined-low}
 use Rattle.stage2_types_columns.specs.Held.{node-of}
 use Rattle.stage2_types_linker.specs.declared.Due.{Due}
 use Rattle.stage2_types_linker.specs.Walking.{due, linked}
 use Rattle.stage2_types_linker.proofs.Parts.{binders, binders-set, binders-guard, binders-at, items-due, nodes-due, DuesFit, dues-on, nodes-due-set}
 use Rattle.stage2_types_linker.proofs.Completed.{linked-long, completed}
 use Rattle.stage2_types_linker.proofs.Walked.{Walked, unlinked, relinked}
-
--- ---- the set of guarded variables
-
--- Node i joins the set, or does not.
-abbrev pub joined : Bool → ℕ → ℕ → ℕ
-joined b s i = cond b (bitOr s (2 ^ i)) s
-
-joined-here : (b : Bool) (s i : ℕ) → s < 2 ^ i → bit (joined b s i) i ≡ b
-joined-here true s i l = bit-or s (2 ^ i) i ∙ ap₂ _||_ (bit-high i s i l (omega arith)) (bit-one i i ∙ eq-eqb i i refl)
-joined-here false s i l = bit-high i s i l (omega arith)
-
-joined-below : (b : Bool) (s i q : ℕ) → q < i → bit (joined b s i) q ≡ bit s q
-joined-below true s i q l =
-    bit-or s (2 ^ i) q ∙ ap (λ (x : Bool). bit s q || x) (bit-one i q ∙ ne-eqb i q (λ e. omega arith)) ∙ or-false (bit s q)
-joined-below false s i q l = refl
-
-joined-low : (b : Bool) (s i : ℕ) → s < 2 ^ i → joined b s i < 2 ^ suc i
-joined-low true s i l = or-lt (suc i) s (2 ^ i) (omega (arith, pow-suc 2 i)) (omega (arith, pow-suc 2 i, l))
-joined-low false s i l = omega (arith, pow-suc 2 i)
-
--- ---- the kinds
 
 module _ (tokens : ℕ) (tag : List ℕ) (items : List ExpressionItem) (ns : List Node) (i : ℕ) (link : List ℕ) (guarded : ℕ) (owner : List ℕ)
     (d : Due) (ds : List Due) (gs : List Expression) (small : i < 64) where
@@ -66,6 +43,9 @@ module _ (tokens : ℕ) (tag : List ℕ) (items : List ExpressionItem) (ns : Lis
   leaf-fit g before =
       dues-on tokens i (suc i) (d .depth) (suc i) gs ds (omega arith) (omega (arith, before .fit .0 .within)) (before .fit .1)
 
+  stays-low : {g : Expression} → Before g → guarded < 2 ^ suc i
+  stays-low before = omega (arith, before .guarded-low, pow-suc 2 i)
+
   pub walked-epsilon : Before epsilon → getD tag i 0 ≡ 0 → After here-linked guarded owner ds gs
   unfolding expression-items-of nodes-from size node-of
   walked-epsilon before t = unlinked tokens tag items ns i link guarded owner d ds epsilon gs before small epsilon-item epsilon-node owner ds gs
@@ -83,7 +63,7 @@ module _ (tokens : ℕ) (tag : List ℕ) (items : List ExpressionItem) (ns : Lis
   walked-token k before t = relinked tokens tag items ns i link guarded owner d ds (token k) gs before small (token-item k) (token-node k) k guarded
       (set here-linked i k) ds gs
       refl (ap (λ (n : ℕ). token-node k ∷ nodes-due owner n gs ds) (add-one i)) (leaf-fit (token k) before)
-      (ap (λ (n : ℕ). completed (set here-linked i k) n gs ds) (sym (add-one i))) (λ q l. refl) (rw t) (joined-low false guarded i (before .guarded-low))
+      (ap (λ (n : ℕ). completed (set here-linked i k) n gs ds) (sym (add-one i))) (λ q l. refl) (rw t) (stays-low before)
       (length-set here-linked i k ∙ linked-long link (d .parent) i ∙ before .link-long)
 
   -- The left part and the right part, of whose open fixed points so many are guarded.
@@ -126,7 +106,7 @@ module _ (tokens : ℕ) (tag : List ℕ) (items : List ExpressionItem) (ns : Lis
       (parts-nodes (sequence-node (suc i) (suc i + size g)) g h (d .depth) (map guard (binders owner (d .depth) (d .guarded)))
       (binders-guard owner (d .depth) (d .guarded) (d .depth) (omega arith)))
       (parts-fit (sequence g h) g h (d .depth) before (before .fit .0 .closed .0) (before .fit .0 .closed .1) (omega arith))
-      (parts-completed g h (d .depth)) (λ q l. refl) (rw t) (joined-low false guarded i (before .guarded-low))
+      (parts-completed g h (d .depth)) (λ q l. refl) (rw t) (stays-low before)
       (linked-long link (d .parent) i ∙ before .link-long)
 
   pub walked-alternative : (g h : Expression) → Before (alternative g h) → getD tag i 0 ≡ 4
@@ -137,7 +117,7 @@ module _ (tokens : ℕ) (tag : List ℕ) (items : List ExpressionItem) (ns : Lis
       (ap (λ (l : List ExpressionItem). alternative-item ∷ l) (append-assoc (expression-items-of g) (expression-items-of h) (items-due gs)))
       (parts-nodes (alternative-node (suc i) (suc i + size g)) g h (d .guarded) (binders owner (d .depth) (d .guarded)) refl)
       (parts-fit (alternative g h) g h (d .guarded) before (before .fit .0 .closed .0) (before .fit .0 .closed .1) (before .fit .0 .guarded-open))
-      (parts-completed g h (d .guarded)) (λ q l. refl) (rw t) (joined-low false guarded i (before .guarded-low))
+      (parts-completed g h (d .guarded)) (λ q l. refl) (rw t) (stays-low before)
       (linked-long link (d .parent) i ∙ before .link-long)
 
   -- The body, inside one more open fixed point, which is not guarded.

@@ -2,11 +2,11 @@
 -- proved from this, and not said here.
 use mathlib.Core.Bool.{cond}
 use mathlib.Core.List.{List}
-use Prim.Native.Nat.{ℕ, suc, _-_, _^_, _<_}
+use Prim.Native.Nat.{ℕ, suc, _-_, _<_}
 use mathlib.Core.Path.{_≡_}
 use lib.Dec.{eqb, ltb}
-use lib.Bits.{bitOr}
 use lib.ListN.{getD, set, replicate}
+use Rattle.stage2_types_columns.specs.Joining.{joined}
 use Rattle.stage2_types_linker.specs.declared.Due.{Due}
 use Rattle.stage2_types_linker.specs.declared.Walk.{Walk}
 
@@ -61,7 +61,7 @@ with-owner w depth i =
 unfoldable pub with-variable : Walk → ℕ → ℕ → ℕ → Walk
 with-variable w i place guarded = record {
   link = set (w .link) i (getD (w .owner) place 0);
-  guarded = cond (ltb place guarded) (bitOr (w .guarded) (2 ^ i)) (w .guarded);
+  guarded = joined (ltb place guarded) (w .guarded) i;
   owner = w .owner;
   stack = w .stack;
   height = w .height;

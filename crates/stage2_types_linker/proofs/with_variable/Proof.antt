@@ -1,4 +1,5 @@
 -- `stage2_types_linker::with_variable` meets its contract: guarded, or not.
+use lib.Bits.{or-zero-r}
 use borrow.Author.Tests.{lt-ltb, le-ltb}
 use borrow.Author.Needs.{needs}
 use Rattle.stage0_laws.specs.BitLaws.{shl-one}
@@ -23,7 +24,7 @@ returns c =
 
 returns-2 : tie.Need-returns-2
 unfolding with-variable
-returns-2 c = let a = c .before .before .args in rw (le-ltb (a .place) (a .guarded) (c .if1 .left))
+returns-2 c = let a = c .before .before .args in rw (le-ltb (a .place) (a .guarded) (c .if1 .left), or-zero-r (a .w .guarded))
 
 pub with-variable-spec : {M : Type 1} → statement M
 with-variable-spec =
