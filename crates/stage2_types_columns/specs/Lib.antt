@@ -2,6 +2,7 @@
 pub mod Tabulate
 pub mod Joining
 pub mod Held
+pub mod HeldAt
 pub mod HeldOnce
 pub mod Linked
 pub mod Within
