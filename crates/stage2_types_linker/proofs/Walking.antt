@@ -108,6 +108,23 @@ module _ (tokens : ℕ) (tag : List ℕ) (items : List ExpressionItem) (ns : Lis
       two-long : (x y : Due) → length (set (set (w .stack) k y) (suc k) x) ≡ 64
       two-long x y = length-set (set (w .stack) k y) (suc k) x ∙ length-set (w .stack) k y ∙ long
 
+      -- A node with a left part and a right part.
+      two-turned : (right-guarded : ℕ) (a b : Expression)
+          → Walked tokens tag items ns (suc i) linked-here (w .guarded) (w .owner)
+          (due (top .depth) (top .guarded) 64 ∷ due (top .depth) right-guarded i ∷ pending (w .stack) k) (a ∷ b ∷ gs)
+          → Walking (suc i) (with-parts (taken w k (top .parent) i) i (top .depth) (top .guarded) right-guarded)
+      unfolding taken with-due with-parts
+      two-turned right-guarded a b h =
+          let left = due (top .depth) (top .guarded) 64 in
+          let right = due (top .depth) right-guarded i in
+          record {
+            parts = a ∷ b ∷ gs;
+            walked = subst (λ (l : List Due). Walked tokens tag items ns (suc i) linked-here (w .guarded) (w .owner) l (a ∷ b ∷ gs))
+                (sym (two-pending left right)) h;
+            stack-long = two-long left right;
+            height-small = omega arith;
+          }
+
       turned : (g : Expression) → At (g ∷ gs)
           → getD tag i 0 ≡ expression-tag (own-item g) → Walking (suc i) (step-at k (expression-tag (own-item g)) (number-after (own-item g)) i w)
       unfolding step-at taken with-link with-due with-owner with-variable with-parts expression-tag number-after
@@ -129,22 +146,10 @@ module _ (tokens : ℕ) (tag : List ℕ) (items : List ExpressionItem) (ns : Lis
         stack-long = long;
         height-small = omega arith;
       }
-      turned (sequence a b) h t = record {
-        parts = a ∷ b ∷ gs;
-        walked = subst (λ (l : List Due). Walked tokens tag items ns (suc i) linked-here (w .guarded) (w .owner) l (a ∷ b ∷ gs))
-            (sym (two-pending (due (top .depth) (top .guarded) 64) (due (top .depth) (top .depth) i)))
-            (walked-sequence tokens tag items ns i (w .link) (w .guarded) (w .owner) top (pending (w .stack) k) gs small a b h t);
-        stack-long = two-long (due (top .depth) (top .guarded) 64) (due (top .depth) (top .depth) i);
-        height-small = omega arith;
-      }
-      turned (alternative a b) h t = record {
-        parts = a ∷ b ∷ gs;
-        walked = subst (λ (l : List Due). Walked tokens tag items ns (suc i) linked-here (w .guarded) (w .owner) l (a ∷ b ∷ gs))
-            (sym (two-pending (due (top .depth) (top .guarded) 64) (due (top .depth) (top .guarded) i)))
-            (walked-alternative tokens tag items ns i (w .link) (w .guarded) (w .owner) top (pending (w .stack) k) gs small a b h t);
-        stack-long = two-long (due (top .depth) (top .guarded) 64) (due (top .depth) (top .guarded) i);
-        height-small = omega arith;
-      }
+      turned (sequence a b) h t = two-turned (top .depth) a b
+          (walked-sequence tokens tag items ns i (w .link) (w .guarded) (w .owner) top (pending (w .stack) k) gs small a b h t)
+      turned (alternative a b) h t = two-turned (top .guarded) a b
+          (walked-alternative tokens tag items ns i (w .link) (w .guarded) (w .owner) top (pending (w .stack) k) gs small a b h t)
       turned (fixed-point a) h t = record {
         parts = a ∷ gs;
         walked = subst (λ (l : List Due). Walked tokens tag items ns (suc i) linked-here (w .guarded) (set (w .owner) (top .depth) i) l (a ∷ gs))
