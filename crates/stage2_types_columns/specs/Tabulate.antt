@@ -1,7 +1,8 @@
 -- The list of what a function gives for some numbers in a row, and how such lists compare.
-use mathlib.Core.Path.{_≡_, refl, ap, ap₂, _∙_}
+use mathlib.Core.Path.{_≡_, refl, sym, ap, ap₂, _∙_}
 use mathlib.Core.List.{List, [], _∷_, map}
-use Prim.Native.Nat.{ℕ, zero, suc, _+_, _<_}
+use Prim.Native.Nat.{ℕ, zero, suc, _+_, _-_, _≤_, _<_}
+use native.Mathlib.Numerals.{add-one}
 use native.Mathlib.Omega.{arith}
 use lib.ListN.{length, getD}
 
@@ -31,3 +32,19 @@ pub tabulate-map : {A B : Type 0} (f : A → B) (g : ℕ → A) (i n : ℕ) → 
 unfolding tabulate
 tabulate-map f g i zero = refl
 tabulate-map f g i (suc n) = ap (λ l. f (g i) ∷ l) (tabulate-map f g (suc i) n)
+
+-- What is left of n entries from entry i on: the next one and those after it, or nothing.
+pub tabulate-next : {A : Type 0} (f : ℕ → A) (n i : ℕ) → i < n → tabulate f i (n - i) ≡ f i ∷ tabulate f (i + 1) (n - (i + 1))
+unfolding tabulate
+tabulate-next f n i l =
+    ap (tabulate f i) (left n i l) ∙ ap (λ (k : ℕ). f i ∷ tabulate f k (n - (i + 1))) (sym (add-one i))
+  where
+    left : (n i : ℕ) → i < n → n - i ≡ suc (n - (i + 1))
+    left n i l = omega arith
+
+pub tabulate-end : {A : Type 0} (f : ℕ → A) (n i : ℕ) → n ≤ i → tabulate f i (n - i) ≡ []
+unfolding tabulate
+tabulate-end f n i l = ap (tabulate f i) (none n i l)
+  where
+    none : (n i : ℕ) → n ≤ i → n - i ≡ 0
+    none n i l = omega arith

@@ -1,0 +1,77 @@
+-- Figure 2's equation at a node, from its tag and link: a law for each way through the code. And the nodes that it goes by.
+use mathlib.Core.Path.{_≡_, ap, ap₂, _∙_}
+use mathlib.Core.Bool.{Bool, true, false}
+use mathlib.Core.Logic.{_⊎_, inl, inr}
+use Prim.Native.Nat.{ℕ, suc, _+_, _*_, _%_, _^_, _<_}
+use native.Mathlib.Numerals.{add-one}
+use native.Mathlib.Omega.{arith}
+use lib.Pow.{shl-exact}
+use borrow.Author.Tests.{ne-eqb}
+use Rattle.stage2_types.specs.Types.{LanguageType, epsilon-type, bottom-type, token-type, sequence-type, alternative-type}
+use Rattle.stage2_types.specs.Nodes.{variable-node}
+use Rattle.stage2_types_columns.specs.Held.{node-of}
+use Rattle.stage2_types_columns.specs.Within.{NodeWithin}
+use Rattle.stage2_types_checker.specs.TypeBy.{type-by}
+
+shl-one-32 : (i : ℕ) → i < 32 → (1 * 2 ^ i) % 2 ^ 32 ≡ 2 ^ i
+shl-one-32 i h = shl-exact 1 i 32 (omega arith) (omega arith) ∙ omega arith
+
+module _ (tag link i : ℕ) (guarded : Bool) where
+  -- A tag that none of the tests takes is a variable's.
+  pub other-node : (tag ≡ 0 → ⊥) → (tag ≡ 1 → ⊥) → (tag ≡ 2 → ⊥) → (tag ≡ 3 → ⊥) → (tag ≡ 4 → ⊥) → (tag ≡ 5 → ⊥)
+      → node-of tag link guarded i ≡ variable-node link guarded
+  unfolding node-of
+  other-node a b c d e f = rw (ne-eqb tag 0 a, ne-eqb tag 1 b, ne-eqb tag 2 c, ne-eqb tag 3 d, ne-eqb tag 4 e, ne-eqb tag 5 f)
+
+  -- ---- what the node goes by is in the columns
+
+  module _ (within : NodeWithin 64 (node-of tag link guarded i)) where
+    pub token-small : tag ≡ 2 → link < 32
+    unfolding node-of
+    token-small e = let h : link < 24 = rw e at within in omega arith
+
+    pub parts-small : (tag ≡ 3) ⊎ (tag ≡ 4) → (i + 1 < 64) × (link < 64)
+    unfolding node-of
+    parts-small (inl e) = let h : (suc i < 64) × (link < 64) = rw e at within in (omega arith, h .1)
+    parts-small (inr e) = let h : (suc i < 64) × (link < 64) = rw e at within in (omega arith, h .1)
+
+    pub body-small : tag ≡ 5 → i + 1 < 64
+    unfolding node-of
+    body-small e = let h : suc i < 64 = rw e at within in omega arith
+
+    pub binder-small : node-of tag link guarded i ≡ variable-node link guarded → link < 64
+    binder-small e = rw e at within
+
+  -- ---- the equation
+
+  module _ (f : ℕ → LanguageType) {t : LanguageType} where
+    pub type-epsilon : tag ≡ 0 → t ≡ record { null = true; first = 0; flast = 0 } → t ≡ type-by f (node-of tag link guarded i)
+    unfolding type-by node-of epsilon-type
+    type-epsilon e h = rw e h
+
+    pub type-bottom : tag ≡ 1 → t ≡ record { null = false; first = 0; flast = 0 } → t ≡ type-by f (node-of tag link guarded i)
+    unfolding type-by node-of bottom-type
+    type-bottom e h = rw e h
+
+    pub type-token : tag ≡ 2 → link < 32 → t ≡ record { null = false; first = (1 * 2 ^ link) % 2 ^ 32; flast = 0 }
+        → t ≡ type-by f (node-of tag link guarded i)
+    unfolding type-by node-of token-type
+    type-token e l h = rw e (h ∙ ap (λ (s : ℕ). record { null = false; first = s; flast = 0 }) (shl-one-32 link l))
+
+    pub type-sequence : {a b : LanguageType} → tag ≡ 3 → a ≡ f (i + 1) → b ≡ f link → t ≡ sequence-type a b
+        → t ≡ type-by f (node-of tag link guarded i)
+    unfolding type-by node-of
+    type-sequence e p q h = rw e (h ∙ ap₂ sequence-type (p ∙ ap f (add-one i)) q)
+
+    pub type-alternative : {a b : LanguageType} → tag ≡ 4 → a ≡ f (i + 1) → b ≡ f link → t ≡ alternative-type a b
+        → t ≡ type-by f (node-of tag link guarded i)
+    unfolding type-by node-of
+    type-alternative e p q h = rw e (h ∙ ap₂ alternative-type (p ∙ ap f (add-one i)) q)
+
+    pub type-body : tag ≡ 5 → t ≡ f (i + 1) → t ≡ type-by f (node-of tag link guarded i)
+    unfolding type-by node-of
+    type-body e h = rw e (h ∙ ap f (add-one i))
+
+    pub type-other : node-of tag link guarded i ≡ variable-node link guarded → t ≡ f link → t ≡ type-by f (node-of tag link guarded i)
+    unfolding type-by
+    type-other e h = rw e h

@@ -1,0 +1,5 @@
+-- Laws that the proofs of the functions cite.
+pub mod Equation
+pub mod Question
+pub mod Rounds
+pub mod All

@@ -1,0 +1,92 @@
+-- The tests on two types, and the question that a node is asked, from its tag and link: a law for each way through the code.
+use mathlib.Core.Path.{_≡_, refl, sym}
+use mathlib.Core.Bool.{Bool, true, false, not, _&&_, Bool·beq, and-false}
+use Prim.Native.Nat.{ℕ, zero, suc, _+_, _≤_, _<_}
+use native.Mathlib.Numerals.{add-one}
+use native.Mathlib.Omega.{arith}
+use lib.Bits.{bitAnd}
+use lib.Dec.{eqb}
+use borrow.Author.Tests.{ne-eqb, eq-eqb}
+use Rattle.stage2_types.specs.Types.{LanguageType}
+use Rattle.stage2_types.specs.Nodes.{variable-node}
+use Rattle.stage2_types.specs.LeastTypes.{same-type}
+use Rattle.stage2_types.specs.Questions.{separable, apart, unless}
+use Rattle.stage2_types_columns.specs.Held.{node-of}
+use Rattle.stage2_types_checker.specs.TypeBy.{fault-by}
+use Rattle.stage2_types_checker.specs.Found.{asked}
+use Rattle.stage2_types_checker.proofs.Equation.{other-node}
+
+-- ---- the tests on two types
+
+module _ (a b : LanguageType) where
+  pub separable-not : (bitAnd (a .flast) (b .first) ≡ 0 → ⊥) → false ≡ separable a b
+  unfolding separable
+  separable-not n = rw (ne-eqb (bitAnd (a .flast) (b .first)) 0 n)
+
+  pub separable-null : bitAnd (a .flast) (b .first) ≡ 0 → not (a .null) ≡ separable a b
+  unfolding separable
+  separable-null e = rw (eq-eqb (bitAnd (a .flast) (b .first)) 0 e)
+
+  pub apart-not : (bitAnd (a .first) (b .first) ≡ 0 → ⊥) → false ≡ apart a b
+  unfolding apart
+  apart-not n = rw (ne-eqb (bitAnd (a .first) (b .first)) 0 n)
+
+  pub apart-null : bitAnd (a .first) (b .first) ≡ 0 → not (a .null && b .null) ≡ apart a b
+  unfolding apart
+  apart-null e = rw (eq-eqb (bitAnd (a .first) (b .first)) 0 e)
+
+  pub same-null-not : Bool·beq (a .null) (b .null) ≡ false → false ≡ same-type a b
+  unfolding same-type
+  same-null-not e = rw e
+
+  pub same-first-not : (a .first ≡ b .first → ⊥) → false ≡ same-type a b
+  unfolding same-type
+  same-first-not n = rw (ne-eqb (a .first) (b .first) n) (sym (and-false (Bool·beq (a .null) (b .null))))
+
+  pub same-flast : Bool·beq (a .null) (b .null) ≡ true → a .first ≡ b .first → eqb (a .flast) (b .flast) ≡ same-type a b
+  unfolding same-type
+  same-flast e f = rw (e, eq-eqb (a .first) (b .first) f)
+
+-- ---- the question
+
+module _ (f : ℕ → LanguageType) (link i : ℕ) (guarded : Bool) where
+  -- Epsilon, bottom, a token and a fixed point are asked nothing.
+  pub asked-nothing : (tag : ℕ) → tag < 6 → (tag ≡ 3 → ⊥) → (tag ≡ 4 → ⊥) → asked 0 i ≡ fault-by f (node-of tag link guarded i) i
+  unfolding asked fault-by node-of
+  asked-nothing zero l a b = refl
+  asked-nothing (suc zero) l a b = refl
+  asked-nothing (suc (suc zero)) l a b = refl
+  asked-nothing (suc (suc (suc zero))) l a b = absurd (a refl)
+  asked-nothing (suc (suc (suc (suc zero)))) l a b = absurd (b refl)
+  asked-nothing (suc (suc (suc (suc (suc zero))))) l a b = refl
+  asked-nothing (suc (suc (suc (suc (suc (suc tag)))))) l a b = absurd (omega arith)
+
+module _ (f : ℕ → LanguageType) (tag link i : ℕ) (guarded : Bool) where
+  pub variable-of-tag : 6 ≤ tag → node-of tag link guarded i ≡ variable-node link guarded
+  variable-of-tag l = other-node tag link i guarded (λ e. omega arith) (λ e. omega arith) (λ e. omega arith) (λ e. omega arith) (λ e. omega arith)
+      (λ e. omega arith)
+
+  pub variable-passes : 6 ≤ tag → guarded ≡ true → asked 0 i ≡ fault-by f (node-of tag link guarded i) i
+  unfolding asked fault-by unless
+  variable-passes l g = rw (variable-of-tag l, g)
+
+  pub variable-fails : 6 ≤ tag → guarded ≡ false → asked 8 i ≡ fault-by f (node-of tag link guarded i) i
+  unfolding asked fault-by unless
+  variable-fails l g = rw (variable-of-tag l, g)
+
+  module _ {a b : LanguageType} (left : a ≡ f (i + 1)) (right : b ≡ f link) {r : Bool} where
+    pub sequence-passes : tag ≡ 3 → r ≡ separable a b → r ≡ true → asked 0 i ≡ fault-by f (node-of tag link guarded i) i
+    unfolding asked fault-by unless node-of
+    sequence-passes e h t = rw (e, ← add-one i, ← left, ← right, ← h, t)
+
+    pub sequence-fails : tag ≡ 3 → r ≡ separable a b → r ≡ false → asked 9 i ≡ fault-by f (node-of tag link guarded i) i
+    unfolding asked fault-by unless node-of
+    sequence-fails e h t = rw (e, ← add-one i, ← left, ← right, ← h, t)
+
+    pub alternative-passes : tag ≡ 4 → r ≡ apart a b → r ≡ true → asked 0 i ≡ fault-by f (node-of tag link guarded i) i
+    unfolding asked fault-by unless node-of
+    alternative-passes e h t = rw (e, ← add-one i, ← left, ← right, ← h, t)
+
+    pub alternative-fails : tag ≡ 4 → r ≡ apart a b → r ≡ false → asked 10 i ≡ fault-by f (node-of tag link guarded i) i
+    unfolding asked fault-by unless node-of
+    alternative-fails e h t = rw (e, ← add-one i, ← left, ← right, ← h, t)

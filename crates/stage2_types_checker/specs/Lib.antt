@@ -1,0 +1,4 @@
+-- What the code of the type check answers, joined to the definitions of stage 2.
+pub mod TypeBy
+pub mod Found
+pub mod Checking

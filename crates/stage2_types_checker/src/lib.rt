@@ -1,0 +1,334 @@
+// Least types of all nodes of an expression, and questions 8 to 10: Figure 2's equations over columns, applied to all nodes
+// until nothing changes, and then the first node whose question fails. What a type means is not the code's to know.
+use stage1_sheet_columns::NodeColumns;
+use stage2_types_columns::NodeLinks;
+use stage2_types_columns::TypeColumns;
+use stage2_types_linker::link_nodes;
+ghost use mathlib.Core.Path.{_≡_};
+ghost use mathlib.Core.Bool.{Bool, cond};
+ghost use Prim.Native.Nat.{ℕ, _+_, _-_, _*_, _^_, _≤_, _<_};
+ghost use Rattle.stage0_laws.specs.Bits.{bit};
+ghost use Rattle.stage2_types.specs.Types.{if-null, sequence-type, alternative-type};
+ghost use Rattle.stage2_types.specs.LeastTypes.{next-types, same-type, same-types, types-of};
+ghost use Rattle.stage2_types.specs.Questions.{separable, apart, first-fault};
+ghost use Rattle.stage2_types_columns.specs.Held.{node-of, held-nodes, held-type, held-types};
+ghost use Rattle.stage2_types_columns.specs.Linked.{SheetExpression};
+ghost use Rattle.stage2_types_columns.specs.Within.{NodeWithin, LinksFit};
+ghost use Rattle.stage2_types_checker.specs.TypeBy.{type-by, fault-by};
+ghost use Rattle.stage2_types_checker.specs.Found.{language-type, fault-of, asked};
+ghost use Rattle.stage2_types_checker.specs.Checking.{CheckedOf};
+
+// The type of one node.
+pub struct NodeType {
+    pub null: bool,
+    pub first: u32,
+    pub flast: u32,
+}
+
+// The question that failed, 8 to 10, and the node at which it did.
+pub enum Fault {
+    Nothing,
+    At(u8, u8),
+}
+
+pub struct Checked {
+    pub links: NodeLinks,
+    pub types: TypeColumns,
+    pub fault: Fault,
+}
+
+fn has(s: u64, i: usize) -> bool
+    requires { ⌜ i < 64 ⌝ }
+    ensures { λ r. ⌜ r ≡ bit s i ⌝ }
+{
+    s & (1u64 << i) != 0
+}
+
+fn one_if(member: bool, i: usize) -> u64
+    requires { ⌜ i < 64 ⌝ }
+    ensures { λ r. ⌜ r ≡ cond member (2 ^ i) 0 ⌝ }
+{
+    if member {
+        return 1u64 << i;
+    }
+    0
+}
+
+fn set_if(null: bool, s: u32) -> u32
+    ensures { λ r. ⌜ r ≡ if-null null s ⌝ }
+{
+    if null {
+        return s;
+    }
+    0
+}
+
+// A type whose follow-last set is empty.
+fn without_flast(null: bool, first: u32) -> NodeType
+    ensures { λ r. ⌜ language-type r ≡ record { null = null; first = first; flast = 0 } ⌝ }
+{
+    NodeType {
+        null,
+        first,
+        flast: 0,
+    }
+}
+
+fn sequence_type(a: NodeType, b: NodeType) -> NodeType
+    ensures { λ r. ⌜ language-type r ≡ sequence-type (language-type a) (language-type b) ⌝ }
+{
+    let behind = set_if(a.null, b.first);
+    let inside = set_if(b.null, b.first | a.flast);
+    NodeType {
+        null: a.null & b.null,
+        first: a.first | behind,
+        flast: b.flast | inside,
+    }
+}
+
+fn alternative_type(a: NodeType, b: NodeType) -> NodeType
+    ensures { λ r. ⌜ language-type r ≡ alternative-type (language-type a) (language-type b) ⌝ }
+{
+    NodeType {
+        null: a.null | b.null,
+        first: a.first | b.first,
+        flast: a.flast | b.flast,
+    }
+}
+
+fn same_type(a: NodeType, b: NodeType) -> bool
+    ensures { λ r. ⌜ r ≡ same-type (language-type a) (language-type b) ⌝ }
+{
+    if a.null != b.null {
+        return false;
+    }
+    if a.first != b.first {
+        return false;
+    }
+    a.flast == b.flast
+}
+
+fn separable(a: NodeType, b: NodeType) -> bool
+    ensures { λ r. ⌜ r ≡ separable (language-type a) (language-type b) ⌝ }
+{
+    if a.flast & b.first != 0 {
+        return false;
+    }
+    !a.null
+}
+
+fn apart(a: NodeType, b: NodeType) -> bool
+    ensures { λ r. ⌜ r ≡ apart (language-type a) (language-type b) ⌝ }
+{
+    if a.first & b.first != 0 {
+        return false;
+    }
+    !(a.null & b.null)
+}
+
+fn type_at<'a>(null: u64, first: &'a [u32; 64], flast: &'a [u32; 64], i: usize) -> NodeType
+    requires { ⌜ i < 64 ⌝ }
+    ensures { λ r. ⌜ language-type r ≡ held-type null (now (first .entry)) (now (flast .entry)) i ⌝ }
+{
+    let nullable = has(null, i);
+    NodeType {
+        null: nullable,
+        first: first[i],
+        flast: flast[i],
+    }
+}
+
+// Figure 2's equation at node i, which has this tag and link.
+fn node_type<'a>(
+    null: u64,
+    first: &'a [u32; 64],
+    flast: &'a [u32; 64],
+    tag: u8,
+    link: u8,
+    i: usize,
+) -> NodeType
+    requires { ⌜ ((guarded : Bool) → NodeWithin 64 (node-of tag link guarded i)) ⌝ }
+    ensures { λ r. ⌜
+        (
+        (guarded : Bool)
+        → language-type r
+        ≡ type-by (held-type null (now (first .entry)) (now (flast .entry))) (node-of tag link guarded i)
+        )
+        ⌝ }
+{
+    if tag == 0 {
+        return without_flast(true, 0);
+    }
+    if tag == 1 {
+        return without_flast(false, 0);
+    }
+    if tag == 2 {
+        return without_flast(false, 1u32 << link);
+    }
+    let to = link as usize;
+    if tag == 3 {
+        let l = type_at(null, first, flast, i + 1);
+        let r = type_at(null, first, flast, to);
+        return sequence_type(l, r);
+    }
+    if tag == 4 {
+        let l = type_at(null, first, flast, i + 1);
+        let r = type_at(null, first, flast, to);
+        return alternative_type(l, r);
+    }
+    if tag == 5 {
+        return type_at(null, first, flast, i + 1);
+    }
+    type_at(null, first, flast, to)
+}
+
+// All equations at once.
+pub fn next_types(links: NodeLinks, types: TypeColumns) -> TypeColumns
+    requires { ⌜ LinksFit links ⌝ }
+    ensures { λ r. ⌜ held-types (links .count) r ≡ next-types (held-nodes links) (held-types (links .count) types) ⌝ }
+{
+    let count = links.count;
+    let mut out = TypeColumns {
+        null: 0,
+        first: [0; 64],
+        flast: [0; 64],
+    };
+    let mut i = 0;
+    while i < count {
+        let tag = links.tag[i];
+        let link = links.link[i];
+        let t = node_type(types.null, &types.first, &types.flast, tag, link, i);
+        let one = one_if(t.null, i);
+        out.null = out.null | one;
+        out.first[i] = t.first;
+        out.flast[i] = t.flast;
+        i += 1;
+    }
+    out
+}
+
+fn same_types(count: usize, a: TypeColumns, b: TypeColumns) -> bool
+    requires { ⌜ count ≤ 64 ⌝ }
+    ensures { λ r. ⌜ r ≡ same-types (held-types count a) (held-types count b) ⌝ }
+{
+    let mut i = 0;
+    while i < count {
+        let x = type_at(a.null, &a.first, &a.flast, i);
+        let y = type_at(b.null, &b.first, &b.flast, i);
+        let same = same_type(x, y);
+        if !same {
+            return false;
+        }
+        i += 1;
+    }
+    true
+}
+
+// The least types that solve the equations: all nodes start with the type of ⊥.
+pub fn least_types(links: NodeLinks) -> TypeColumns
+    requires { ⌜ LinksFit links ⌝ }
+    ensures { λ r. ⌜ held-types (links .count) r ≡ types-of (held-nodes links) ⌝ }
+{
+    let count = links.count;
+    let mut types = TypeColumns {
+        null: 0,
+        first: [0; 64],
+        flast: [0; 64],
+    };
+    let mut rounds = 49 * count;
+    while 0 < rounds {
+        let next = next_types(links, types);
+        let same = same_types(count, types, next);
+        if same {
+            return types;
+        }
+        types = next;
+        rounds -= 1;
+    }
+    types
+}
+
+// The question that node i is asked, if it fails, else 0.
+fn node_fault<'a>(
+    null: u64,
+    first: &'a [u32; 64],
+    flast: &'a [u32; 64],
+    tag: u8,
+    link: u8,
+    guarded: bool,
+    i: usize,
+) -> u8
+    requires { ⌜ NodeWithin 64 (node-of tag link guarded i) ⌝ }
+    ensures { λ r. ⌜
+        asked r i
+        ≡ fault-by (held-type null (now (first .entry)) (now (flast .entry))) (node-of tag link guarded i) i
+        ⌝ }
+{
+    let to = link as usize;
+    if tag == 3 {
+        let l = type_at(null, first, flast, i + 1);
+        let r = type_at(null, first, flast, to);
+        if separable(l, r) {
+            return 0;
+        }
+        return 9;
+    }
+    if tag == 4 {
+        let l = type_at(null, first, flast, i + 1);
+        let r = type_at(null, first, flast, to);
+        if apart(l, r) {
+            return 0;
+        }
+        return 10;
+    }
+    if tag < 6 {
+        return 0;
+    }
+    if guarded {
+        return 0;
+    }
+    8
+}
+
+// The first node, in sheet order, whose question fails.
+pub fn first_fault(links: NodeLinks, types: TypeColumns) -> Fault
+    requires { ⌜ LinksFit links ⌝ }
+    ensures { λ r. ⌜ fault-of r ≡ first-fault (held-types (links .count) types) (held-nodes links) 0 ⌝ }
+{
+    let count = links.count;
+    let mut node = 0;
+    while node < count {
+        let tag = links.tag[node];
+        let link = links.link[node];
+        let guarded = has(links.guarded, node);
+        let number = node_fault(
+            types.null,
+            &types.first,
+            &types.flast,
+            tag,
+            link,
+            guarded,
+            node,
+        );
+        if number != 0 {
+            return Fault::At(number, node as u8);
+        }
+        node += 1;
+    }
+    Fault::Nothing
+}
+
+// The links, the least types and the first failed question of the expression that the columns hold.
+pub fn check_types(nodes: NodeColumns) -> Checked
+    requires { ⌜ SheetExpression nodes ⌝ }
+    ensures { λ r. ⌜ CheckedOf nodes r ⌝ }
+{
+    let links = link_nodes(nodes);
+    let types = least_types(links);
+    let fault = first_fault(links, types);
+    Checked {
+        links,
+        types,
+        fault,
+    }
+}
