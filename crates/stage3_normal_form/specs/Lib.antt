@@ -19,3 +19,4 @@ pub mod Tails
 pub mod Examples
 pub mod TypesExact
 pub mod Expansion
+pub mod ProductionWalk
