@@ -1,0 +1,52 @@
+-- `stage3_normal_form_walk::node_derives` meets its contract: one law for each tag.
+use borrow.Author.Needs.{needs}
+use native.Mathlib.Omega.{arith}
+use Rattle.stage3_normal_form_walk.proofs.Rounds.{by-epsilon, by-bottom, by-token, by-sequence, by-alternative, by-fixed-point, by-variable}
+use Rattle.stage3_normal_form_walk.proofs.node_derives.Statement.{statement}
+use Rattle.stage3_normal_form_walk.proofs.node_derives.Tie as tie
+
+returns : tie.Need-returns
+returns c flags guarded s = by-epsilon flags guarded _ _ _ (c .if1 .taken)
+
+returns-2 : tie.Need-returns-2
+returns-2 c flags guarded s = by-bottom flags guarded _ _ _ (c .if2 .taken)
+
+returns-3 : tie.Need-returns-3
+returns-3 c flags guarded s = by-token flags guarded _ _ _ (c .if3 .taken)
+
+add-has : tie.Need-add-has
+add-has c = omega arith
+
+has-requires : tie.Need-has-requires
+has-requires c κs = search needs
+
+has-requires-2 : tie.Need-has-requires-2
+has-requires-2 c κs = search needs
+
+returns-4 : tie.Need-returns-4
+returns-4 c flags guarded s = by-sequence flags guarded _ _ _ s _ _ (c .before .before .has .ensures) (c .before .has2 .ensures) _ (c .if4 .taken)
+
+returns-5 : tie.Need-returns-5
+returns-5 c flags guarded s = by-alternative flags guarded _ _ _ s _ _ (c .before .before .before .has .ensures) (c .before .before .has2 .ensures) _ (c .if5 .taken)
+
+returns-6 : tie.Need-returns-6
+returns-6 c flags guarded s = by-fixed-point flags guarded _ _ _ s _ _ (c .before .before .before .before .has .ensures) (c .before .before .before .has2 .ensures) _ (c .if6 .taken)
+
+returns-7 : tie.Need-returns-7
+returns-7 c flags guarded s = by-variable flags guarded _ _ _ s _ _ (c .before .before .before .before .has .ensures) (c .before .before .before .has2 .ensures) _
+    (c .before .before .before .before .before .before .before .if1 .left) (c .before .before .before .before .before .before .if2 .left) (c .before .before .before .before .before .if3 .left) (c .before .before .if4 .left) (c .before .if5 .left) (c .if6 .left)
+
+pub node-derives-spec : {M : Type 1} → statement M
+node-derives-spec =
+    tie.close
+    (tie.spec
+    returns
+    returns-2
+    returns-3
+    add-has
+    has-requires
+    has-requires-2
+    returns-4
+    returns-5
+    returns-6
+    returns-7)
