@@ -20,20 +20,20 @@ add-has c = omega arith
 has-requires : tie.Need-has-requires
 has-requires c κs = search needs
 
-has-requires-2 : tie.Need-has-requires-2
-has-requires-2 c κs = search needs
+has-entry-requires : tie.Need-has-entry-requires
+has-entry-requires c κs = search needs
 
 returns-4 : tie.Need-returns-4
-returns-4 c flags guarded s = by-sequence flags guarded _ _ _ s _ _ (c .before .before .has .ensures) (c .before .has2 .ensures) _ (c .if4 .taken)
+returns-4 c flags guarded s = by-sequence flags guarded _ _ _ s _ _ (c .before .before .has .ensures) (c .before .has-entry .ensures) _ (c .if4 .taken)
 
 returns-5 : tie.Need-returns-5
-returns-5 c flags guarded s = by-alternative flags guarded _ _ _ s _ _ (c .before .before .before .has .ensures) (c .before .before .has2 .ensures) _ (c .if5 .taken)
+returns-5 c flags guarded s = by-alternative flags guarded _ _ _ s _ _ (c .before .before .before .has .ensures) (c .before .before .has-entry .ensures) _ (c .if5 .taken)
 
 returns-6 : tie.Need-returns-6
-returns-6 c flags guarded s = by-fixed-point flags guarded _ _ _ s _ _ (c .before .before .before .before .has .ensures) (c .before .before .before .has2 .ensures) _ (c .if6 .taken)
+returns-6 c flags guarded s = by-fixed-point flags guarded _ _ _ s _ _ (c .before .before .before .before .has .ensures) (c .before .before .before .has-entry .ensures) _ (c .if6 .taken)
 
 returns-7 : tie.Need-returns-7
-returns-7 c flags guarded s = by-variable flags guarded _ _ _ s _ _ (c .before .before .before .before .has .ensures) (c .before .before .before .has2 .ensures) _
+returns-7 c flags guarded s = by-variable flags guarded _ _ _ s _ _ (c .before .before .before .before .has .ensures) (c .before .before .before .has-entry .ensures) _
     (c .before .before .before .before .before .before .before .if1 .left) (c .before .before .before .before .before .before .if2 .left) (c .before .before .before .before .before .if3 .left) (c .before .before .if4 .left) (c .before .if5 .left) (c .if6 .left)
 
 pub node-derives-spec : {M : Type 1} → statement M
@@ -45,7 +45,7 @@ node-derives-spec =
     returns-3
     add-has
     has-requires
-    has-requires-2
+    has-entry-requires
     returns-4
     returns-5
     returns-6
