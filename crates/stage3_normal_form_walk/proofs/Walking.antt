@@ -133,8 +133,14 @@ module _ (tag link : List ℕ) (guarded : ℕ) (first : List ℕ) (productive t 
         go true e y f = rw (eqb-true (getD tag n 0) 4 e, add-one n) (either (bit (column-first first (suc n)) t))
         go false e true f = rw (eqb-true (getD tag n 0) 5 f, add-one n)
         go false e false f =
-            rw (ne-eqb (getD tag n 0) 0 (λ z. a (omega arith)), ne-eqb (getD tag n 0) 1 (λ z. a (omega arith)),
-            ne-eqb (getD tag n 0) 2 b, ne-eqb (getD tag n 0) 3 c, e, f)
+            rw (
+              ne-eqb (getD tag n 0) 0 (λ z. a (omega arith)),
+              ne-eqb (getD tag n 0) 1 (λ z. a (omega arith)),
+              ne-eqb (getD tag n 0) 2 b,
+              ne-eqb (getD tag n 0) 3 c,
+              e,
+              f,
+            )
 
 -- A node remembered before the others.
 pub remembered : (rights : List ℕ) (start r : ℕ) → 0 < start → start ≤ length rights

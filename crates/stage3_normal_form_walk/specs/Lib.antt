@@ -1,2 +1,3 @@
--- What columns hold of a typed expression, and what the walk's results mean.
+-- What columns hold of a typed expression, and what the results of the code mean.
 pub mod Columns
+pub mod ColumnLaws

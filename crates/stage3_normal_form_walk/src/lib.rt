@@ -1,7 +1,6 @@
 // The normal form without a table: which nodes derive a token sequence, and a node's production for a token, found by a walk
 // over the nodes that FIRST guides. Rules and the numbers that nodes get in an image are not spoken of here.
 use stage2_types_columns::NodeLinks;
-
 ghost use mathlib.Core.Path.{_≡_};
 ghost use mathlib.Core.Bool.{Bool, false, cond};
 ghost use mathlib.Core.List.{List, []};
@@ -183,7 +182,14 @@ fn next_node(tag: u8, link: u8, n: usize, first: &[u32; 64], token: u8) -> usize
 
 // The walk for a token from a node. A sequence remembers its right node and leads into its left part; one whose right node
 // derives no token sequence has no production. No typed expression needs more steps than it has nodes.
-fn walk<'a>(tag: &'a [u8; 64], link: &'a [u8; 64], first: &'a [u32; 64], productive: u64, node: usize, token: u8) -> Walked
+fn walk<'a>(
+    tag: &'a [u8; 64],
+    link: &'a [u8; 64],
+    first: &'a [u32; 64],
+    productive: u64,
+    node: usize,
+    token: u8,
+) -> Walked
     ensures { λ r. ⌜ (r .start ≤ 64)
         × ((guarded : ℕ) → walked r
         ≡ column-walk (now (tag .entry)) (now (link .entry)) guarded (now (first .entry)) productive token 64 node []) ⌝ }
@@ -241,7 +247,14 @@ fn tail_of(rights: [u8; 64], start: usize) -> Tail
 }
 
 // A node's production for a token in the normal form. A token outside FIRST needs no walk.
-pub fn production<'a>(tag: &'a [u8; 64], link: &'a [u8; 64], first: &'a [u32; 64], productive: u64, node: usize, token: u8) -> Tail
+pub fn production<'a>(
+    tag: &'a [u8; 64],
+    link: &'a [u8; 64],
+    first: &'a [u32; 64],
+    productive: u64,
+    node: usize,
+    token: u8,
+) -> Tail
     ensures { λ r. ⌜ ((e : Expression) → ColumnsOf (now (tag .entry)) (now (link .entry)) (now (first .entry)) productive e
         → node < size e
         → production-held token r ≡ production-of token ((row-of (normal-form e) node) .productions)) ⌝ }

@@ -45,8 +45,8 @@ loop-again c =
     let links = c .before .before .before .before .before .before .args .t1 in (
       omega arith,
       λ flags s. subst (FoundBelow (node-holds links flags) (l .n + 1)) (sym (c .with .ensures))
-      (found-more (node-holds links flags) (l .n) (l .next) (c .before .node-derives .result)
-      (c .before .node-derives .ensures flags (bit (links .guarded) (l .n)) s) (l .inv .1 flags s)),
+          (found-more (node-holds links flags) (l .n) (l .next) (c .before .node-derives .result)
+          (c .before .node-derives .ensures flags (bit (links .guarded) (l .n)) s) (l .inv .1 flags s)),
     )
 
 returns : tie.Need-returns Inv-loop μ-loop

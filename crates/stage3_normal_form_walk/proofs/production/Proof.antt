@@ -1,44 +1,42 @@
+-- `stage3_normal_form_walk::production` meets its contract: one law for each answer.
 use borrow.Author.Needs.{needs}
+use mathlib.Core.Path.{_≡_, sym, _∙_}
+use Prim.Native.Nat.{ℕ}
+use lib.ListN.{length}
+use Rattle.stage3_normal_form_walk.proofs.Walking.{not-true, not-false}
+use Rattle.stage3_normal_form_walk.proofs.Joined.{right-outside, right-none, right-found}
 use Rattle.stage3_normal_form_walk.proofs.production.Statement.{statement}
 use Rattle.stage3_normal_form_walk.proofs.production.Tie as tie
-use Rattle.stage3_normal_form_walk.proofs.production.Reads as reads
-use Rattle.stage3_normal_form_walk.proofs.production.Lts as lts
-use Rattle.stage3_normal_form_walk.proofs.begins.Reads as begins-reads
-use Rattle.stage3_normal_form_walk.proofs.no_tail.Reads as no-tail-reads
-use Rattle.stage3_normal_form_walk.proofs.tail_of.Reads as tail-of-reads
-use Rattle.stage3_normal_form_walk.proofs.walk.Reads as walk-reads
 
--- src/lib.rt:249:9
 begins-requires : tie.Need-begins-requires
 begins-requires c κs = search needs
 
--- src/lib.rt:250:9
 no-tail-requires : tie.Need-no-tail-requires
 no-tail-requires c κs = search needs
 
--- src/lib.rt:250:9
 returns : tie.Need-returns
-returns c = ?
+returns c e h l = right-outside _ _ _ _ e h _ _ l (c .no-tail .result) (c .no-tail .ensures)
+    (sym (c .before .before .begins .ensures) ∙ not-true _ (c .before .if1 .taken))
 
--- src/lib.rt:252:9
 walk-requires : tie.Need-walk-requires
 walk-requires c κs = search needs
 
--- src/lib.rt:254:9
 no-tail-requires-2 : tie.Need-no-tail-requires-2
 no-tail-requires-2 c κs = search needs
 
--- src/lib.rt:254:9
 returns-2 : tie.Need-returns-2
-returns-2 c = ?
+returns-2 c e h l = let w = c .before .before .before .walk in
+    right-none _ _ _ _ e h _ _ l (c .no-tail2 .result) (w .result) (c .no-tail2 .ensures) (not-true _ (c .before .if2 .taken))
+    (w .ensures .1 (h .guarded))
 
--- src/lib.rt:257:5
 tail-of-requires : tie.Need-tail-of-requires
 tail-of-requires c κs = search needs
 
--- src/lib.rt:244:1
 returns-3 : tie.Need-returns-3
-returns-3 c = ?
+returns-3 c e h l = let w = c .before .before .before .before .walk in
+    let full : length (w .result .rights) ≡ 64 = search needs in
+    right-found _ _ _ _ e h _ _ l (c .tail-of .result) (w .result) (not-false _ (c .before .before .if2 .left)) full
+    (w .ensures .1 (h .guarded)) (c .tail-of .ensures)
 
 pub production-spec : {M : Type 1} → statement M
 production-spec =
