@@ -64,11 +64,11 @@ ending flags none rights = none
 ending flags (some q) rights = cond (all-derive flags (q .tail)) (some (q .tail ++ rights)) none
 
 -- What is found is a member that begins with t, and if nothing is found, there is none.
-abbrev Found : ℕ → List Production → Option Production → Type 0
+abbrev pub Found : ℕ → List Production → Option Production → Type 0
 Found t l none = (q : Production) → List·Memᴰ q l → q .head ≡ t → ⊥
 Found t l (some q) = List·Memᴰ q l × (q .head ≡ t)
 
-beginning-found : (t : ℕ) (l : List Production) → Found t l (beginning-with t l)
+pub beginning-found : (t : ℕ) (l : List Production) → Found t l (beginning-with t l)
 unfolding beginning-with
 beginning-found t [] = λ q m e. List·Memᴰ·not-nil m
 beginning-found t (p ∷ ps) = go (eqb (p .head) t) refl (beginning-with t ps) (beginning-found t ps)

@@ -1,11 +1,10 @@
 -- The walk over the columns of a typed expression is the definition's walk, so it finds the normal form's production.
 use mathlib.Core.Path.{_≡_, refl, sym, ap, ap₂, _∙_}
-use mathlib.Core.Bool.{Bool, true, false, cond}
+use mathlib.Core.Bool.{true, false, cond}
 use mathlib.Core.List.{List, [], _∷_}
 use mathlib.Core.Option.{Option, none, some}
-use Prim.Native.Nat.{ℕ, zero, suc, _-_, _≤_, _<_}
+use Prim.Native.Nat.{ℕ, zero, suc, _≤_, _<_}
 use native.Mathlib.Omega.{arith}
-use lib.Dec.{eqb}
 use lib.ListN.{getD, length, drop, length-drop}
 use borrow.Author.Tests.{lt-ltb}
 use Rattle.stage0_laws.specs.Bits.{bit}
@@ -20,17 +19,13 @@ use Rattle.stage3_normal_form.specs.Productions.{Production, row-of}
 use Rattle.stage3_normal_form.specs.Derives.{derives-at, derives}
 use Rattle.stage3_normal_form.specs.NormalForm.{normal-form}
 use Rattle.stage3_normal_form.specs.Places.{node-at}
-use Rattle.stage3_normal_form.specs.ProductionWalk.{walk-step, walk, walk-of, with-head, beginning-with, walk-finds, walk-short, first-has-not, LinksBelow, links-below}
+use Rattle.stage3_normal_form.specs.ProductionWalk.{walk-step, walk, walk-of, with-head, walk-finds, walk-short, first-has-not, LinksBelow, links-below}
 use Rattle.stage5_image.specs.Fusion.{production-of}
-use Rattle.stage3_normal_form_walk.specs.Columns.{ColumnsOf, tail-held, production-held, walked, column-node, column-first, column-walk}
+use Rattle.stage3_normal_form_walk.specs.Columns.{ColumnsOf, tail-held, production-held}
+use Rattle.stage3_normal_form_walk.specs.ColumnLaws.{beginning-is-production}
+use Rattle.stage3_normal_form_walk.specs.ColumnWalk.{walked, column-node, column-first, column-walk}
 use Rattle.stage3_normal_form_walk.specs.declared.Tail.{Tail}
 use Rattle.stage3_normal_form_walk.specs.declared.Walked.{Walked}
-
--- The definition's way to find a production in a list, under its name in the walk's theory.
-beginning-is-production : (t : ℕ) (l : List Production) → beginning-with t l ≡ production-of t l
-unfolding beginning-with production-of
-beginning-is-production t [] = refl
-beginning-is-production t (p ∷ l) = ap (λ o. elim (eqb (p .head) t) [ true ↦ some p | false ↦ o ]) (beginning-is-production t l)
 
 module _ (tag link first : List ℕ) (productive : ℕ) (e : Expression) (c : ColumnsOf tag link first productive e) (t : ℕ) where
   abbrev walks : ℕ → ℕ → List ℕ → Option (List ℕ)
@@ -54,7 +49,8 @@ module _ (tag link first : List ℕ) (productive : ℕ) (e : Expression) (c : Co
 
   -- One step, if the walks from the nodes that it may lead to are the same.
   step-same : (k : ℕ) → ((n : ℕ) (rights : List ℕ) → n < size e → walks k n rights ≡ walk-of e t k n rights)
-      → (x : Node) → LinksBelow (size e) x → (rights : List ℕ) → column-step (walks k) x rights ≡ own-step (walk-of e t k) x rights
+      → (x : Node) → LinksBelow (size e) x → (rights : List ℕ)
+      → column-step (walks k) x rights ≡ own-step (walk-of e t k) x rights
   unfolding walk-step
   step-same k h epsilon-node b rights = refl
   step-same k h bottom-node b rights = refl
@@ -93,9 +89,11 @@ module _ (tag link first : List ℕ) (productive : ℕ) (e : Expression) (c : Co
         ∙ beginning-is-production t ((row-of (normal-form e) n) .productions))
 
     -- No production, since the walk did not end at the token.
-    pub right-none : (r : Tail) (w : Walked) → r .found ≡ false → w .found ≡ false → walked w ≡ walks 64 n [] → Right (production-held t r)
+    pub right-none : (r : Tail) (w : Walked) → r .found ≡ false → w .found ≡ false → walked w ≡ walks 64 n []
+        → Right (production-held t r)
     unfolding production-held tail-held walked
-    right-none r w f g h = rw f (ap (with-head t) (ap (λ b. cond b (some (drop (w .start) (w .rights))) none) (sym g) ∙ h) ∙ walk-right)
+    right-none r w f g h =
+        rw f (ap (with-head t) (ap (λ b. cond b (some (drop (w .start) (w .rights))) none) (sym g) ∙ h) ∙ walk-right)
 
     -- The production that the walk found. Its tail has at most 31 members, so it fits.
     pub right-found : (r : Tail) (w : Walked) → w .found ≡ true → length (w .rights) ≡ 64 → walked w ≡ walks 64 n []

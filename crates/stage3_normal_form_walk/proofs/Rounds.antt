@@ -1,28 +1,29 @@
 -- Laws of the rounds that find the productive nodes: a node's equation for each way through the code, the set that one round
 -- makes, and the rounds until nothing changes.
-use mathlib.Core.Path.{_≡_, refl, sym, ap, ap₂, subst, _∙_}
+use mathlib.Core.Path.{_≡_, refl, sym, ap, ap₂, _∙_}
 use mathlib.Core.Bool.{Bool, true, false, _&&_, _||_, not, cond, true≢false}
-use mathlib.Core.List.{List, [], _∷_, map}
+use mathlib.Core.List.{List, [], _∷_}
 use mathlib.Core.Logic.{_⊎_, inl, inr, ⊎-elim}
-use Prim.Native.Nat.{ℕ, zero, suc, _+_, _-_, _^_, _≤_, _<_}
+use Prim.Native.Nat.{ℕ, zero, suc, _+_, _^_, _≤_, _<_}
 use native.Mathlib.Omega.{arith}
 use native.Mathlib.Nat.{zero-add}
 use native.Mathlib.Numerals.{add-one}
 use lib.Dec.{eqb}
 use lib.Bits.{bitOr}
-use lib.ListN.{getD, length, replicate, length-map, length-replicate, List·getD-map, List·getD-eq-default}
-use borrow.Author.Tests.{eq-eqb, ne-eqb, eqb-true}
+use lib.ListN.{getD, length, replicate, length-map, length-replicate, List·getD-eq-default}
+use borrow.Author.Tests.{eq-eqb, ne-eqb}
 use Rattle.stage0_laws.specs.Bits.{bit}
 use Rattle.stage0_laws.specs.BitLaws.{bit-or, bit-one, bit-zero, bit-ext-all}
 use Rattle.stage0_laws.specs.Lists.{settle}
-use Rattle.stage0_laws.specs.Order.{compare-cases, lt-or-le}
+use Rattle.stage0_laws.specs.Order.{lt-or-le}
 use Rattle.stage1_sheet.specs.Expression.{Expression}
 use Rattle.stage2_types.specs.Nodes.{Node, bottom-node, nodes}
-use Rattle.stage2_types_columns.specs.Tabulate.{tabulate, tabulate-length, tabulate-at}
+use Rattle.stage2_types_columns.specs.Tabulate.{tabulate-length, tabulate-at}
 use Rattle.stage2_types_columns.specs.Held.{node-of, held-node, held-nodes}
 use Rattle.stage2_types_columns.specs.declared.NodeLinks.{NodeLinks}
 use Rattle.stage3_normal_form.specs.Derives.{derives-at, node-derives, next-derives, same-flags, derives}
 use Rattle.stage3_normal_form.specs.Places.{node-at, list-path}
+use Rattle.stage3_normal_form.specs.DerivesExact.{same-flags-path, next-derives-at}
 use Rattle.stage3_normal_form_walk.specs.Columns.{SetOf}
 
 -- A node's equation, by its tag.
@@ -118,34 +119,26 @@ node-holds links flags n =
 
 pub found-all : (links : NodeLinks) (flags : List Bool) (set : ℕ) → FoundBelow (node-holds links flags) (links .count) set
     → SetOf set (next-derives (held-nodes links) flags)
-unfolding next-derives held-nodes held-node node-derives
-found-all links flags set h m = sym (List·getD-map (node-derives flags) (held-nodes links) m bottom-node ∙ go (lt-or-le m (links .count)))
+unfolding held-nodes held-node node-derives
+found-all links flags set h m = sym (next-derives-at (held-nodes links) flags m ∙ go (lt-or-le m (links .count)))
   where
     hn : ℕ → Node
     hn = held-node (links .tag) (links .link) (links .guarded)
 
     go : (m < links .count) ⊎ (links .count ≤ m) → node-derives flags (node-at (held-nodes links) m) ≡ bit set m
     go (inl l) = ap (node-derives flags) (tabulate-at hn bottom-node 0 (links .count) m l ∙ ap hn (zero-add m)) ∙ sym (h .0 m l)
-    go (inr l) = ap (node-derives flags) (List·getD-eq-default (held-nodes links) bottom-node {n = m} (rw (held-count links) l)) ∙ sym (h .1 m l)
+    go (inr l) = ap (node-derives flags) (List·getD-eq-default (held-nodes links) bottom-node {n = m} (rw (held-count links) l))
+        ∙ sym (h .1 m l)
 
--- Two lists of flags of one length are the same iff their sets are.
 same-flags-self : (xs : List Bool) → same-flags xs xs ≡ true
 unfolding same-flags
 same-flags-self [] = refl
 same-flags-self (true ∷ xs) = same-flags-self xs
 same-flags-self (false ∷ xs) = same-flags-self xs
 
-same-flags-equal : (xs ys : List Bool) → same-flags xs ys ≡ true → xs ≡ ys
-unfolding same-flags
-same-flags-equal [] [] e = refl
-same-flags-equal [] (y ∷ ys) e = absurd (true≢false (sym e))
-same-flags-equal (x ∷ xs) [] e = absurd (true≢false (sym e))
-same-flags-equal (true ∷ xs) (true ∷ ys) e = ap (λ l. true ∷ l) (same-flags-equal xs ys e)
-same-flags-equal (true ∷ xs) (false ∷ ys) e = absurd (true≢false (sym e))
-same-flags-equal (false ∷ xs) (true ∷ ys) e = absurd (true≢false (sym e))
-same-flags-equal (false ∷ xs) (false ∷ ys) e = ap (λ l. false ∷ l) (same-flags-equal xs ys e)
-
-settle-end : {A : Type 0} (same : A → A → Bool) (step : A → A) (k : ℕ) (a : A) → same a (step a) ≡ true → settle same step (suc k) a ≡ a
+-- One turn of settling.
+settle-end : {A : Type 0} (same : A → A → Bool) (step : A → A) (k : ℕ) (a : A) → same a (step a) ≡ true
+    → settle same step (suc k) a ≡ a
 unfolding settle
 settle-end same step k a e = ap (λ b. elim b [ true ↦ a | false ↦ settle same step k (step a) ]) e
 
@@ -203,7 +196,7 @@ module _ (links : NodeLinks) (set next : ℕ) (made : NextSet links set next) wh
       go : (b : Bool) → same-flags (r .flags) (next-flags (r .flags)) ≡ b
           → rounds-from (held-nodes links) left (next-flags (r .flags)) ≡ rounds-from (held-nodes links) (suc left) (r .flags)
       go true e = absurd (ne (bit-ext-all next set (λ i. made (r .flags) (r .set-of) i
-          ∙ sym (r .set-of i ∙ ap (λ l. derives-at l i) (same-flags-equal (r .flags) (next-flags (r .flags)) e)))))
+          ∙ sym (r .set-of i ∙ ap (λ l. derives-at l i) (same-flags-path (r .flags) (next-flags (r .flags)) e)))))
       go false e = sym (settle-more same-flags (next-derives (held-nodes links)) left (r .flags) e)
 
   -- One that does not change it is the last.
@@ -228,7 +221,8 @@ module _ (links : NodeLinks) (set next : ℕ) (made : NextSet links set next) wh
           ∙ (ap (same-flags (r .flags)) same ∙ e)))
 
 -- With no round left, the set is the definition's.
-pub reached-end : (links : NodeLinks) (set : ℕ) → Reached links set 0 → (e : Expression) → held-nodes links ≡ nodes e → SetOf set (derives e)
+pub reached-end : (links : NodeLinks) (set : ℕ) → Reached links set 0 → (e : Expression) → held-nodes links ≡ nodes e
+    → SetOf set (derives e)
 unfolding settle derives
 reached-end links set r e h i = r .set-of i ∙ ap (λ l. derives-at l i) (r .same-end ∙ whole)
   where

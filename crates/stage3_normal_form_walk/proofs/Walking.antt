@@ -1,15 +1,14 @@
 -- Laws of the walk over columns: one for each way through a step, the remembered nodes in their array, and the nodes moved to the
 -- front. That the walk over the columns of a typed expression is the definition's walk is proved elsewhere.
-use mathlib.Core.Path.{_≡_, refl, sym, ap, ap₂, subst, _∙_}
+use mathlib.Core.Path.{_≡_, refl, sym, ap, ap₂, _∙_}
 use mathlib.Core.Bool.{Bool, true, false, not, cond}
 use mathlib.Core.List.{List, [], _∷_, _++_}
-use mathlib.Core.Logic.{⊎-elim}
 use mathlib.Core.Option.{Option, none, some}
 use Prim.Native.Nat.{ℕ, zero, suc, _+_, _-_, _≤_, _<_}
 use native.Mathlib.Omega.{arith}
 use native.Mathlib.Numerals.{add-one}
 use lib.Dec.{eqb}
-use lib.ListN.{getD, length, set, take, drop, length-set, length-drop, List·getD-eq-default, drop-of-length-le}
+use lib.ListN.{getD, length, set, take, drop, length-set, length-drop, drop-of-length-le}
 use lib.Seq.{drop-cons, getD-set-same, drop-set-lt, take-all, take-suc-set, getD-drop, take-suc}
 use borrow.Author.Tests.{ne-eqb, eqb-true, lt-ltb, le-ltb}
 use Rattle.stage0_laws.specs.Bits.{bit}
@@ -17,8 +16,8 @@ use Rattle.stage0_laws.specs.BitLaws.{bit-zero}
 use Rattle.stage2_types.specs.Nodes.{bottom-node}
 use Rattle.stage2_types_columns.specs.Held.{node-of, held-node}
 use Rattle.stage3_normal_form.specs.ProductionWalk.{walk-step, walk}
-use Rattle.stage3_normal_form_walk.specs.Columns.{tail-held, walked, column-node, column-first, next-node, column-walk}
-use Rattle.stage3_normal_form_walk.specs.declared.Tail.{Tail}
+use Rattle.stage3_normal_form_walk.specs.Columns.{tail-held}
+use Rattle.stage3_normal_form_walk.specs.ColumnWalk.{walked, column-node, column-first, next-node, column-walk}
 use Rattle.stage3_normal_form_walk.specs.declared.Walked.{Walked}
 
 pub not-true : (b : Bool) → not b ≡ true → b ≡ false
@@ -191,23 +190,38 @@ module _ (tag link first : List ℕ) (productive node t : ℕ) where
   }
 
   module _ (w : Walked) (at left : ℕ) (x : Goes w at left) where
+    abbrev walks-on : ℕ → Option (List ℕ)
+    walks-on guarded = column-walk tag link guarded first productive t left at (drop (w .start) (w .rights))
+
     -- The walk ends without the token.
-    pub ended-none : ((guarded : ℕ) → column-walk tag link guarded first productive t left at (drop (w .start) (w .rights)) ≡ none)
-        → Ended tag link first productive node t w
+    ended-none : ((guarded : ℕ) → walks-on guarded ≡ none) → Ended tag link first productive node t w
     unfolding walked
     ended-none h = (x .within, λ guarded. rw (x .not-found) (sym (h guarded) ∙ x .same guarded))
 
+    pub ended-steps : left ≤ 0 → Ended tag link first productive node t w
+    ended-steps h = ended-none (λ guarded. no-step tag link guarded first productive t left at _ h)
+
+    pub ended-past : 0 < left → 64 ≤ at → Ended tag link first productive node t w
+    ended-past more h = ended-none (λ guarded. walk-past tag link guarded first productive t left at _ more h)
+
     module _ (more : 0 < left) (here : at < 64) where
+      pub ended-bare : getD tag at 0 < 2 → Ended tag link first productive node t w
+      ended-bare h = ended-none (λ guarded. walk-none tag link guarded first productive t left at _ more here h)
+
+      pub ended-dead : getD tag at 0 ≡ 3 → bit productive (getD link at 0) ≡ false → Ended tag link first productive node t w
+      ended-dead e b = ended-none (λ guarded. walk-dead tag link guarded first productive t left at _ more here e b)
+
       pub ended-token : getD tag at 0 ≡ 2
           → Ended tag link first productive node t (record { found = eqb (getD link at 0) t; start = w .start; rights = w .rights })
       unfolding walked
       ended-token e = (
         x .within,
-        λ guarded. sym (walk-token tag link guarded first productive t left at (drop (w .start) (w .rights)) more here e) ∙ x .same guarded,
+        λ guarded. sym (walk-token tag link guarded first productive t left at _ more here e) ∙ x .same guarded,
       )
 
       pub walking-right : getD tag at 0 ≡ 3 → bit productive (getD link at 0) ≡ true
-          → Goes (record { found = w .found; start = w .start - 1; rights = set (w .rights) (w .start - 1) (getD link at 0) }) (at + 1) (left - 1)
+          → Goes (record { found = w .found; start = w .start - 1; rights = set (w .rights) (w .start - 1) (getD link at 0) })
+          (at + 1) (left - 1)
       walking-right e b = let r = x .room in let i = x .within in let f = x .full in record {
         not-found = x .not-found;
         room = omega arith;
@@ -215,7 +229,7 @@ module _ (tag link first : List ℕ) (productive node t : ℕ) where
         full = length-set (w .rights) (w .start - 1) (getD link at 0) ∙ x .full;
         same = λ guarded. ap (column-walk tag link guarded first productive t (left - 1) (at + 1))
             (remembered (w .rights) (w .start) (getD link at 0) (omega arith) (omega arith))
-            ∙ (sym (walk-right tag link guarded first productive t left at (drop (w .start) (w .rights)) more here e b) ∙ x .same guarded);
+            ∙ (sym (walk-right tag link guarded first productive t left at _ more here e b) ∙ x .same guarded);
       }
 
       pub walking-on : (getD tag at 0 < 2 → ⊥) → (getD tag at 0 ≡ 2 → ⊥) → (getD tag at 0 ≡ 3 → ⊥) → (next : ℕ)
@@ -226,12 +240,14 @@ module _ (tag link first : List ℕ) (productive node t : ℕ) where
         within = x .within;
         full = x .full;
         same = λ guarded. ap (λ n. column-walk tag link guarded first productive t (left - 1) n (drop (w .start) (w .rights))) e
-            ∙ (sym (walk-on tag link guarded first productive t left at (drop (w .start) (w .rights)) more here a b c) ∙ x .same guarded);
+            ∙ (sym (walk-on tag link guarded first productive t left at _ more here a b c) ∙ x .same guarded);
       }
 
 -- The remembered nodes moved to the front are the tail.
 pub all-moved : (rights members : List ℕ) (start i : ℕ) → length rights ≡ 64 → 64 - start ≤ i → i ≤ 64 - start
-    → take i members ≡ take i (drop start rights) → tail-held (record { found = true; count = 64 - start; members = members }) ≡ some (drop start rights)
+    → take i members ≡ take i (drop start rights)
+    → tail-held (record { found = true; count = 64 - start; members = members }) ≡ some (drop start rights)
 unfolding tail-held
 all-moved rights members start i f h k e =
-    ap some (ap (λ j. take j members) {x = 64 - start} {y = i} (omega arith) ∙ (e ∙ take-all i (drop start rights) (rw length-drop (omega arith))))
+    ap some (ap (λ j. take j members) {x = 64 - start} {y = i} (omega arith)
+    ∙ (e ∙ take-all i (drop start rights) (rw length-drop (omega arith))))

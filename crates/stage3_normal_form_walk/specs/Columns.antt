@@ -4,23 +4,21 @@ use mathlib.Core.Path.{_≡_}
 use mathlib.Core.Bool.{Bool, cond}
 use mathlib.Core.List.{List}
 use mathlib.Core.Option.{Option, none, some}
-use Prim.Native.Nat.{ℕ, _+_, _≤_, _<_}
-use lib.Dec.{eqb, ltb}
-use lib.ListN.{getD, take, drop}
+use Prim.Native.Nat.{ℕ, _≤_, _<_}
+use lib.ListN.{getD, take}
 use Rattle.stage0_laws.specs.Bits.{bit}
 use Rattle.stage1_sheet.specs.Expression.{Expression, size}
 use Rattle.stage1_sheet.specs.Limits.{most-tokens, most-expression-nodes}
 use Rattle.stage1_sheet.specs.WellFormed.{Closed}
-use Rattle.stage2_types.specs.Nodes.{Node, bottom-node, nodes}
+use Rattle.stage2_types.specs.Nodes.{nodes}
 use Rattle.stage2_types.specs.LeastTypes.{type-of, least-types}
 use Rattle.stage2_types.specs.Questions.{type-fault}
 use Rattle.stage2_types_columns.specs.Held.{held-node}
 use Rattle.stage3_normal_form.specs.Productions.{Production}
 use Rattle.stage3_normal_form.specs.Derives.{derives-at, derives}
 use Rattle.stage3_normal_form.specs.Places.{node-at}
-use Rattle.stage3_normal_form.specs.ProductionWalk.{walk, with-head}
+use Rattle.stage3_normal_form.specs.ProductionWalk.{with-head}
 use Rattle.stage3_normal_form_walk.specs.declared.Tail.{Tail}
-use Rattle.stage3_normal_form_walk.specs.declared.Walked.{Walked}
 
 -- The set has exactly the nodes that are flagged.
 abbrev pub SetOf : ℕ → List Bool → Type 0
@@ -46,23 +44,3 @@ tail-held r = cond (r .found) (some (take (r .count) (r .members))) none
 -- The same as a production for a token.
 unfoldable pub production-held : ℕ → Tail → Option Production
 production-held t r = with-head t (tail-held r)
-
--- The right nodes that a walk has remembered, the last one first, if it has ended at the token.
-unfoldable pub walked : Walked → Option (List ℕ)
-walked w = cond (w .found) (some (drop (w .start) (w .rights))) none
-
--- Node n of the columns. From 64 on there is a node that has no productions, as ⊥ has none, and that begins with no token.
-unfoldable pub column-node : List ℕ → List ℕ → ℕ → ℕ → Node
-column-node tag link guarded n = cond (ltb n 64) (held-node tag link guarded n) bottom-node
-
-unfoldable pub column-first : List ℕ → ℕ → ℕ
-column-first first n = cond (ltb n 64) (getD first n 0) 0
-
--- The node after an alternative, a fixed point or a variable.
-unfoldable pub next-node : ℕ → ℕ → ℕ → List ℕ → ℕ → ℕ
-next-node tag link n first t =
-    cond (eqb tag 4) (cond (bit (column-first first (n + 1)) t) (n + 1) link) (cond (eqb tag 5) (n + 1) link)
-
--- The walk over columns, in so many steps.
-abbrev pub column-walk : List ℕ → List ℕ → ℕ → List ℕ → ℕ → ℕ → ℕ → ℕ → List ℕ → Option (List ℕ)
-column-walk tag link guarded first productive t = walk (column-node tag link guarded) (column-first first) (bit productive) t

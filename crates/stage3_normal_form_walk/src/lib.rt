@@ -11,12 +11,13 @@ ghost use lib.ListN.{drop};
 ghost use Rattle.stage0_laws.specs.Bits.{bit};
 ghost use Rattle.stage1_sheet.specs.Expression.{Expression, size};
 ghost use Rattle.stage2_types.specs.Nodes.{nodes};
-ghost use Rattle.stage2_types_columns.specs.Held.{node-of, held-node, held-nodes};
+ghost use Rattle.stage2_types_columns.specs.Held.{node-of, held-nodes};
 ghost use Rattle.stage3_normal_form.specs.Productions.{row-of};
 ghost use Rattle.stage3_normal_form.specs.Derives.{derives, node-derives, next-derives};
 ghost use Rattle.stage3_normal_form.specs.NormalForm.{normal-form};
 ghost use Rattle.stage5_image.specs.Fusion.{production-of};
-ghost use Rattle.stage3_normal_form_walk.specs.Columns.{SetOf, ColumnsOf, tail-held, production-held, walked, next-node, column-first, column-walk};
+ghost use Rattle.stage3_normal_form_walk.specs.Columns.{SetOf, ColumnsOf, tail-held, production-held};
+ghost use Rattle.stage3_normal_form_walk.specs.ColumnWalk.{walked, column-first, next-node, column-walk};
 
 // Whether n is in a set. No number from 64 on is.
 fn has(set: u64, n: usize) -> bool
@@ -56,7 +57,8 @@ fn with(set: u64, n: usize, member: bool) -> u64
 // Whether node n derives a token sequence, from the nodes that are known to. Its left part, or its body, is the next node.
 fn node_derives(tag: u8, link: u8, n: usize, set: u64) -> bool
     requires { ⌜ n < 64 ⌝ }
-    ensures { λ r. ⌜ ((flags : List Bool) (guarded : Bool) → SetOf set flags → r ≡ node-derives flags (node-of tag link guarded n)) ⌝ }
+    ensures { λ r. ⌜ ((flags : List Bool) (guarded : Bool) → SetOf set flags
+        → r ≡ node-derives flags (node-of tag link guarded n)) ⌝ }
 {
     if tag == 0 {
         return true;
@@ -143,7 +145,7 @@ fn first_walked() -> Walked
 
 // No production.
 fn no_tail() -> Tail
-    ensures { λ r. ⌜ r .found ≡ false ⌝ }
+    ensures { λ r. ⌜ (r .found ≡ false) × (r .count ≡ 0) ⌝ }
 {
     Tail {
         found: false,
@@ -229,7 +231,7 @@ fn walk<'a>(
 // The remembered nodes as a tail. A tail has at most 31 members, so more than 32 are none.
 fn tail_of(rights: [u8; 64], start: usize) -> Tail
     requires { ⌜ start ≤ 64 ⌝ }
-    ensures { λ r. ⌜ (32 ≤ start → tail-held r ≡ some (drop start rights)) ⌝ }
+    ensures { λ r. ⌜ (r .count ≤ 32) × (32 ≤ start → tail-held r ≡ some (drop start rights)) ⌝ }
 {
     let mut tail = no_tail();
     if start < 32 {
@@ -255,7 +257,8 @@ pub fn production<'a>(
     node: usize,
     token: u8,
 ) -> Tail
-    ensures { λ r. ⌜ ((e : Expression) → ColumnsOf (now (tag .entry)) (now (link .entry)) (now (first .entry)) productive e
+    ensures { λ r. ⌜ (r .count ≤ 32)
+        × ((e : Expression) → ColumnsOf (now (tag .entry)) (now (link .entry)) (now (first .entry)) productive e
         → node < size e
         → production-held token r ≡ production-of token ((row-of (normal-form e) node) .productions)) ⌝ }
 {

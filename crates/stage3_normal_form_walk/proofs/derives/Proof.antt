@@ -1,6 +1,6 @@
 -- `stage3_normal_form_walk::derives` meets its contract. The loop's invariant: the set stands for flags from which the rounds
 -- that are left give what all rounds give.
-use mathlib.Core.Path.{_≡_, subst}
+use mathlib.Core.Path.{subst}
 use Prim.Native.Nat.{ℕ, suc, _≤_, _-_, _+_}
 use native.Mathlib.Omega.{arith}
 use Rattle.stage3_normal_form_walk.proofs.Rounds.{Reached, reached-start, reached-more, reached-same, reached-end}

@@ -1,9 +1,9 @@
 -- `stage3_normal_form_walk::next_productive` meets its contract. The loop's invariant: the nodes found are those below n whose
 -- equation holds.
-use mathlib.Core.Path.{_≡_, sym, ap, subst, _∙_}
-use mathlib.Core.Bool.{Bool, cond}
+use mathlib.Core.Path.{sym, subst}
+use mathlib.Core.Bool.{Bool}
 use mathlib.Core.List.{List}
-use Prim.Native.Nat.{ℕ, _≤_, _-_, _+_}
+use Prim.Native.Nat.{_≤_, _-_, _+_}
 use native.Mathlib.Omega.{arith}
 use Rattle.stage0_laws.specs.Bits.{bit}
 use Rattle.stage3_normal_form_walk.specs.Columns.{SetOf}

@@ -2,8 +2,8 @@
 use borrow.Author.Needs.{needs}
 use native.Mathlib.Omega.{arith}
 use mathlib.Core.Path.{_≡_, refl, _∙_}
-use Prim.Native.Nat.{ℕ, _+_, _-_, _≤_, _<_}
-use lib.ListN.{length, take, drop, getD, length-set}
+use Prim.Native.Nat.{_-_, _≤_}
+use lib.ListN.{length, take, drop, length-set}
 use Rattle.stage3_normal_form_walk.proofs.Walking.{moved, all-moved}
 use Rattle.stage3_normal_form_walk.proofs.tail_of.Statement.{statement}
 use Rattle.stage3_normal_form_walk.proofs.tail_of.Tie as tie
@@ -19,7 +19,7 @@ no-tail-requires : tie.Need-no-tail-requires Inv-loop μ-loop
 no-tail-requires c κs = tt
 
 returns : tie.Need-returns Inv-loop μ-loop
-returns c h = absurd (omega arith)
+returns c = (omega (arith, c .before .no-tail .ensures .1), λ h. absurd (omega arith))
 
 sub-count : tie.Need-sub-count Inv-loop μ-loop
 sub-count c = omega arith
@@ -53,11 +53,11 @@ loop-again c =
     )
 
 returns-2 : tie.Need-returns-2 Inv-loop μ-loop
-returns-2 c h =
+returns-2 c =
     let l = c .before .loop in
     let a = c .before .before .before .before .args in
     let full : length (a .t1) ≡ 64 = search needs in
-    all-moved (a .t1) (l .tail .members) (a .start) (l .i) full (omega arith) (l .inv .0) (l .inv .2)
+    (omega arith, λ h. all-moved (a .t1) (l .tail .members) (a .start) (l .i) full (omega arith) (l .inv .0) (l .inv .2))
 
 pub tail-of-spec : {M : Type 1} → statement M
 tail-of-spec =

@@ -3,10 +3,10 @@
 use borrow.Author.Needs.{needs}
 use native.Mathlib.Omega.{arith}
 use mathlib.Core.Path.{_≡_, sym, _∙_}
-use Prim.Native.Nat.{ℕ, _≤_, _<_}
-use lib.ListN.{length, drop}
-use Rattle.stage3_normal_form_walk.proofs.Walking.{not-true, not-false, walk-past, walk-none, walk-dead, no-step}
-use Rattle.stage3_normal_form_walk.proofs.Walking.{Walking, walking-first, ended-none, ended-token, walking-right, walking-on}
+use Prim.Native.Nat.{_<_}
+use lib.ListN.{length}
+use Rattle.stage3_normal_form_walk.proofs.Walking.{not-true, not-false, Walking, walking-first, walking-right, walking-on}
+use Rattle.stage3_normal_form_walk.proofs.Walking.{ended-steps, ended-past, ended-bare, ended-dead, ended-token}
 use Rattle.stage3_normal_form_walk.proofs.walk.Statement.{statement}
 use Rattle.stage3_normal_form_walk.proofs.walk.Tie as tie
 
@@ -27,13 +27,8 @@ loop-holds c =
     walking-first _ _ _ _ _ _ w (e .0) (e .1) full
 
 returns : tie.Need-returns Inv-loop μ-loop
-returns c =
-    let l = c .before .before .loop in
-    let a = c .before .before .before .before .args in
-    let more : 0 < l .left = omega arith in
-    ended-none _ _ _ _ _ _ (l .w) (l .at) (l .left) (l .inv)
-    (λ guarded. walk-past (a .tag .now) (a .link .now) guarded (a .first .now) (a .productive) (a .token) (l .left) (l .at) (drop (l .w .start) (l .w .rights))
-    more (c .if1 .taken))
+returns c = let l = c .before .before .loop in
+    ended-past _ _ _ _ _ _ (l .w) (l .at) (l .left) (l .inv) (omega arith) (c .if1 .taken)
 
 element-copy-out-kind : tie.Need-element-copy-out-kind Inv-loop μ-loop
 element-copy-out-kind c = omega arith
@@ -42,22 +37,12 @@ element-copy-out-to : tie.Need-element-copy-out-to Inv-loop μ-loop
 element-copy-out-to c = omega arith
 
 returns-2 : tie.Need-returns-2 Inv-loop μ-loop
-returns-2 c =
-    let l = c .before .before .before .before .before .loop in
-    let a = c .before .before .before .before .before .before .before .args in
-    let more : 0 < l .left = omega arith in
-    let here : l .at < 64 = omega arith in
-    ended-none _ _ _ _ _ _ (l .w) (l .at) (l .left) (l .inv)
-    (λ guarded. walk-none (a .tag .now) (a .link .now) guarded (a .first .now) (a .productive) (a .token) (l .left) (l .at) (drop (l .w .start) (l .w .rights))
-    more here (c .if2 .taken))
+returns-2 c = let l = c .before .before .before .before .before .loop in
+    ended-bare _ _ _ _ _ _ (l .w) (l .at) (l .left) (l .inv) (omega arith) (omega arith) (c .if2 .taken)
 
 returns-3 : tie.Need-returns-3 Inv-loop μ-loop
-returns-3 c =
-    let l = c .before .before .before .before .before .before .loop in
-    let a = c .before .before .before .before .before .before .before .before .args in
-    let more : 0 < l .left = omega arith in
-    let here : l .at < 64 = omega arith in
-    ended-token _ _ _ _ _ _ (l .w) (l .at) (l .left) (l .inv) more here (c .if3 .taken)
+returns-3 c = let l = c .before .before .before .before .before .before .loop in
+    ended-token _ _ _ _ _ _ (l .w) (l .at) (l .left) (l .inv) (omega arith) (omega arith) (c .if3 .taken)
 
 sub-left : tie.Need-sub-left Inv-loop μ-loop
 sub-left c = omega arith
@@ -66,14 +51,9 @@ has-entry-requires : tie.Need-has-entry-requires Inv-loop μ-loop
 has-entry-requires c κs = tt
 
 returns-4 : tie.Need-returns-4 Inv-loop μ-loop
-returns-4 c =
-    let l = c .before .before .before .before .before .before .before .before .before .loop in
-    let a = c .before .before .before .before .before .before .before .before .before .before .before .args in
-    let more : 0 < l .left = omega arith in
-    let here : l .at < 64 = omega arith in
-    ended-none _ _ _ _ _ _ (l .w) (l .at) (l .left) (l .inv)
-    (λ guarded. walk-dead (a .tag .now) (a .link .now) guarded (a .first .now) (a .productive) (a .token) (l .left) (l .at) (drop (l .w .start) (l .w .rights))
-    more here (c .before .before .if4 .taken) (sym (c .before .has-entry .ensures) ∙ not-true _ (c .if5 .taken)))
+returns-4 c = let l = c .before .before .before .before .before .before .before .before .before .loop in
+    ended-dead _ _ _ _ _ _ (l .w) (l .at) (l .left) (l .inv) (omega arith) (omega arith) (c .before .before .if4 .taken)
+    (sym (c .before .has-entry .ensures) ∙ not-true _ (c .if5 .taken))
 
 sub-start : tie.Need-sub-start Inv-loop μ-loop
 sub-start c = let l = c .before .before .before .before .before .before .before .before .before .loop in omega (arith, l .inv .room)
@@ -88,12 +68,8 @@ loop-less : tie.Need-loop-less Inv-loop μ-loop
 loop-less c = omega arith
 
 loop-again : tie.Need-loop-again Inv-loop μ-loop
-loop-again c =
-    let l = c .before .before .before .before .before .before .before .before .before .loop in
-    let a = c .before .before .before .before .before .before .before .before .before .before .before .args in
-    let more : 0 < l .left = omega arith in
-    let here : l .at < 64 = omega arith in
-    walking-right _ _ _ _ _ _ (l .w) (l .at) (l .left) (l .inv) more here (c .before .before .if4 .taken)
+loop-again c = let l = c .before .before .before .before .before .before .before .before .before .loop in
+    walking-right _ _ _ _ _ _ (l .w) (l .at) (l .left) (l .inv) (omega arith) (omega arith) (c .before .before .if4 .taken)
     (sym (c .before .has-entry .ensures) ∙ not-false _ (c .if5 .left))
 
 next-node-requires : tie.Need-next-node-requires Inv-loop μ-loop
@@ -103,20 +79,13 @@ loop-less-2 : tie.Need-loop-less-2 Inv-loop μ-loop
 loop-less-2 c = omega arith
 
 loop-again-2 : tie.Need-loop-again-2 Inv-loop μ-loop
-loop-again-2 c =
-    let l = c .before .before .before .before .before .before .before .before .loop in
-    let a = c .before .before .before .before .before .before .before .before .before .before .args in
-    let more : 0 < l .left = omega arith in
-    let here : l .at < 64 = omega arith in
-    walking-on _ _ _ _ _ _ (l .w) (l .at) (l .left) (l .inv) more here
+loop-again-2 c = let l = c .before .before .before .before .before .before .before .before .loop in
+    walking-on _ _ _ _ _ _ (l .w) (l .at) (l .left) (l .inv) (omega arith) (omega arith)
     (λ h. omega (arith, h, c .before .before .before .if2 .left)) (c .before .before .if3 .left) (c .before .if4 .left) _ (c .next-node .ensures)
 
 returns-5 : tie.Need-returns-5 Inv-loop μ-loop
-returns-5 c =
-    let l = c .before .loop in
-    let a = c .before .before .before .args in
-    ended-none _ _ _ _ _ _ (l .w) (l .at) (l .left) (l .inv)
-    (λ guarded. no-step (a .tag .now) (a .link .now) guarded (a .first .now) (a .productive) (a .token) (l .left) (l .at) (drop (l .w .start) (l .w .rights)) (omega arith))
+returns-5 c = let l = c .before .loop in
+    ended-steps _ _ _ _ _ _ (l .w) (l .at) (l .left) (l .inv) (omega arith)
 
 pub walk-spec : {M : Type 1} → statement M
 walk-spec =
