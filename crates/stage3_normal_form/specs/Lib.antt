@@ -19,4 +19,7 @@ pub mod Tails
 pub mod Examples
 pub mod TypesExact
 pub mod Expansion
+pub mod LinkRanges
 pub mod ProductionWalk
+pub mod ProductionWalkLaws
+pub mod WalkExamples
