@@ -20,3 +20,7 @@ pub mod Examples
 pub mod TypesExact
 pub mod Expansion
 pub mod RightParts
+pub mod LinkRanges
+pub mod ProductionWalk
+pub mod ProductionWalkLaws
+pub mod WalkExamples
