@@ -1,2 +1,4 @@
 -- The laws that the functions' proofs cite.
 pub mod Changes
+pub mod Items
+pub mod Sweeping
