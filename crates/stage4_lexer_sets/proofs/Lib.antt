@@ -2,3 +2,4 @@
 pub mod Changes
 pub mod Items
 pub mod Sweeping
+pub mod SweepLoop

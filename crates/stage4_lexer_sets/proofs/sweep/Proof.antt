@@ -1,83 +1,99 @@
+-- `stage4_lexer_sets::sweep` meets its contract. The invariant: for all regexes that the tags may be those of, the stack and the follow
+-- sets are those of the regexes of the items done.
+use native.Mathlib.Omega.{arith}
+use mathlib.Core.Path.{_≡_, refl, sym, ap, _∙_, subst}
+use mathlib.Core.List.{List}
+use Prim.Native.Nat.{ℕ, _≤_, _-_, _+_}
+use Rattle.stage1_sheet.specs.Regex.{Regex}
+use Rattle.stage4_lexer_sets.specs.declared.Node.{Node}
+use Rattle.stage4_lexer_sets.specs.Forests.{RegexesHeld}
+use Rattle.stage4_lexer_sets.proofs.SweepLoop.{Swept, swept-start, Turn, turn, swept-more, swept-end}
 use Rattle.stage4_lexer_sets.proofs.sweep.Statement.{statement}
 use Rattle.stage4_lexer_sets.proofs.sweep.Tie as tie
-use Rattle.stage4_lexer_sets.proofs.sweep.Reads as reads
-use Rattle.stage4_lexer_sets.proofs.sweep.Lts as lts
-use Rattle.stage4_lexer_sets.proofs.join_follow.Reads as join-follow-reads
-use Rattle.stage4_lexer_sets.proofs.node_of.Reads as node-of-reads
 
 abbrev Inv-loop : tie.InvT-loop
-Inv-loop tag items classes stack₀ follow₀ top₀ base₀ at₀ stack follow top base at = ?
+Inv-loop tag items classes stack₀ follow₀ top₀ base₀ at₀ stack follow top base at =
+    (at ≤ items) × ((rs : List Regex) → RegexesHeld tag items classes rs → Swept rs at stack follow top base)
 
 abbrev μ-loop : tie.MeasureT-loop
-μ-loop tag items classes stack₀ follow₀ top₀ base₀ at₀ stack follow top base at = ?
+μ-loop tag items classes stack₀ follow₀ top₀ base₀ at₀ stack follow top base at = at
 
--- src/lib.rt:227:5
+-- What the witness tells at the start of a turn.
+turn-at : (c : tie.In-loop Inv-loop μ-loop)
+    → let l = c .before .loop in Turn (c .before .before .args .tag .now) (l .at) (l .stack) (l .follow) (l .top) (l .base)
+turn-at c =
+    let z = c .before .before in
+    let l = c .before .loop in
+    let w = z .pre in
+    turn _ _ _ (w .0) _ _ _ _ _ (w .1) (c .loop-test .taken) (l .inv .0) (l .inv .1 (w .0) (w .1))
+
 loop-holds : tie.Need-loop-holds Inv-loop μ-loop
-loop-holds c = ?
+loop-holds c = (omega arith, λ rs h. swept-start (c .args .tag .now) (c .args .items) (c .args .classes) rs h)
 
--- src/lib.rt:228:9
 sub-at : tie.Need-sub-at Inv-loop μ-loop
-sub-at c = ?
+sub-at c = omega arith
 
--- src/lib.rt:229:28
 element-copy-out-node-of : tie.Need-element-copy-out-node-of Inv-loop μ-loop
-element-copy-out-node-of c = ?
+element-copy-out-node-of c = omega (arith, c .before .before .pre .1 .nodes-fit)
 
--- src/lib.rt:229:37
 mul-node-of : tie.Need-mul-node-of Inv-loop μ-loop
-mul-node-of c = ?
+mul-node-of c = omega (arith, turn-at (c .before) .top-most)
 
--- src/lib.rt:229:37
 array-copy-out-node-of : tie.Need-array-copy-out-node-of Inv-loop μ-loop
-array-copy-out-node-of c = ?
+array-copy-out-node-of c = omega (arith, turn-at (c .before) .top-most)
 
--- src/lib.rt:229:55
 sub-node-of : tie.Need-sub-node-of Inv-loop μ-loop
-sub-node-of c = ?
+sub-node-of c = turn-at (c .before .before) .top-least
 
--- src/lib.rt:229:49
 mul-node-of-2 : tie.Need-mul-node-of-2 Inv-loop μ-loop
-mul-node-of-2 c = ?
+mul-node-of-2 c = omega (arith, turn-at (c .before .before) .top-most)
 
--- src/lib.rt:229:49
 array-copy-out-node-of-2 : tie.Need-array-copy-out-node-of-2 Inv-loop μ-loop
-array-copy-out-node-of-2 c = ?
+array-copy-out-node-of-2 c = omega (arith, turn-at (c .before .before) .top-most)
 
--- src/lib.rt:229:13
 node-of-requires : tie.Need-node-of-requires Inv-loop μ-loop
-node-of-requires c κs = ?
+node-of-requires c κs = let t = turn-at (c .before .before .before) in (t .base-most, t .base-least)
 
--- src/lib.rt:230:9
 join-follow-requires : tie.Need-join-follow-requires Inv-loop μ-loop
-join-follow-requires c κs = ?
+join-follow-requires c κs = turn-at (c .before .before .before .before .before) .follow-size
 
--- src/lib.rt:232:15
 add-top : tie.Need-add-top Inv-loop μ-loop
-add-top c = ?
+add-top c = omega (arith, turn-at (c .before .before .before .before .before .before .before) .top-most)
 
--- src/lib.rt:232:15
 sub-top : tie.Need-sub-top Inv-loop μ-loop
-sub-top c = ?
+sub-top c =
+    let t = turn-at (c .before .before .before .before .before .before .before .before) in
+    omega (arith, t .top-most, t .parts-most, ap (λ (n : Node). n .parts) (c .before .before .before .before .node-of .ensures))
 
--- src/lib.rt:233:9
 mul-stack : tie.Need-mul-stack Inv-loop μ-loop
-mul-stack c = ?
+mul-stack c =
+    let t = turn-at (c .before .before .before .before .before .before .before .before) in
+    omega (arith, t .top-most, t .parts-most, ap (λ (n : Node). n .parts) (c .before .before .before .before .node-of .ensures))
 
--- src/lib.rt:233:9
 array-set-from-stack : tie.Need-array-set-from-stack Inv-loop μ-loop
-array-set-from-stack c = ?
+array-set-from-stack c =
+    let t = turn-at (c .before .before .before .before .before .before .before .before) in
+    omega (arith, t .top-most, t .parts-most, ap (λ (n : Node). n .parts) (c .before .before .before .before .node-of .ensures))
 
--- src/lib.rt:227:5
 loop-less : tie.Need-loop-less Inv-loop μ-loop
-loop-less c = ?
+loop-less c = omega arith
 
--- src/lib.rt:227:5
 loop-again : tie.Need-loop-again Inv-loop μ-loop
-loop-again c = ?
+loop-again c =
+    let z = c .before .before .before .before .before .before .before .before .before .before in
+    let l = c .before .before .before .before .before .before .before .before .before .loop in
+    let i = c .before .before .before .before .before .before .before .before in (
+      omega arith,
+      λ rs h. swept-more (z .args .tag .now) (z .args .items) (z .args .classes) rs _ _ _ _ _ h (i .loop-test .taken) (l .inv .0)
+          (l .inv .1 rs h) (c .before .before .before .before .node-of .result) _ (c .before .before .before .before .node-of .ensures) (c .before .before .join-follow .ensures),
+    )
 
--- src/lib.rt:212:1
 returns : tie.Need-returns Inv-loop μ-loop
-returns c = ?
+returns c =
+    let l = c .before .loop in
+    let e : l .at ≡ 0 = omega arith in
+    λ rs h. swept-end rs (l .stack) (l .follow) (l .top) (l .base)
+    (subst (λ (n : ℕ). Swept rs n (l .stack) (l .follow) (l .top) (l .base)) e (l .inv .1 rs h))
 
 pub sweep-spec : {M : Type 1} → statement M
 sweep-spec =
