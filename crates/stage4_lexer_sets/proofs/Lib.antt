@@ -3,3 +3,4 @@ pub mod Changes
 pub mod Items
 pub mod Sweeping
 pub mod SweepLoop
+pub mod RuleLoops

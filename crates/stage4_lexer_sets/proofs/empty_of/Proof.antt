@@ -1,57 +1,65 @@
+-- `stage4_lexer_sets::empty_of` meets its contract. The invariant: the answer is that of the rules from k on.
+use native.Mathlib.Omega.{arith}
+use mathlib.Core.Path.{_≡_, refl, _∙_}
+use mathlib.Core.List.{List}
+use Prim.Native.Nat.{_≤_, _-_}
+use lib.ListN.{drop}
+use Rattle.stage1_sheet.specs.Regex.{Regex}
+use Rattle.stage4_lexer_sets.specs.Forests.{RulesStacked, first-empty}
+use Rattle.stage4_lexer_sets.proofs.RuleLoops.{empty-here, empty-later, empty-nowhere}
 use Rattle.stage4_lexer_sets.proofs.empty_of.Statement.{statement}
 use Rattle.stage4_lexer_sets.proofs.empty_of.Tie as tie
-use Rattle.stage4_lexer_sets.proofs.empty_of.Reads as reads
-use Rattle.stage4_lexer_sets.proofs.empty_of.Lts as lts
 
 abbrev Inv-loop : tie.InvT-loop
-Inv-loop count stack k₀ k = ?
+Inv-loop count stack k₀ k =
+    (k ≤ count) × ((rs : List Regex) → RulesStacked stack count rs → first-empty (drop k rs) k ≡ first-empty rs 0)
 
 abbrev μ-loop : tie.MeasureT-loop
-μ-loop count stack k₀ k = ?
+μ-loop count stack k₀ k = count - k
 
--- src/lib.rt:278:5
 loop-holds : tie.Need-loop-holds Inv-loop μ-loop
-loop-holds c = ?
+loop-holds c = (omega arith, λ rs h. refl)
 
--- src/lib.rt:279:20
 sub-top : tie.Need-sub-top Inv-loop μ-loop
-sub-top c = ?
+sub-top c = omega arith
 
--- src/lib.rt:279:19
 cast-top : tie.Need-cast-top Inv-loop μ-loop
-cast-top c = ?
+cast-top c = omega arith
 
--- src/lib.rt:279:19
 add-top : tie.Need-add-top Inv-loop μ-loop
-add-top c = ?
+add-top c = omega arith
 
--- src/lib.rt:280:20
 mul-sets : tie.Need-mul-sets Inv-loop μ-loop
-mul-sets c = ?
+mul-sets c = omega arith
 
--- src/lib.rt:280:20
 array-copy-out-sets : tie.Need-array-copy-out-sets Inv-loop μ-loop
-array-copy-out-sets c = ?
+array-copy-out-sets c = omega arith
 
--- src/lib.rt:282:13
 returns : tie.Need-returns Inv-loop μ-loop
-returns c = ?
+returns c =
+    let z = c .before .before .before .before .args in
+    let l = c .before .before .before .loop in
+    λ rs h. empty-here (z .t1) (z .count) rs (l .k) h (c .before .before .loop-test .taken) (c .if1 .taken) ∙ l .inv .1 rs h
 
--- src/lib.rt:284:9
 add-k : tie.Need-add-k Inv-loop μ-loop
-add-k c = ?
+add-k c = omega arith
 
--- src/lib.rt:278:5
 loop-less : tie.Need-loop-less Inv-loop μ-loop
-loop-less c = ?
+loop-less c = omega arith
 
--- src/lib.rt:278:5
 loop-again : tie.Need-loop-again Inv-loop μ-loop
-loop-again c = ?
+loop-again c =
+    let z = c .before .before .before .before .args in
+    let l = c .before .before .before .loop in (
+      omega arith,
+      λ rs h. empty-later (z .t1) (z .count) rs (l .k) h (c .before .before .loop-test .taken) (c .if1 .left) ∙ l .inv .1 rs h,
+    )
 
--- src/lib.rt:274:1
 returns-2 : tie.Need-returns-2 Inv-loop μ-loop
-returns-2 c = ?
+returns-2 c =
+    let z = c .before .before .args in
+    let l = c .before .loop in
+    λ rs h. empty-nowhere (z .t1) (z .count) rs (l .k) h (c .loop-test .left) ∙ l .inv .1 rs h
 
 pub empty-of-spec : {M : Type 1} → statement M
 empty-of-spec =
