@@ -4,3 +4,5 @@ pub mod Items
 pub mod Sweeping
 pub mod SweepLoop
 pub mod RuleLoops
+pub mod Ranges
+pub mod Holding
