@@ -44,7 +44,7 @@ high-one union-item = refl
 high-one star-item = refl
 
 module _ (g : RegexItem → List ℕ) (one : (i : RegexItem) → length (g i) ≡ item-classes i) where
-  entries : (is : List RegexItem) → length (flatMap g is) ≡ sum item-classes is
+  pub entries : (is : List RegexItem) → length (flatMap g is) ≡ sum item-classes is
   unfolding flatMap
   entries [] = refl
   entries (i ∷ is) = length-append (g i) (flatMap g is) ∙ ap₂ _+_ (one i) (entries is)
@@ -88,7 +88,7 @@ module _ (lows highs numbers follows : List ℕ) (ends : ℕ) where
       ∙ ap (λ (a : ℕ). held-from lows highs numbers follows ends (suc i) m ++ held-from lows highs numbers follows ends a n) (omega arith))
 
   -- What the columns say of position j, as rule k's, whose regex `whole` has its positions from a base on.
-  Owned : Regex → ℕ → ℕ → ℕ → Type 0
+  abbrev pub Owned : Regex → ℕ → ℕ → ℕ → Type 0
   Owned whole base k j =
       (getD numbers j 0 ≡ k) × (bit ends j ≡ bit (last whole base) j) × (getD follows j 0 ≡ follow whole base j)
 
@@ -96,7 +96,7 @@ module _ (lows highs numbers follows : List ℕ) (ends : ℕ) where
     class-held : (low high p : ℕ) → Starts low-of lows p (class-item low high ∷ []) → Starts high-of highs p (class-item low high ∷ [])
         → Owned whole base k p → held-position lows highs numbers follows ends p
         ≡ record { low = low; high = high; rule = k; last = bit (last whole base) p; follow = follow whole base p }
-    unfolding held-position low-of high-of flatMap Owned
+    unfolding held-position low-of high-of flatMap
     class-held low high p s t o = rw (entry lows p low (s .0) (s .1), entry highs p high (t .0) (t .1), o .0, o .1, o .2)
 
     part-held : (r : Regex) (p : ℕ) → Starts low-of lows p (regex-items-of r) → Starts high-of highs p (regex-items-of r)
@@ -122,22 +122,20 @@ module _ (lows highs numbers follows : List ℕ) (ends : ℕ) where
     part-held (star a) p s t o = part-held a p s t o
 
   -- What the columns say of position j, as one of several regexes', the first with number k.
-  AllOwned : List Regex → ℕ → ℕ → ℕ → Type 0
+  abbrev pub AllOwned : List Regex → ℕ → ℕ → ℕ → Type 0
   AllOwned rs base k j =
       (getD numbers j 0 ≡ owner rs k base j) × (bit ends j ≡ bit (all-last rs base) j) × (getD follows j 0 ≡ all-follow rs base j)
 
   owned-here : (r : Regex) (rs : List Regex) (base k j : ℕ) → j < base + class-count r → AllOwned (r ∷ rs) base k j → Owned r base k j
-  unfolding Owned AllOwned
   owned-here r rs base k j h o =
       (o .0 ∙ owner-here r rs base j k h, o .1 ∙ last-here r rs base j h, o .2 ∙ follow-here r rs base j h)
 
   owned-later : (r : Regex) (rs : List Regex) (base k j : ℕ) → base + class-count r ≤ j → AllOwned (r ∷ rs) base k j
       → AllOwned rs (base + class-count r) (suc k) j
-  unfolding Owned AllOwned
   owned-later r rs base k j h o =
       (o .0 ∙ owner-later r rs base j k h, o .1 ∙ last-later r rs base j h, o .2 ∙ follow-later r rs base j h)
 
-  rules-held : (rules : List Rule) (k base : ℕ) → Starts low-of lows base (items-of-rules rules) → Starts high-of highs base (items-of-rules rules)
+  pub rules-held : (rules : List Rule) (k base : ℕ) → Starts low-of lows base (items-of-rules rules) → Starts high-of highs base (items-of-rules rules)
       → ((j : ℕ) → base ≤ j → j < base + class-total rules → AllOwned (map (λ r. r .regex) rules) base k j)
       → held-from lows highs numbers follows ends base (class-total rules) ≡ positions-from rules k base
   unfolding positions-from items-of-rules flatMap held-from

@@ -6,3 +6,4 @@ pub mod SweepLoop
 pub mod RuleLoops
 pub mod Ranges
 pub mod Holding
+pub mod Joined
