@@ -1,6 +1,6 @@
 -- Laws of a list changed in place: what stands at a place, and that one place more is one store more.
 use mathlib.Core.Path.{_≡_, refl, sym, ap, _∙_}
-use mathlib.Core.Bool.{Bool, true, false, _&&_, cond}
+use mathlib.Core.Bool.{Bool, _&&_, cond}
 use mathlib.Core.List.{List, [], _∷_}
 use mathlib.Core.Logic.{_⊎_, inl, inr, ⊎-elim}
 use Prim.Native.Nat.{ℕ, zero, suc, _+_, _≤_, _<_}
@@ -13,7 +13,7 @@ use borrow.Author.Tests.{lt-ltb, le-ltb, le-leb, lt-leb}
 use Rattle.stage0_laws.specs.Bits.{bit}
 use Rattle.stage0_laws.specs.BitLaws.{bit-zero}
 use Rattle.stage0_laws.specs.Order.{compare-cases, lt-or-le}
-use Rattle.stage4_lexer_sets.specs.Forests.{changed, joined, filled}
+use Rattle.stage4_lexer_sets.specs.Forests.{changed, joined}
 
 pub changed-length : (a e : ℕ) (f : ℕ → ℕ → ℕ) (i : ℕ) (l : List ℕ) → length (changed a e f i l) ≡ length l
 unfolding changed
@@ -52,8 +52,10 @@ changed-more a i f l h k =
   where
     d : List ℕ
     d = changed a i f 0 l
+
     v : ℕ
     v = f i (getD d i 0)
+
     at : (p : ℕ) → p < length l → (p < i) ⊎ ((p ≡ i) ⊎ (i < p)) → (p < a) ⊎ (a ≤ p)
         → getD (set d i v) p 0 ≡ getD (changed a (i + 1) f 0 l) p 0
     at p b (inl g) (inl m) =

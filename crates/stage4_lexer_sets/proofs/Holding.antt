@@ -1,11 +1,10 @@
 -- From columns of classes, rules and sets to the sheet's own list of positions.
-use mathlib.Core.Path.{_≡_, refl, sym, ap, ap₂, _∙_, subst}
-use mathlib.Core.Bool.{Bool}
-use mathlib.Core.List.{List, [], _∷_, _++_, append-assoc, append-nil, map, flatMap}
+use mathlib.Core.Path.{_≡_, refl, sym, ap, ap₂, _∙_}
+use mathlib.Core.List.{List, [], _∷_, _++_, append-assoc, map, flatMap}
 use Prim.Native.Nat.{ℕ, zero, suc, _+_, _≤_, _<_}
 use native.Mathlib.Omega.{arith}
 use native.Mathlib.Nat.{zero-add, add-zero, suc-add}
-use lib.ListN.{length, take, drop, getD, length-append, take-append-drop}
+use lib.ListN.{length, drop, getD, length-append}
 use lib.Seq.{drop-drop, drop-at, getD-drop}
 use Rattle.stage0_laws.specs.Bits.{bit}
 use Rattle.stage0_laws.specs.Lists.{sum}
@@ -99,26 +98,32 @@ module _ (lows highs numbers follows : List ℕ) (ends : ℕ) where
     unfolding held-position low-of high-of flatMap
     class-held low high p s t o = rw (entry lows p low (s .0) (s .1), entry highs p high (t .0) (t .1), o .0, o .1, o .2)
 
-    part-held : (r : Regex) (p : ℕ) → Starts low-of lows p (regex-items-of r) → Starts high-of highs p (regex-items-of r)
+    -- The part r, whose own positions start at p, is in the columns.
+    abbrev Part : Regex → ℕ → Type 0
+    Part r p =
+        Starts low-of lows p (regex-items-of r) → Starts high-of highs p (regex-items-of r)
         → ((j : ℕ) → p ≤ j → j < p + class-count r → Owned whole base k j)
         → held-from lows highs numbers follows ends p (class-count r) ≡ part-positions whole base k r p
+
+    both-held : (a b : Regex) (p : ℕ) → Part a p → Part b (p + class-count a)
+        → Starts low-of lows p (regex-items-of a ++ regex-items-of b) → Starts high-of highs p (regex-items-of a ++ regex-items-of b)
+        → ((j : ℕ) → p ≤ j → j < p + (class-count a + class-count b) → Owned whole base k j)
+        → held-from lows highs numbers follows ends p (class-count a + class-count b)
+        ≡ part-positions whole base k a p ++ part-positions whole base k b (p + class-count a)
+    both-held a b p f g s t o =
+        let is = regex-items-of b in
+        held-append p (class-count a) (class-count b)
+        ∙ ap₂ _++_
+        (f (starts-left low-of low-one lows p a is s) (starts-left high-of high-one highs p a is t) (λ j h l. o j h (omega arith)))
+        (g (starts-right low-of low-one lows p a is s) (starts-right high-of high-one highs p a is t)
+        (λ j h l. o j (omega arith) (omega arith)))
+
+    part-held : (r : Regex) (p : ℕ) → Part r p
     unfolding part-positions class-count held-from regex-items-of low-of high-of flatMap
     part-held empty p s t o = refl
     part-held (class low high) p s t o = ap (λ (x : Position). x ∷ []) (class-held low high p s t (o p (omega arith) (omega arith)))
-    part-held (concat a b) p s t o =
-        held-append p (class-count a) (class-count b)
-        ∙ ap₂ _++_
-        (part-held a p (starts-left low-of low-one lows p a (regex-items-of b) s) (starts-left high-of high-one highs p a (regex-items-of b) t)
-        (λ j h l. o j h (omega arith)))
-        (part-held b (p + class-count a) (starts-right low-of low-one lows p a (regex-items-of b) s)
-        (starts-right high-of high-one highs p a (regex-items-of b) t) (λ j h l. o j (omega arith) (omega arith)))
-    part-held (union a b) p s t o =
-        held-append p (class-count a) (class-count b)
-        ∙ ap₂ _++_
-        (part-held a p (starts-left low-of low-one lows p a (regex-items-of b) s) (starts-left high-of high-one highs p a (regex-items-of b) t)
-        (λ j h l. o j h (omega arith)))
-        (part-held b (p + class-count a) (starts-right low-of low-one lows p a (regex-items-of b) s)
-        (starts-right high-of high-one highs p a (regex-items-of b) t) (λ j h l. o j (omega arith) (omega arith)))
+    part-held (concat a b) p s t o = both-held a b p (part-held a p) (part-held b (p + class-count a)) s t o
+    part-held (union a b) p s t o = both-held a b p (part-held a p) (part-held b (p + class-count a)) s t o
     part-held (star a) p s t o = part-held a p s t o
 
   -- What the columns say of position j, as one of several regexes', the first with number k.
@@ -135,7 +140,8 @@ module _ (lows highs numbers follows : List ℕ) (ends : ℕ) where
   owned-later r rs base k j h o =
       (o .0 ∙ owner-later r rs base j k h, o .1 ∙ last-later r rs base j h, o .2 ∙ follow-later r rs base j h)
 
-  pub rules-held : (rules : List Rule) (k base : ℕ) → Starts low-of lows base (items-of-rules rules) → Starts high-of highs base (items-of-rules rules)
+  pub rules-held : (rules : List Rule) (k base : ℕ)
+      → Starts low-of lows base (items-of-rules rules) → Starts high-of highs base (items-of-rules rules)
       → ((j : ℕ) → base ≤ j → j < base + class-total rules → AllOwned (map (λ r. r .regex) rules) base k j)
       → held-from lows highs numbers follows ends base (class-total rules) ≡ positions-from rules k base
   unfolding positions-from items-of-rules flatMap held-from

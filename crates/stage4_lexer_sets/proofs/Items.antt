@@ -29,18 +29,19 @@ abbrev pub Enough : List RegexItem → Type 0
 Enough [] = Unit
 Enough (i ∷ is) = (regex-parts i ≤ length (regexes is)) × Enough is
 
+-- An item of two parts before them.
+enough-both : (r s : Regex) (is : List RegexItem) → Enough (regex-items-of r ++ (regex-items-of s ++ is))
+    → (2 ≤ length (regexes ((regex-items-of r ++ regex-items-of s) ++ is))) × Enough ((regex-items-of r ++ regex-items-of s) ++ is)
+enough-both r s is h =
+    rw (append-assoc (regex-items-of r) (regex-items-of s) is)
+    (rw (regexes-items r (regex-items-of s ++ is), regexes-items s is) (omega arith), h)
+
 enough-regex : (r : Regex) (is : List RegexItem) → Enough is → Enough (regex-items-of r ++ is)
 unfolding regex-items-of regex-parts
 enough-regex empty is h = (omega arith, h)
 enough-regex (class low high) is h = (omega arith, h)
-enough-regex (concat r s) is h =
-    rw (append-assoc (regex-items-of r) (regex-items-of s) is)
-    (rw (regexes-items r (regex-items-of s ++ is), regexes-items s is) (omega arith),
-    enough-regex r (regex-items-of s ++ is) (enough-regex s is h))
-enough-regex (union r s) is h =
-    rw (append-assoc (regex-items-of r) (regex-items-of s) is)
-    (rw (regexes-items r (regex-items-of s ++ is), regexes-items s is) (omega arith),
-    enough-regex r (regex-items-of s ++ is) (enough-regex s is h))
+enough-regex (concat r s) is h = enough-both r s is (enough-regex r (regex-items-of s ++ is) (enough-regex s is h))
+enough-regex (union r s) is h = enough-both r s is (enough-regex r (regex-items-of s ++ is) (enough-regex s is h))
 enough-regex (star r) is h = (rw (regexes-items r is) (omega arith), enough-regex r is h)
 
 enough-all : (rs : List Regex) → Enough (flatMap regex-items-of rs)
@@ -105,7 +106,8 @@ item-before rs tags items classes at h l m =
       i,
       record {
         made = ap regexes c;
-        tag = sym (getD-take items tags n 0 (omega arith)) ∙ ap (λ (t : List ℕ). getD t n 0) (h .tags-held) ∙ getD-map regex-tag is n empty-item;
+        tag = sym (getD-take items tags n 0 (omega arith)) ∙ ap (λ (t : List ℕ). getD t n 0) (h .tags-held)
+            ∙ getD-map regex-tag is n empty-item;
         parts = subst (λ (l : List RegexItem). Enough l) c (enough-drop n is (enough-all rs)) .0;
         classes = ap (λ (k : ℕ). sum item-classes (take k is)) (sym e) ∙ sum-take is n empty-item b;
       },

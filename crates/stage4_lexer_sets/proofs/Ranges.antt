@@ -1,6 +1,6 @@
 -- Several regexes, each with its positions after those before it: what the sets of all of them are at a position of the first one,
 -- and at a later position.
-use mathlib.Core.Path.{_≡_, refl, sym, ap, ap₂, _∙_}
+use mathlib.Core.Path.{_≡_, refl, sym, ap, _∙_}
 use mathlib.Core.Bool as B
 use mathlib.Core.Bool.{Bool, true, false, _||_, cond}
 use mathlib.Core.List.{List, [], _∷_}

@@ -2,11 +2,10 @@
 use mathlib.Core.Path.{_≡_, refl, sym, ap, _∙_, subst}
 use mathlib.Core.Bool.{Bool, true, false, cond}
 use mathlib.Core.List.{List, [], _∷_}
-use mathlib.Core.Logic.{_⊎_, inl, inr, ⊎-elim}
-use mathlib.Core.Option.{Option, none, some}
+use mathlib.Core.Logic.{⊎-elim}
+use mathlib.Core.Option.{none, some}
 use Prim.Native.Nat.{ℕ, zero, suc, _+_, _-_, _≤_, _<_}
 use native.Mathlib.Omega.{arith}
-use native.Mathlib.Nat.{add-zero}
 use native.Mathlib.Numerals.{add-one}
 use lib.Bits.{bitOr, or-zero-r}
 use lib.ListN.{length, drop, getD, replicate, length-replicate, length-drop, drop-of-length-le}
@@ -19,7 +18,8 @@ use Rattle.stage1_sheet.specs.Regex.{Regex, empty, class-count}
 use Rattle.stage4_lexer.specs.Positions.{nullable, first, last}
 use Rattle.stage4_lexer_sets.specs.declared.Sets.{Sets}
 use Rattle.stage4_lexer_sets.specs.Nodes.{sets-of}
-use Rattle.stage4_lexer_sets.specs.Forests.{all-first, all-last, owner, first-empty, filled, unused, Stacked, RulesStacked, RuleSetsOf}
+use Rattle.stage4_lexer_sets.specs.Forests.{all-first, all-last, owner, first-empty, filled, unused}
+use Rattle.stage4_lexer_sets.specs.Forests.{Stacked, RulesStacked, RuleSetsOf}
 use Rattle.stage4_lexer_sets.proofs.Changes.{changed-length, changed-inside, changed-below}
 
 -- ---- the first rule with the empty word
@@ -41,7 +41,8 @@ first-empty-next rs k h =
     ∙ ap (λ (n : ℕ). cond (nullable (getD rs k empty)) (some k) (first-empty (drop n rs) n)) (sym (add-one k))
 
 module _ (stack : List Sets) (count : ℕ) (rs : List Regex) (k : ℕ) (held : RulesStacked stack count rs) where
-  at-empty : k < count → first-empty (drop k rs) k ≡ cond (getD stack (count - k + 1) unused .nullable) (some k) (first-empty (drop (k + 1) rs) (k + 1))
+  at-empty : k < count
+      → first-empty (drop k rs) k ≡ cond (getD stack (count - k + 1) unused .nullable) (some k) (first-empty (drop (k + 1) rs) (k + 1))
   at-empty h =
       let b : k < length rs = omega (arith, held .rules) in
       first-empty-next rs k b
@@ -86,7 +87,7 @@ gathering-start stack count rs h = record {
 }
 
 module _ (rs rest : List Regex) (r : Regex) (stack : List Sets) (k base fst lst : ℕ) (rule : List ℕ)
-  (fits : sum class-count rs ≤ 64) (g : Gathering rs (r ∷ rest) stack k base fst lst rule) where
+    (fits : sum class-count rs ≤ 64) (g : Gathering rs (r ∷ rest) stack k base fst lst rule) where
   step-owners : (p : ℕ) → p < base + class-count r → getD (filled base (base + class-count r) k rule) p 0 ≡ owner rs 0 0 p
   unfolding owner
   step-owners p h =
@@ -115,8 +116,8 @@ module _ (rs rest : List Regex) (r : Regex) (stack : List Sets) (k base fst lst 
   }
 
 -- The entry of the rule that comes next.
-pub rule-entry : (stack : List Sets) (count : ℕ) (rs : List Regex) (k base fst lst : ℕ) (rule : List ℕ) → RulesStacked stack count rs → k < count
-    → Gathering rs (drop k rs) stack k base fst lst rule
+pub rule-entry : (stack : List Sets) (count : ℕ) (rs : List Regex) (k base fst lst : ℕ) (rule : List ℕ)
+    → RulesStacked stack count rs → k < count → Gathering rs (drop k rs) stack k base fst lst rule
     → (r : Regex) × Gathering rs (r ∷ drop (suc k) rs) stack k base fst lst rule × (getD stack (count - k + 1) unused ≡ sets-of r base)
 rule-entry stack count rs k base fst lst rule h l g =
     let b : k < length rs = omega (arith, h .rules) in
@@ -125,7 +126,7 @@ rule-entry stack count rs k base fst lst rule h l g =
     (getD rs k empty, m, ap (λ (i : ℕ). getD stack i unused) n ∙ m .stacked .0)
 
 module _ (stack : List Sets) (count : ℕ) (rs : List Regex) (k base fst lst : ℕ) (rule : List ℕ) (h : RulesStacked stack count rs)
-  (l : k < count) (g : Gathering rs (drop k rs) stack k base fst lst rule) where
+    (l : k < count) (g : Gathering rs (drop k rs) stack k base fst lst rule) where
   -- Where a rule's positions end.
   pub end-least : base ≤ getD stack (count - k + 1) unused .end
   unfolding sets-of
@@ -145,7 +146,7 @@ module _ (stack : List Sets) (count : ℕ) (rs : List Regex) (k base fst lst : �
   gathering-more sets new e f =
       let i = rule-entry stack count rs k base fst lst rule h l g in
       let s : sets ≡ sets-of (i .0) base = e ∙ i .2 in
-      subst (λ (n : List ℕ). Gathering rs (drop (k + 1) rs) stack (k + 1) (sets .end) (bitOr fst (sets .first)) (bitOr lst (sets .last)) n) (sym f)
+      subst (Gathering rs (drop (k + 1) rs) stack (k + 1) (sets .end) (bitOr fst (sets .first)) (bitOr lst (sets .last))) (sym f)
       (subst
       (λ (x : Sets).
       Gathering rs (drop (k + 1) rs) stack (k + 1) (x .end) (bitOr fst (x .first)) (bitOr lst (x .last)) (filled base (x .end) k rule))
@@ -157,8 +158,8 @@ module _ (stack : List Sets) (count : ℕ) (rs : List Regex) (k base fst lst : �
       (sym (add-one k))
       (gathered-sets rs (drop (suc k) rs) (i .0) stack k base fst lst rule (h .classes-fit) (i .1))))
 
-pub gathering-end : (stack : List Sets) (count : ℕ) (rs : List Regex) (k base fst lst : ℕ) (rule : List ℕ) → RulesStacked stack count rs → count ≤ k
-    → Gathering rs (drop k rs) stack k base fst lst rule → RuleSetsOf rs (record { rule = rule; first = fst; last = lst })
+pub gathering-end : (stack : List Sets) (count : ℕ) (rs : List Regex) (k base fst lst : ℕ) (rule : List ℕ)
+    → RulesStacked stack count rs → count ≤ k → Gathering rs (drop k rs) stack k base fst lst rule → RuleSetsOf rs (record { rule = rule; first = fst; last = lst })
 unfolding all-first all-last
 gathering-end stack count rs k base fst lst rule h l g =
     let e : drop k rs ≡ [] = drop-of-length-le rs {i = k} (omega (arith, h .rules)) in

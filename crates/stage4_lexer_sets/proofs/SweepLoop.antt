@@ -6,14 +6,15 @@ use native.Mathlib.Omega.{arith}
 use lib.ListN.{length, take, drop, getD, set, replicate, length-replicate, getD-replicate, length-drop, drop-of-length-le}
 use lib.Seq.{take-all}
 use Rattle.stage0_laws.specs.Lists.{sum}
-use Rattle.stage1_sheet.specs.Regex.{Regex, class-count}
-use Rattle.stage1_sheet.specs.Items.{RegexItem, empty-item, class-item, concat-item, union-item, star-item, regex-parts, item-classes, regexes}
+use Rattle.stage1_sheet.specs.Regex.{Regex}
+use Rattle.stage1_sheet.specs.Items.{RegexItem, empty-item, class-item, concat-item, union-item, star-item}
+use Rattle.stage1_sheet.specs.Items.{regex-parts, item-classes, regexes}
 use Rattle.stage1_sheet.specs.RegexItems.{regex-items-of, regex-tag}
 use Rattle.stage4_lexer_sets.specs.declared.Sets.{Sets}
 use Rattle.stage4_lexer_sets.specs.declared.Node.{Node}
 use Rattle.stage4_lexer_sets.specs.Nodes.{node-of}
 use Rattle.stage4_lexer_sets.specs.Forests.{all-follow, joined, unused, Stacked, RegexesHeld, ForestOf}
-use Rattle.stage4_lexer_sets.proofs.Items.{regexes-all, classes-all, regexes-short, ItemBefore, item-before}
+use Rattle.stage4_lexer_sets.proofs.Items.{regexes-all, classes-all, regexes-short, item-before}
 use Rattle.stage4_lexer_sets.proofs.Sweeping.{Sweeping, After, swept-next}
 
 -- The items from place `at` on are done; as many classes as the base are left.
@@ -37,7 +38,7 @@ swept-start tags items classes rs h =
             follows = λ p l. getD-replicate {A = ℕ} 64 p 0 0 l;
           };
       classes-left = h .classes-counted ∙ sym (classes-all rs)
-          ∙ ap (λ (l : List RegexItem). sum item-classes l) (sym (ap (λ (n : ℕ). take n is) (h .nodes) ∙ take-all (length is) is (omega arith)));
+          ∙ ap (sum item-classes) (sym (ap (λ (n : ℕ). take n is) (h .nodes) ∙ take-all (length is) is (omega arith)));
     }
 
 -- What an item's node takes from the stack, and from the classes left.
@@ -85,7 +86,7 @@ pub record Turn (tags : List ℕ) (at : ℕ) (stack : List Sets) (follow : List 
 
 -- A turn: what it may ask, and where it leads.
 module _ (tags : List ℕ) (items classes : ℕ) (rs : List Regex) (at : ℕ) (stack : List Sets) (flow : List ℕ) (top base : ℕ)
-  (held : RegexesHeld tags items classes rs) (least : 0 < at) (most : at ≤ items) (w : Swept rs at stack flow top base) where
+    (held : RegexesHeld tags items classes rs) (least : 0 < at) (most : at ≤ items) (w : Swept rs at stack flow top base) where
   pub turn : Turn tags at stack flow top base
   turn =
       let is = flatMap regex-items-of rs in
@@ -128,7 +129,8 @@ swept-end rs stack flow top base w =
     let e = regexes-all rs in
     let b : base ≡ 0 = w .classes-left in
     record {
-      stacked = subst (λ (l : List Regex). Stacked stack l 0) e (subst (Stacked stack (regexes (flatMap regex-items-of rs))) b (w .state .stacked));
+      stacked = subst (λ (l : List Regex). Stacked stack l 0) e
+          (subst (Stacked stack (regexes (flatMap regex-items-of rs))) b (w .state .stacked));
       follows = λ p h. w .state .follows p h ∙ ap (λ (b : ℕ). all-follow (regexes (flatMap regex-items-of rs)) b p) b
           ∙ ap (λ (l : List Regex). all-follow l 0 p) e;
     }

@@ -2,7 +2,7 @@
 use mathlib.Core.Path.{_≡_, refl, sym, ap, ap₂, _∙_, subst}
 use mathlib.Core.Bool.{Bool, cond}
 use mathlib.Core.List.{List, [], _∷_}
-use Prim.Native.Nat.{ℕ, suc, _+_, _-_, _≤_, _<_}
+use Prim.Native.Nat.{ℕ, _+_, _-_, _≤_, _<_}
 use native.Mathlib.Omega.{arith}
 use native.Mathlib.Nat.{add-zero, add-assoc}
 use lib.Bits.{bitOr, or-zero-r, or-comm}
@@ -10,9 +10,9 @@ use lib.ListN.{length, getD, set, length-set}
 use lib.Seq.{getD-set-same, getD-set-other}
 use Rattle.stage0_laws.specs.Bits.{bit}
 use Rattle.stage0_laws.specs.BitLaws.{or-assoc, bit-zero}
-use Rattle.stage0_laws.specs.Lists.{sum}
 use Rattle.stage1_sheet.specs.Regex.{Regex, empty, class, concat, union, star, class-count}
-use Rattle.stage1_sheet.specs.Items.{RegexItem, empty-item, class-item, concat-item, union-item, star-item, regex-parts, item-classes, regex-before}
+use Rattle.stage1_sheet.specs.Items.{RegexItem, empty-item, class-item, concat-item, union-item, star-item}
+use Rattle.stage1_sheet.specs.Items.{regex-parts, item-classes, regex-before}
 use Rattle.stage1_sheet.specs.RegexItems.{regex-tag}
 use Rattle.stage4_lexer.specs.Positions.{nullable, first, last, follow}
 use Rattle.stage4_lexer_sets.specs.declared.Sets.{Sets}
@@ -71,11 +71,13 @@ star-sets-of : (r : Regex) (base : ℕ) → star-node (sets-of r base) base .set
 unfolding sets-of nullable first last class-count
 star-sets-of r base = refl
 
-concat-sets-of : (r s : Regex) (base : ℕ) → concat-node (sets-of r base) (sets-of s (base + class-count r)) base .sets ≡ sets-of (concat r s) base
+concat-sets-of : (r s : Regex) (base : ℕ)
+    → concat-node (sets-of r base) (sets-of s (base + class-count r)) base .sets ≡ sets-of (concat r s) base
 unfolding sets-of nullable first last class-count
 concat-sets-of r s base = rw (add-assoc base (class-count r) (class-count s))
 
-union-sets-of : (r s : Regex) (base : ℕ) → union-node (sets-of r base) (sets-of s (base + class-count r)) base .sets ≡ sets-of (union r s) base
+union-sets-of : (r s : Regex) (base : ℕ)
+    → union-node (sets-of r base) (sets-of s (base + class-count r)) base .sets ≡ sets-of (union r s) base
 unfolding sets-of nullable first last class-count
 union-sets-of r s base = rw (add-assoc base (class-count r) (class-count s))
 

@@ -3,7 +3,7 @@ use native.Mathlib.Omega.{arith}
 use mathlib.Core.Path.{_≡_, refl, ap, _∙_}
 use Prim.Native.Nat.{ℕ, _≤_, _-_}
 use lib.ListN.{length}
-use Rattle.stage4_lexer_sets.specs.Forests.{changed, filled}
+use Rattle.stage4_lexer_sets.specs.Forests.{filled}
 use Rattle.stage4_lexer_sets.proofs.Changes.{changed-none, changed-store}
 use Rattle.stage4_lexer_sets.proofs.fill.Statement.{statement}
 use Rattle.stage4_lexer_sets.proofs.fill.Tie as tie
@@ -27,7 +27,7 @@ loop-less : tie.Need-loop-less Inv-loop μ-loop
 loop-less c = omega arith
 
 loop-again : tie.Need-loop-again Inv-loop μ-loop
-loop-again c = 
+loop-again c =
     let l = c .before .loop in
     let a = c .before .before .args in (
       l .inv .0,
@@ -37,7 +37,7 @@ loop-again c =
     )
 
 returns : tie.Need-returns Inv-loop μ-loop
-returns c = 
+returns c =
     let l = c .before .loop in
     let a = c .before .before .args in
     l .inv .3 ∙ ap (λ (e : ℕ). filled (a .base) e (a .k) (a .rule .now)) (omega arith)

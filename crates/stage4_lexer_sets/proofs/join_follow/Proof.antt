@@ -1,6 +1,6 @@
 -- `stage4_lexer_sets::join_follow` meets its contract. The invariant: the places below i are changed.
 use native.Mathlib.Omega.{arith}
-use mathlib.Core.Path.{_≡_, refl, sym, ap, _∙_, subst}
+use mathlib.Core.Path.{_≡_, sym, ap, _∙_}
 use mathlib.Core.Bool.{cond}
 use Prim.Native.Nat.{ℕ, _≤_, _-_}
 use lib.Bits.{bitOr}
@@ -51,13 +51,14 @@ loop-less : tie.Need-loop-less Inv-loop μ-loop
 loop-less c = omega arith
 
 loop-again : tie.Need-loop-again Inv-loop μ-loop
-loop-again c = 
+loop-again c =
     let l = c .before .before .before .loop in
     let a = c .before .before .before .before .before .args in
     let f = with (a .from) (a .next) in (
       l .inv .0,
       omega arith,
-      changed-store 0 (l .i) f (a .follow .now) (l .follow) (c .with-next .result) (omega arith) (omega arith) (l .inv .2) (c .with-next .ensures),
+      changed-store 0 (l .i) f (a .follow .now) (l .follow) (c .with-next .result) (omega arith) (omega arith) (l .inv .2)
+          (c .with-next .ensures),
     )
 
 returns-2 : tie.Need-returns-2 Inv-loop μ-loop

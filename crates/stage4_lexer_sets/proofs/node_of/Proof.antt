@@ -25,21 +25,29 @@ concat-node-requires c κs = search needs
 
 returns-3 : tie.Need-returns-3
 unfolding node-of
-returns-3 c = c .concat-node .ensures ∙ rw (ne-eqb _ 0 (c .before .before .before .if1 .left), ne-eqb _ 1 (c .before .before .if2 .left), eq-eqb _ 2 (c .before .if3 .taken))
+returns-3 c =
+    c .concat-node .ensures
+    ∙ rw (ne-eqb _ 0 (c .before .before .before .if1 .left), ne-eqb _ 1 (c .before .before .if2 .left), eq-eqb _ 2 (c .before .if3 .taken))
 
 union-node-requires : tie.Need-union-node-requires
 union-node-requires c κs = search needs
 
 returns-4 : tie.Need-returns-4
 unfolding node-of
-returns-4 c = c .union-node .ensures ∙ rw (ne-eqb _ 0 (c .before .before .before .before .if1 .left), ne-eqb _ 1 (c .before .before .before .if2 .left), ne-eqb _ 2 (c .before .before .if3 .left), eq-eqb _ 3 (c .before .if4 .taken))
+returns-4 c =
+    let z = c .before .before in
+    c .union-node .ensures
+    ∙ rw (ne-eqb _ 0 (z .before .before .if1 .left), ne-eqb _ 1 (z .before .if2 .left), ne-eqb _ 2 (z .if3 .left), eq-eqb _ 3 (c .before .if4 .taken))
 
 star-node-requires : tie.Need-star-node-requires
 star-node-requires c κs = search needs
 
 returns-5 : tie.Need-returns-5
 unfolding node-of
-returns-5 c = c .star-node .ensures ∙ rw (ne-eqb _ 0 (c .before .before .before .before .if1 .left), ne-eqb _ 1 (c .before .before .before .if2 .left), ne-eqb _ 2 (c .before .before .if3 .left), ne-eqb _ 3 (c .before .if4 .left))
+returns-5 c =
+    let z = c .before .before in
+    c .star-node .ensures
+    ∙ rw (ne-eqb _ 0 (z .before .before .if1 .left), ne-eqb _ 1 (z .before .if2 .left), ne-eqb _ 2 (z .if3 .left), ne-eqb _ 3 (c .before .if4 .left))
 
 pub node-of-spec : {M : Type 1} → statement M
 node-of-spec =

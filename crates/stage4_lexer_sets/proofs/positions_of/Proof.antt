@@ -1,6 +1,5 @@
 -- `stage4_lexer_sets::positions_of` meets its contract, by those of its steps.
 use borrow.Author.Needs.{needs}
-use native.Mathlib.Omega.{arith}
 use Rattle.stage4_lexer_sets.proofs.Joined.{regexes-of, regexes-held, rules-stacked, answered}
 use Rattle.stage4_lexer_sets.proofs.positions_of.Statement.{statement}
 use Rattle.stage4_lexer_sets.proofs.positions_of.Tie as tie

@@ -41,8 +41,11 @@ fill-requires c κs =
     let l = c .before .before .before .loop in
     let w = z .pre in
     let g = l .inv .1 (w .0) (w .1) in
-    let t = c .before .before .loop-test .taken in
-    (g .rule-size, end-least (z .args .t1) (z .args .count) (w .0) _ _ _ _ _ (w .1) t g, end-most (z .args .t1) (z .args .count) (w .0) _ _ _ _ _ (w .1) t g)
+    let t = c .before .before .loop-test .taken in (
+      g .rule-size,
+      end-least (z .args .t1) (z .args .count) (w .0) _ _ _ _ _ (w .1) t g,
+      end-most (z .args .t1) (z .args .count) (w .0) _ _ _ _ _ (w .1) t g,
+    )
 
 add-k : tie.Need-add-k Inv-loop μ-loop
 add-k c = omega arith
@@ -53,9 +56,10 @@ loop-less c = omega arith
 loop-again : tie.Need-loop-again Inv-loop μ-loop
 loop-again c =
     let z = c .before .before .before .before .before .before .before .args in
-    let l = c .before .before .before .before .before .before .loop in (
+    let l = c .before .before .before .before .before .before .loop in
+    let t = c .before .before .before .before .before .loop-test .taken in (
       omega arith,
-      λ rs h. gathering-more (z .t1) (z .count) rs _ _ _ _ _ h (c .before .before .before .before .before .loop-test .taken) (l .inv .1 rs h) _ _ refl (c .before .before .fill .ensures),
+      λ rs h. gathering-more (z .t1) (z .count) rs _ _ _ _ _ h t (l .inv .1 rs h) _ _ refl (c .before .before .fill .ensures),
     )
 
 returns : tie.Need-returns Inv-loop μ-loop

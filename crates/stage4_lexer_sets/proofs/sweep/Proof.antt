@@ -1,9 +1,9 @@
 -- `stage4_lexer_sets::sweep` meets its contract. The invariant: for all regexes that the tags may be those of, the stack and the follow
 -- sets are those of the regexes of the items done.
 use native.Mathlib.Omega.{arith}
-use mathlib.Core.Path.{_≡_, refl, sym, ap, _∙_, subst}
+use mathlib.Core.Path.{_≡_, ap, subst}
 use mathlib.Core.List.{List}
-use Prim.Native.Nat.{ℕ, _≤_, _-_, _+_}
+use Prim.Native.Nat.{ℕ, _≤_}
 use Rattle.stage1_sheet.specs.Regex.{Regex}
 use Rattle.stage4_lexer_sets.specs.declared.Node.{Node}
 use Rattle.stage4_lexer_sets.specs.Forests.{RegexesHeld}
@@ -80,12 +80,13 @@ loop-less c = omega arith
 
 loop-again : tie.Need-loop-again Inv-loop μ-loop
 loop-again c =
-    let z = c .before .before .before .before .before .before .before .before .before .before in
-    let l = c .before .before .before .before .before .before .before .before .before .loop in
-    let i = c .before .before .before .before .before .before .before .before in (
+    let n = c .before .before .before .before in
+    let i = n .before .before .before .before in
+    let l = i .before .loop in
+    let z = i .before .before .args in (
       omega arith,
-      λ rs h. swept-more (z .args .tag .now) (z .args .items) (z .args .classes) rs _ _ _ _ _ h (i .loop-test .taken) (l .inv .0)
-          (l .inv .1 rs h) (c .before .before .before .before .node-of .result) _ (c .before .before .before .before .node-of .ensures) (c .before .before .join-follow .ensures),
+      λ rs h. swept-more (z .tag .now) (z .items) (z .classes) rs _ _ _ _ _ h (i .loop-test .taken) (l .inv .0) (l .inv .1 rs h)
+          (n .node-of .result) _ (n .node-of .ensures) (c .before .before .join-follow .ensures),
     )
 
 returns : tie.Need-returns Inv-loop μ-loop

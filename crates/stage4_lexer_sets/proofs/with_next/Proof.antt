@@ -19,13 +19,13 @@ bit-told : (s i : ℕ) (b : Bool) → i < 64 → not (eqb (bitAnd s ((1 * 2 ^ i)
 bit-told s i b h e = sym (and-test s i) ∙ ap (λ (x : ℕ). not (eqb (bitAnd s x) 0)) (sym (shl-one i h)) ∙ e
 
 returns : tie.Need-returns
-returns c = 
+returns c =
     let z = c .before .args in
     let e = bit-told (z .from) (z .i) true (c .before .pre) (ap not (ne-eqb _ 0 (c .if1 .taken))) in
     ap (λ (b : Bool). bitOr (z .follow) (cond b (z .next) 0)) (sym e)
 
 returns-2 : tie.Need-returns-2
-returns-2 c = 
+returns-2 c =
     let z = c .before .args in
     let e = bit-told (z .from) (z .i) false (c .before .pre) (ap not (eq-eqb _ 0 (c .if1 .left))) in
     sym (or-zero-r (z .follow)) ∙ ap (λ (b : Bool). bitOr (z .follow) (cond b (z .next) 0)) (sym e)
