@@ -22,7 +22,7 @@ use Rattle.stage4_lexer_sets.specs.declared.Forest.{Forest}
 use Rattle.stage4_lexer_sets.specs.declared.RuleSets.{RuleSets}
 use Rattle.stage4_lexer_sets.specs.declared.EmptyRule.{EmptyRule}
 use Rattle.stage4_lexer_sets.specs.declared.RulePositions.{RulePositions}
-use Rattle.stage4_lexer_sets.specs.Forests.{all-first, first-empty, RegexesHeld, ForestOf, RulesStacked, RuleSetsOf}
+use Rattle.stage4_lexer_sets.specs.Forests.{all-first, first-nullable, RegexesHeld, ForestOf, RulesStacked, RuleSetsOf}
 use Rattle.stage4_lexer_sets.specs.Answer.{empty-rule, PositionsOf}
 use Rattle.stage4_lexer_sets.proofs.Items.{classes-all}
 use Rattle.stage4_lexer_sets.proofs.Holding.{Starts, low-one, entries, rules-held}
@@ -45,8 +45,8 @@ unfolding all-first first-from
 first-same [] base = refl
 first-same (r ∷ rules) base = ap (bitOr (first (r .regex) base)) (first-same rules (base + class-count (r .regex)))
 
-empty-same : (rules : List Rule) (k : ℕ) → first-empty (regexes-of rules) k ≡ empty-match rules k
-unfolding first-empty empty-match
+empty-same : (rules : List Rule) (k : ℕ) → first-nullable (regexes-of rules) k ≡ empty-match rules k
+unfolding first-nullable empty-match
 empty-same [] k = refl
 empty-same (r ∷ rules) k = ap (λ (o : Option ℕ). cond (nullable (r .regex)) (some k) o) (empty-same rules (suc k))
 
@@ -93,7 +93,7 @@ module _ (c : RuleColumns) (rules : List Rule) (places : List ℕ) (held : Rules
   }
 
   pub answered : (f : Forest) (s : RuleSets) (e : EmptyRule) → ForestOf (regexes-of rules) f → RuleSetsOf (regexes-of rules) s
-      → empty-rule e ≡ first-empty (regexes-of rules) 0 → PositionsOf rules (answer f s e)
+      → empty-rule e ≡ first-nullable (regexes-of rules) 0 → PositionsOf rules (answer f s e)
   unfolding held-positions positions first-positions
   answered f s e h t g = record {
     positions-held =

@@ -18,7 +18,7 @@ use Rattle.stage1_sheet.specs.Regex.{Regex, empty, class-count}
 use Rattle.stage4_lexer.specs.Positions.{nullable, first, last}
 use Rattle.stage4_lexer_sets.specs.declared.Sets.{Sets}
 use Rattle.stage4_lexer_sets.specs.Nodes.{sets-of}
-use Rattle.stage4_lexer_sets.specs.Forests.{all-first, all-last, owner, first-empty, filled, unused}
+use Rattle.stage4_lexer_sets.specs.Forests.{all-first, all-last, owner, first-nullable, filled, unused}
 use Rattle.stage4_lexer_sets.specs.Forests.{Stacked, RulesStacked, RuleSetsOf}
 use Rattle.stage4_lexer_sets.proofs.Changes.{changed-length, changed-inside, changed-below}
 
@@ -33,34 +33,34 @@ stacked-nullable stack (r ∷ rs) base zero s h =
 stacked-nullable stack (r ∷ rs) base (suc k) s h =
     ap (λ (i : ℕ). getD stack i unused .nullable) (omega arith) ∙ stacked-nullable stack rs (base + class-count r) k (s .1) (omega arith)
 
-first-empty-next : (rs : List Regex) (k : ℕ) → k < length rs
-    → first-empty (drop k rs) k ≡ cond (nullable (getD rs k empty)) (some k) (first-empty (drop (k + 1) rs) (k + 1))
-unfolding first-empty
-first-empty-next rs k h =
-    ap (λ (l : List Regex). first-empty l k) (drop-cons rs k empty h)
-    ∙ ap (λ (n : ℕ). cond (nullable (getD rs k empty)) (some k) (first-empty (drop n rs) n)) (sym (add-one k))
+first-nullable-next : (rs : List Regex) (k : ℕ) → k < length rs
+    → first-nullable (drop k rs) k ≡ cond (nullable (getD rs k empty)) (some k) (first-nullable (drop (k + 1) rs) (k + 1))
+unfolding first-nullable
+first-nullable-next rs k h =
+    ap (λ (l : List Regex). first-nullable l k) (drop-cons rs k empty h)
+    ∙ ap (λ (n : ℕ). cond (nullable (getD rs k empty)) (some k) (first-nullable (drop n rs) n)) (sym (add-one k))
 
 module _ (stack : List Sets) (count : ℕ) (rs : List Regex) (k : ℕ) (held : RulesStacked stack count rs) where
   at-empty : k < count
-      → first-empty (drop k rs) k ≡ cond (getD stack (count - k + 1) unused .nullable) (some k) (first-empty (drop (k + 1) rs) (k + 1))
+      → first-nullable (drop k rs) k ≡ cond (getD stack (count - k + 1) unused .nullable) (some k) (first-nullable (drop (k + 1) rs) (k + 1))
   at-empty h =
       let b : k < length rs = omega (arith, held .rules) in
-      first-empty-next rs k b
-      ∙ ap (λ (t : Bool). cond t (some k) (first-empty (drop (k + 1) rs) (k + 1)))
+      first-nullable-next rs k b
+      ∙ ap (λ (t : Bool). cond t (some k) (first-nullable (drop (k + 1) rs) (k + 1)))
       (sym (ap (λ (n : ℕ). getD stack (n - k + 1) unused .nullable) (held .rules) ∙ stacked-nullable stack rs 0 k (held .stacked) b))
 
-  pub empty-here : k < count → getD stack (count - k + 1) unused .nullable ≡ true → some k ≡ first-empty (drop k rs) k
+  pub empty-here : k < count → getD stack (count - k + 1) unused .nullable ≡ true → some k ≡ first-nullable (drop k rs) k
   empty-here h e =
-      sym (at-empty h ∙ ap (λ (t : Bool). cond t (some k) (first-empty (drop (k + 1) rs) (k + 1))) e)
+      sym (at-empty h ∙ ap (λ (t : Bool). cond t (some k) (first-nullable (drop (k + 1) rs) (k + 1))) e)
 
   pub empty-later : k < count → getD stack (count - k + 1) unused .nullable ≡ false
-      → first-empty (drop (k + 1) rs) (k + 1) ≡ first-empty (drop k rs) k
+      → first-nullable (drop (k + 1) rs) (k + 1) ≡ first-nullable (drop k rs) k
   empty-later h e =
-      sym (at-empty h ∙ ap (λ (t : Bool). cond t (some k) (first-empty (drop (k + 1) rs) (k + 1))) e)
+      sym (at-empty h ∙ ap (λ (t : Bool). cond t (some k) (first-nullable (drop (k + 1) rs) (k + 1))) e)
 
-  pub empty-nowhere : count ≤ k → none ≡ first-empty (drop k rs) k
-  unfolding first-empty
-  empty-nowhere h = ap (λ (l : List Regex). first-empty l k) (sym (drop-of-length-le rs {i = k} (omega (arith, held .rules))))
+  pub empty-nowhere : count ≤ k → none ≡ first-nullable (drop k rs) k
+  unfolding first-nullable
+  empty-nowhere h = ap (λ (l : List Regex). first-nullable l k) (sym (drop-of-length-le rs {i = k} (omega (arith, held .rules))))
 
 -- ---- the rules' sets together
 

@@ -38,9 +38,9 @@ owner [] k base p = k
 owner (r ∷ rs) k base p = cond (ltb p (base + class-count r)) k (owner rs (suc k) (base + class-count r) p)
 
 -- The number of the first one that has the empty word.
-unfoldable pub first-empty : List Regex → ℕ → Option ℕ
-first-empty [] k = none
-first-empty (r ∷ rs) k = cond (nullable r) (some k) (first-empty rs (suc k))
+unfoldable pub first-nullable : List Regex → ℕ → Option ℕ
+first-nullable [] k = none
+first-nullable (r ∷ rs) k = cond (nullable r) (some k) (first-nullable rs (suc k))
 
 -- ---- a list changed in place
 

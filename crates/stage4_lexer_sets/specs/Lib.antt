@@ -2,3 +2,4 @@
 pub mod Nodes
 pub mod Forests
 pub mod Answer
+pub mod Laws

@@ -13,7 +13,7 @@ ghost use Rattle.stage1_sheet.specs.Regex.{Regex};
 ghost use Rattle.stage1_sheet.specs.Sheet.{Rule};
 ghost use Rattle.stage1_sheet_columns.specs.Holds.{RulesOf};
 ghost use Rattle.stage4_lexer_sets.specs.Nodes.{empty-node, class-node, concat-node, union-node, star-node, node-of};
-ghost use Rattle.stage4_lexer_sets.specs.Forests.{RegexesHeld, joined, filled, ForestOf, RulesStacked, RuleSetsOf, first-empty};
+ghost use Rattle.stage4_lexer_sets.specs.Forests.{RegexesHeld, joined, filled, ForestOf, RulesStacked, RuleSetsOf, first-nullable};
 ghost use Rattle.stage4_lexer_sets.specs.Answer.{empty-rule, PositionsOf};
 
 // The sets of a regex, and where its positions end.
@@ -273,7 +273,7 @@ fn rule_sets(stack: [Sets; 258], count: u8) -> RuleSets
 
 // The first rule that matches the empty word.
 fn empty_of(stack: [Sets; 258], count: u8) -> EmptyRule
-    ensures { λ r. ⌜ ((rs : List Regex) → RulesStacked stack count rs → empty-rule r ≡ first-empty rs 0) ⌝ }
+    ensures { λ r. ⌜ ((rs : List Regex) → RulesStacked stack count rs → empty-rule r ≡ first-nullable rs 0) ⌝ }
 {
     let mut k: u8 = 0;
     while k < count {

@@ -5,14 +5,14 @@ use mathlib.Core.List.{List}
 use Prim.Native.Nat.{_≤_, _-_}
 use lib.ListN.{drop}
 use Rattle.stage1_sheet.specs.Regex.{Regex}
-use Rattle.stage4_lexer_sets.specs.Forests.{RulesStacked, first-empty}
+use Rattle.stage4_lexer_sets.specs.Forests.{RulesStacked, first-nullable}
 use Rattle.stage4_lexer_sets.proofs.RuleLoops.{empty-here, empty-later, empty-nowhere}
 use Rattle.stage4_lexer_sets.proofs.empty_of.Statement.{statement}
 use Rattle.stage4_lexer_sets.proofs.empty_of.Tie as tie
 
 abbrev Inv-loop : tie.InvT-loop
 Inv-loop count stack k₀ k =
-    (k ≤ count) × ((rs : List Regex) → RulesStacked stack count rs → first-empty (drop k rs) k ≡ first-empty rs 0)
+    (k ≤ count) × ((rs : List Regex) → RulesStacked stack count rs → first-nullable (drop k rs) k ≡ first-nullable rs 0)
 
 abbrev μ-loop : tie.MeasureT-loop
 μ-loop count stack k₀ k = count - k
