@@ -1,0 +1,109 @@
+-- The answer for columns that hold a sheet's rules, from the answers of the steps.
+use mathlib.Core.Path.{_≡_, refl, sym, ap, _∙_}
+use mathlib.Core.Bool.{cond}
+use mathlib.Core.List.{List, [], _∷_, _++_, map, flatMap}
+use mathlib.Core.Option.{Option, some}
+use Prim.Native.Nat.{ℕ, suc, _+_}
+use native.Mathlib.Omega.{arith}
+use lib.Bits.{bitOr}
+use lib.ListN.{length, length-map, take, drop, take-append-drop}
+use Rattle.stage0_laws.specs.Bits.{bit}
+use Rattle.stage0_laws.specs.Lists.{sum}
+use Rattle.stage1_sheet.specs.Regex.{Regex, class-count}
+use Rattle.stage1_sheet.specs.Sheet.{Rule}
+use Rattle.stage1_sheet.specs.Items.{RegexItem, item-classes}
+use Rattle.stage1_sheet.specs.RegexItems.{regex-items-of, regex-tag}
+use Rattle.stage1_sheet_columns.specs.declared.RuleColumns.{RuleColumns}
+use Rattle.stage1_sheet_columns.specs.Holds.{low-of, high-of, items-of-rules, RulesOf}
+use Rattle.stage4_lexer.specs.Positions.{nullable, first, first-from, first-positions, empty-match, positions}
+use Rattle.stage4_lexer.specs.PositionBounds.{class-total, positions-length}
+use Rattle.stage4_lexer_columns.specs.Held.{held-from, held-positions}
+use Rattle.stage4_lexer_sets.specs.declared.Forest.{Forest}
+use Rattle.stage4_lexer_sets.specs.declared.RuleSets.{RuleSets}
+use Rattle.stage4_lexer_sets.specs.declared.EmptyRule.{EmptyRule}
+use Rattle.stage4_lexer_sets.specs.declared.RulePositions.{RulePositions}
+use Rattle.stage4_lexer_sets.specs.Forests.{all-first, first-nullable, RegexesHeld, ForestOf, RulesStacked, RuleSetsOf}
+use Rattle.stage4_lexer_sets.specs.Answer.{empty-rule, PositionsOf}
+use Rattle.stage4_lexer_sets.proofs.Items.{classes-all}
+use Rattle.stage4_lexer_sets.proofs.Holding.{Starts, low-one, entries, rules-held}
+
+-- The rules' regexes, and what the definitions over rules say of them.
+abbrev pub regexes-of : List Rule → List Regex
+regexes-of rules = map (λ r. r .regex) rules
+
+items-same : (rules : List Rule) → items-of-rules rules ≡ flatMap regex-items-of (regexes-of rules)
+unfolding items-of-rules flatMap
+items-same [] = refl
+items-same (r ∷ rules) = ap (λ (l : List RegexItem). regex-items-of (r .regex) ++ l) (items-same rules)
+
+classes-same : (rules : List Rule) → sum class-count (regexes-of rules) ≡ class-total rules
+classes-same [] = refl
+classes-same (r ∷ rules) = ap (λ (n : ℕ). class-count (r .regex) + n) (classes-same rules)
+
+first-same : (rules : List Rule) (base : ℕ) → all-first (regexes-of rules) base ≡ first-from rules base
+unfolding all-first first-from
+first-same [] base = refl
+first-same (r ∷ rules) base = ap (bitOr (first (r .regex) base)) (first-same rules (base + class-count (r .regex)))
+
+empty-same : (rules : List Rule) (k : ℕ) → first-nullable (regexes-of rules) k ≡ empty-match rules k
+unfolding first-nullable empty-match
+empty-same [] k = refl
+empty-same (r ∷ rules) k = ap (λ (o : Option ℕ). cond (nullable (r .regex)) (some k) o) (empty-same rules (suc k))
+
+module _ (c : RuleColumns) (rules : List Rule) (places : List ℕ) (held : RulesOf c rules places) where
+  classes-are : c .classes ≡ class-total rules
+  classes-are =
+      held .classes-counted ∙ entries low-of low-one (items-of-rules rules) ∙ ap (sum item-classes) (items-same rules)
+      ∙ classes-all (regexes-of rules) ∙ classes-same rules
+
+  pub regexes-held : RegexesHeld (c .tag) (c .items) (c .classes) (regexes-of rules)
+  regexes-held = record {
+    nodes = held .nodes ∙ ap length (items-same rules);
+    nodes-fit = held .nodes-fit;
+    tags-held = held .tags-held ∙ ap (map regex-tag) (items-same rules);
+    classes-counted = classes-are ∙ sym (classes-same rules);
+    classes-fit = held .classes-fit;
+  }
+
+  pub rules-stacked : (f : Forest) → ForestOf (regexes-of rules) f → RulesStacked (f .stack) (c .count) (regexes-of rules)
+  rules-stacked f h = record {
+    stacked = h .stacked;
+    rules = held .rules ∙ length-map rules (λ r. r .action) ∙ sym (length-map rules (λ r. r .regex));
+    classes-fit = omega (arith, regexes-held .classes-counted, held .classes-fit);
+  }
+
+  -- What stands first in a column, with what comes after.
+  starts : (g : RegexItem → List ℕ) (l : List ℕ) → take (c .classes) l ≡ flatMap g (items-of-rules rules)
+      → Starts g l 0 (items-of-rules rules)
+  starts g l e = (drop (c .classes) l, sym (take-append-drop (c .classes) l) ∙ ap (λ (x : List ℕ). x ++ drop (c .classes) l) e)
+
+  -- The columns that are handed back.
+  abbrev pub answer : Forest → RuleSets → EmptyRule → RulePositions
+  answer f s e = record {
+    columns = record {
+      count = c .classes;
+      low = c .low;
+      high = c .high;
+      rule = s .rule;
+      follow = f .follow;
+      last = s .last;
+      first = s .first;
+    };
+    empty = e;
+  }
+
+  pub answered : (f : Forest) (s : RuleSets) (e : EmptyRule) → ForestOf (regexes-of rules) f → RuleSetsOf (regexes-of rules) s
+      → empty-rule e ≡ first-nullable (regexes-of rules) 0 → PositionsOf rules (answer f s e)
+  unfolding held-positions positions first-positions
+  answered f s e h t g = record {
+    positions-held =
+        ap (held-from (c .low) (c .high) (s .rule) (f .follow) (s .last) 0) classes-are
+        ∙ rules-held (c .low) (c .high) (s .rule) (f .follow) (s .last) rules 0 0 (starts low-of (c .low) (held .lows-held))
+        (starts high-of (c .high) (held .highs-held))
+        (λ j b l.
+        let n = classes-same rules in
+        (t .owners j (omega arith), ap (λ (x : ℕ). bit x j) (t .lasts), h .follows j (omega (arith, classes-are, held .classes-fit))));
+    count-held = classes-are ∙ sym (positions-length rules);
+    first-held = t .firsts ∙ first-same rules 0;
+    empty-found = g ∙ empty-same rules 0;
+  }

@@ -1,0 +1,121 @@
+-- `stage4_lexer_sets::sweep` meets its contract. The invariant: for all regexes that the tags may be those of, the stack and the follow
+-- sets are those of the regexes of the items done.
+use native.Mathlib.Omega.{arith}
+use mathlib.Core.Path.{_≡_, ap, subst}
+use mathlib.Core.List.{List}
+use Prim.Native.Nat.{ℕ, _≤_}
+use Rattle.stage1_sheet.specs.Regex.{Regex}
+use Rattle.stage4_lexer_sets.specs.declared.Node.{Node}
+use Rattle.stage4_lexer_sets.specs.Forests.{RegexesHeld}
+use Rattle.stage4_lexer_sets.proofs.SweepLoop.{Swept, swept-start, Turn, turn, swept-more, swept-end}
+use Rattle.stage4_lexer_sets.proofs.sweep.Statement.{statement}
+use Rattle.stage4_lexer_sets.proofs.sweep.Tie as tie
+
+abbrev Inv-loop : tie.InvT-loop
+Inv-loop tag items classes stack₀ follow₀ top₀ base₀ at₀ stack follow top base at =
+    (at ≤ items) × ((rs : List Regex) → RegexesHeld tag items classes rs → Swept rs at stack follow top base)
+
+abbrev μ-loop : tie.MeasureT-loop
+μ-loop tag items classes stack₀ follow₀ top₀ base₀ at₀ stack follow top base at = at
+
+-- What the witness tells at the start of a turn.
+turn-at : (c : tie.In-loop Inv-loop μ-loop)
+    → let l = c .before .loop in Turn (c .before .before .args .tag .now) (l .at) (l .stack) (l .follow) (l .top) (l .base)
+turn-at c =
+    let z = c .before .before in
+    let l = c .before .loop in
+    let w = z .pre in
+    turn _ _ _ (w .0) _ _ _ _ _ (w .1) (c .loop-test .taken) (l .inv .0) (l .inv .1 (w .0) (w .1))
+
+loop-holds : tie.Need-loop-holds Inv-loop μ-loop
+loop-holds c = (omega arith, λ rs h. swept-start (c .args .tag .now) (c .args .items) (c .args .classes) rs h)
+
+sub-at : tie.Need-sub-at Inv-loop μ-loop
+sub-at c = omega arith
+
+element-copy-out-node-of : tie.Need-element-copy-out-node-of Inv-loop μ-loop
+element-copy-out-node-of c = omega (arith, c .before .before .pre .1 .nodes-fit)
+
+mul-node-of : tie.Need-mul-node-of Inv-loop μ-loop
+mul-node-of c = omega (arith, turn-at (c .before) .top-most)
+
+array-copy-out-node-of : tie.Need-array-copy-out-node-of Inv-loop μ-loop
+array-copy-out-node-of c = omega (arith, turn-at (c .before) .top-most)
+
+sub-node-of : tie.Need-sub-node-of Inv-loop μ-loop
+sub-node-of c = turn-at (c .before .before) .top-least
+
+mul-node-of-2 : tie.Need-mul-node-of-2 Inv-loop μ-loop
+mul-node-of-2 c = omega (arith, turn-at (c .before .before) .top-most)
+
+array-copy-out-node-of-2 : tie.Need-array-copy-out-node-of-2 Inv-loop μ-loop
+array-copy-out-node-of-2 c = omega (arith, turn-at (c .before .before) .top-most)
+
+node-of-requires : tie.Need-node-of-requires Inv-loop μ-loop
+node-of-requires c κs = let t = turn-at (c .before .before .before) in (t .base-most, t .base-least)
+
+join-follow-requires : tie.Need-join-follow-requires Inv-loop μ-loop
+join-follow-requires c κs = turn-at (c .before .before .before .before .before) .follow-size
+
+add-top : tie.Need-add-top Inv-loop μ-loop
+add-top c = omega (arith, turn-at (c .before .before .before .before .before .before .before) .top-most)
+
+sub-top : tie.Need-sub-top Inv-loop μ-loop
+sub-top c =
+    let t = turn-at (c .before .before .before .before .before .before .before .before) in
+    omega (arith, t .top-most, t .parts-most, ap (λ (n : Node). n .parts) (c .before .before .before .before .node-of .ensures))
+
+mul-stack : tie.Need-mul-stack Inv-loop μ-loop
+mul-stack c =
+    let t = turn-at (c .before .before .before .before .before .before .before .before) in
+    omega (arith, t .top-most, t .parts-most, ap (λ (n : Node). n .parts) (c .before .before .before .before .node-of .ensures))
+
+array-set-from-stack : tie.Need-array-set-from-stack Inv-loop μ-loop
+array-set-from-stack c =
+    let t = turn-at (c .before .before .before .before .before .before .before .before) in
+    omega (arith, t .top-most, t .parts-most, ap (λ (n : Node). n .parts) (c .before .before .before .before .node-of .ensures))
+
+loop-less : tie.Need-loop-less Inv-loop μ-loop
+loop-less c = omega arith
+
+loop-again : tie.Need-loop-again Inv-loop μ-loop
+loop-again c =
+    let n = c .before .before .before .before in
+    let i = n .before .before .before .before in
+    let l = i .before .loop in
+    let z = i .before .before .args in (
+      omega arith,
+      λ rs h. swept-more (z .tag .now) (z .items) (z .classes) rs _ _ _ _ _ h (i .loop-test .taken) (l .inv .0) (l .inv .1 rs h)
+          (n .node-of .result) _ (n .node-of .ensures) (c .before .before .join-follow .ensures),
+    )
+
+returns : tie.Need-returns Inv-loop μ-loop
+returns c =
+    let l = c .before .loop in
+    let e : l .at ≡ 0 = omega arith in
+    λ rs h. swept-end rs (l .stack) (l .follow) (l .top) (l .base)
+    (subst (λ (n : ℕ). Swept rs n (l .stack) (l .follow) (l .top) (l .base)) e (l .inv .1 rs h))
+
+pub sweep-spec : {M : Type 1} → statement M
+sweep-spec =
+    tie.close
+    (tie.spec
+    Inv-loop
+    μ-loop
+    loop-holds
+    sub-at
+    element-copy-out-node-of
+    mul-node-of
+    array-copy-out-node-of
+    sub-node-of
+    mul-node-of-2
+    array-copy-out-node-of-2
+    node-of-requires
+    join-follow-requires
+    add-top
+    sub-top
+    mul-stack
+    array-set-from-stack
+    loop-less
+    loop-again
+    returns)

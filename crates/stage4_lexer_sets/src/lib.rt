@@ -1,0 +1,317 @@
+// From the rules of a sheet that was read: the positions with their first, last and follow sets, and question 7.
+// A set of positions is one number. Which texts match is not asked here.
+use stage1_sheet_columns::RuleColumns;
+use stage4_lexer_columns::PositionColumns;
+ghost use mathlib.Core.Path.{_≡_};
+ghost use mathlib.Core.Bool.{cond};
+ghost use mathlib.Core.List.{List};
+ghost use Prim.Native.Nat.{ℕ, _+_, _≤_, _<_};
+ghost use lib.Bits.{bitOr};
+ghost use lib.ListN.{length};
+ghost use Rattle.stage0_laws.specs.Bits.{bit};
+ghost use Rattle.stage1_sheet.specs.Regex.{Regex};
+ghost use Rattle.stage1_sheet.specs.Sheet.{Rule};
+ghost use Rattle.stage1_sheet_columns.specs.Holds.{RulesOf};
+ghost use Rattle.stage4_lexer_sets.specs.Nodes.{empty-node, class-node, concat-node, union-node, star-node, node-of};
+ghost use Rattle.stage4_lexer_sets.specs.Forests.{RegexesHeld, joined, filled, ForestOf, RulesStacked, RuleSetsOf, first-nullable};
+ghost use Rattle.stage4_lexer_sets.specs.Answer.{empty-rule, PositionsOf};
+
+// The sets of a regex, and where its positions end.
+struct Sets {
+    nullable: bool,
+    first: u64,
+    last: u64,
+    end: usize,
+}
+
+// What a node makes of the regexes after it: its own sets, how many of them are its parts, which positions (`from`) it lets others
+// (`next`) follow, and where its positions start.
+struct Node {
+    sets: Sets,
+    parts: usize,
+    from: u64,
+    next: u64,
+    base: usize,
+}
+
+// Regexes one after the other, the first one on top of the stack, and the follow sets of their positions. The two lowest entries
+// are no regexes: they are there so that two entries can be read at any time.
+struct Forest {
+    stack: [Sets; 258],
+    follow: [u64; 64],
+}
+
+// The rule of each position, and where a match of any rule begins and ends.
+struct RuleSets {
+    rule: [u8; 64],
+    first: u64,
+    last: u64,
+}
+
+// Question 7: the first rule that matches the empty word, if there is one.
+pub enum EmptyRule {
+    Nothing,
+    Rule(u8),
+}
+
+pub struct RulePositions {
+    pub columns: PositionColumns,
+    pub empty: EmptyRule,
+}
+
+// A set if a flag is up, else the empty set.
+fn only_if(flag: bool, set: u64) -> u64
+    ensures { λ r. ⌜ r ≡ cond flag set 0 ⌝ }
+{
+    if flag {
+        return set;
+    }
+    0
+}
+
+fn empty_node(base: usize) -> Node
+    ensures { λ n. ⌜ n ≡ empty-node base ⌝ }
+{
+    let sets = Sets {
+        nullable: true,
+        first: 0,
+        last: 0,
+        end: base,
+    };
+    Node {
+        sets,
+        parts: 0,
+        from: 0,
+        next: 0,
+        base,
+    }
+}
+
+// The position of a class is the one before those of the regexes after it.
+fn class_node(base: usize) -> Node
+    requires { ⌜ (0 < base) × (base ≤ 64) ⌝ }
+    ensures { λ n. ⌜ n ≡ class-node base ⌝ }
+{
+    let position = base - 1;
+    let sets = Sets {
+        nullable: false,
+        first: 1u64 << position,
+        last: 1u64 << position,
+        end: base,
+    };
+    Node {
+        sets,
+        parts: 0,
+        from: 0,
+        next: 0,
+        base: position,
+    }
+}
+
+fn concat_node(r: Sets, s: Sets, base: usize) -> Node
+    ensures { λ n. ⌜ n ≡ concat-node r s base ⌝ }
+{
+    let sets = Sets {
+        nullable: r.nullable & s.nullable,
+        first: r.first | only_if(r.nullable, s.first),
+        last: only_if(s.nullable, r.last) | s.last,
+        end: s.end,
+    };
+    Node {
+        sets,
+        parts: 2,
+        from: r.last,
+        next: s.first,
+        base,
+    }
+}
+
+fn union_node(r: Sets, s: Sets, base: usize) -> Node
+    ensures { λ n. ⌜ n ≡ union-node r s base ⌝ }
+{
+    let sets = Sets {
+        nullable: r.nullable | s.nullable,
+        first: r.first | s.first,
+        last: r.last | s.last,
+        end: s.end,
+    };
+    Node {
+        sets,
+        parts: 2,
+        from: 0,
+        next: 0,
+        base,
+    }
+}
+
+fn star_node(r: Sets, base: usize) -> Node
+    ensures { λ n. ⌜ n ≡ star-node r base ⌝ }
+{
+    let sets = Sets {
+        nullable: true,
+        first: r.first,
+        last: r.last,
+        end: r.end,
+    };
+    Node {
+        sets,
+        parts: 1,
+        from: r.last,
+        next: r.first,
+        base,
+    }
+}
+
+// The node of a tag, over the next two regexes, whose positions start at a base.
+fn node_of(tag: u8, r: Sets, s: Sets, base: usize) -> Node
+    requires { ⌜ (base ≤ 64) × (tag ≡ 1 → 0 < base) ⌝ }
+    ensures { λ n. ⌜ n ≡ node-of tag r s base ⌝ }
+{
+    if tag == 0 {
+        return empty_node(base);
+    }
+    if tag == 1 {
+        return class_node(base);
+    }
+    if tag == 2 {
+        return concat_node(r, s, base);
+    }
+    if tag == 3 {
+        return union_node(r, s, base);
+    }
+    star_node(r, base)
+}
+
+// A follow set of position i, with `next` joined to it if i is one of the positions `from`.
+fn with_next(follow: u64, from: u64, next: u64, i: usize) -> u64
+    requires { ⌜ i < 64 ⌝ }
+    ensures { λ r. ⌜ r ≡ bitOr follow (cond (bit from i) next 0) ⌝ }
+{
+    if from & (1u64 << i) != 0 {
+        return follow | next;
+    }
+    follow
+}
+
+// Lets the positions `next` follow each of the positions `from`.
+fn join_follow(follow: &mut [u64; 64], from: u64, next: u64)
+    requires { ⌜ length (now follow) ≡ 64 ⌝ }
+    ensures { λ r. ⌜ now (follow .exit) ≡ joined from next (now (follow .entry)) ⌝ }
+{
+    if from == 0 {
+        return;
+    }
+    let mut i: usize = 0;
+    while i < 64 {
+        follow[i] = with_next(follow[i], from, next, i);
+        i += 1;
+    }
+}
+
+// The sets of regexes that stand one after the other in prefix order. From the last item to the first, each one finds its parts on top
+// of the stack.
+fn sweep(tag: &[u8; 256], items: usize, classes: usize) -> Forest
+    requires { ⌜ ((rs : List Regex) × RegexesHeld (now tag) items classes rs) ⌝ }
+    ensures { λ f. ⌜ ((rs : List Regex) → RegexesHeld (now (tag .entry)) items classes rs → ForestOf rs f) ⌝ }
+{
+    let unused = Sets {
+        nullable: false,
+        first: 0,
+        last: 0,
+        end: 0,
+    };
+    let mut stack = [unused; 258];
+    let mut follow = [0u64; 64];
+    let mut top: usize = 1;
+    let mut base = classes;
+    let mut at = items;
+    while 0 < at {
+        at -= 1;
+        let node = node_of(tag[at], stack[top], stack[top - 1], base);
+        join_follow(&mut follow, node.from, node.next);
+        let sets = node.sets;
+        top = top + 1 - node.parts;
+        stack[top] = sets;
+        base = node.base;
+    }
+    Forest { stack, follow }
+}
+
+// Writes a rule's number over the positions from `base` to `end`.
+fn fill(rule: &mut [u8; 64], base: usize, end: usize, k: u8)
+    requires { ⌜ (length (now rule) ≡ 64) × (base ≤ end) × (end ≤ 64) ⌝ }
+    ensures { λ r. ⌜ now (rule .exit) ≡ filled base end k (now (rule .entry)) ⌝ }
+{
+    let mut i = base;
+    while i < end {
+        rule[i] = k;
+        i += 1;
+    }
+}
+
+// The rules' own sets together. Rule 0 is on top of the stack.
+fn rule_sets(stack: [Sets; 258], count: u8) -> RuleSets
+    requires { ⌜ ((rs : List Regex) × RulesStacked stack count rs) ⌝ }
+    ensures { λ r. ⌜ ((rs : List Regex) → RulesStacked stack count rs → RuleSetsOf rs r) ⌝ }
+{
+    let mut rule = [0u8; 64];
+    let mut first: u64 = 0;
+    let mut last: u64 = 0;
+    let mut base: usize = 0;
+    let mut k: u8 = 0;
+    while k < count {
+        let top = (count - k) as usize + 1;
+        let sets = stack[top];
+        fill(&mut rule, base, sets.end, k);
+        first |= sets.first;
+        last |= sets.last;
+        base = sets.end;
+        k += 1;
+    }
+    RuleSets { rule, first, last }
+}
+
+// The first rule that matches the empty word.
+fn empty_of(stack: [Sets; 258], count: u8) -> EmptyRule
+    ensures { λ r. ⌜ ((rs : List Regex) → RulesStacked stack count rs → empty-rule r ≡ first-nullable rs 0) ⌝ }
+{
+    let mut k: u8 = 0;
+    while k < count {
+        let top = (count - k) as usize + 1;
+        let sets = stack[top];
+        if sets.nullable {
+            return EmptyRule::Rule(k);
+        }
+        k += 1;
+    }
+    EmptyRule::Nothing
+}
+
+// The positions of a sheet's rules, and the answer to question 7.
+pub fn positions_of(rules: RuleColumns) -> RulePositions
+    requires { ⌜ ((held : List Rule) × (places : List ℕ) × RulesOf rules held places) ⌝ }
+    ensures { λ r. ⌜ ((held : List Rule) (places : List ℕ) → RulesOf rules held places → PositionsOf held r) ⌝ }
+{
+    let tag = rules.tag;
+    let items = rules.items;
+    let classes = rules.classes;
+    let count = rules.count as u8;
+    let forest = sweep(&tag, items, classes);
+    let stack = forest.stack;
+    let sets = rule_sets(stack, count);
+    let empty = empty_of(stack, count);
+    let low = rules.low;
+    let high = rules.high;
+    let rule = sets.rule;
+    let follow = forest.follow;
+    let columns = PositionColumns {
+        count: classes,
+        low,
+        high,
+        rule,
+        follow,
+        last: sets.last,
+        first: sets.first,
+    };
+    RulePositions { columns, empty }
+}
