@@ -42,7 +42,8 @@ first-nullable-next rs k h =
 
 module _ (stack : List Sets) (count : ℕ) (rs : List Regex) (k : ℕ) (held : RulesStacked stack count rs) where
   at-empty : k < count
-      → first-nullable (drop k rs) k ≡ cond (getD stack (count - k + 1) unused .nullable) (some k) (first-nullable (drop (k + 1) rs) (k + 1))
+      → first-nullable (drop k rs) k
+      ≡ cond (getD stack (count - k + 1) unused .nullable) (some k) (first-nullable (drop (k + 1) rs) (k + 1))
   at-empty h =
       let b : k < length rs = omega (arith, held .rules) in
       first-nullable-next rs k b
@@ -159,7 +160,8 @@ module _ (stack : List Sets) (count : ℕ) (rs : List Regex) (k base fst lst : �
       (gathered-sets rs (drop (suc k) rs) (i .0) stack k base fst lst rule (h .classes-fit) (i .1))))
 
 pub gathering-end : (stack : List Sets) (count : ℕ) (rs : List Regex) (k base fst lst : ℕ) (rule : List ℕ)
-    → RulesStacked stack count rs → count ≤ k → Gathering rs (drop k rs) stack k base fst lst rule → RuleSetsOf rs (record { rule = rule; first = fst; last = lst })
+    → RulesStacked stack count rs → count ≤ k → Gathering rs (drop k rs) stack k base fst lst rule
+    → RuleSetsOf rs (record { rule = rule; first = fst; last = lst })
 unfolding all-first all-last
 gathering-end stack count rs k base fst lst rule h l g =
     let e : drop k rs ≡ [] = drop-of-length-le rs {i = k} (omega (arith, h .rules)) in

@@ -35,9 +35,10 @@ union-node-requires c κs = search needs
 returns-4 : tie.Need-returns-4
 unfolding node-of
 returns-4 c =
-    let z = c .before .before in
+    let z = c .before in
+    let y = z .before in
     c .union-node .ensures
-    ∙ rw (ne-eqb _ 0 (z .before .before .if1 .left), ne-eqb _ 1 (z .before .if2 .left), ne-eqb _ 2 (z .if3 .left), eq-eqb _ 3 (c .before .if4 .taken))
+    ∙ rw (ne-eqb _ 0 (y .before .before .if1 .left), ne-eqb _ 1 (y .before .if2 .left), ne-eqb _ 2 (y .if3 .left), eq-eqb _ 3 (z .if4 .taken))
 
 star-node-requires : tie.Need-star-node-requires
 star-node-requires c κs = search needs
@@ -45,9 +46,10 @@ star-node-requires c κs = search needs
 returns-5 : tie.Need-returns-5
 unfolding node-of
 returns-5 c =
-    let z = c .before .before in
+    let z = c .before in
+    let y = z .before in
     c .star-node .ensures
-    ∙ rw (ne-eqb _ 0 (z .before .before .if1 .left), ne-eqb _ 1 (z .before .if2 .left), ne-eqb _ 2 (z .if3 .left), ne-eqb _ 3 (c .before .if4 .left))
+    ∙ rw (ne-eqb _ 0 (y .before .before .if1 .left), ne-eqb _ 1 (y .before .if2 .left), ne-eqb _ 2 (y .if3 .left), ne-eqb _ 3 (z .if4 .left))
 
 pub node-of-spec : {M : Type 1} → statement M
 node-of-spec =
