@@ -3,7 +3,7 @@ use mathlib.Core.Path.{_≡_, sym, ap, _∙_}
 use mathlib.Core.List.{List}
 use Prim.Native.Nat.{ℕ, _<_}
 use native.Mathlib.Omega.{arith}
-use lib.ListN.{getD, length}
+use lib.ListN.{length}
 use Rattle.stage2_types.specs.Types.{LanguageType, bottom-type}
 use Rattle.stage2_types.specs.LeastTypes.{type-of}
 use Rattle.stage2_types.specs.LeastTypeLaws.{node-at}
