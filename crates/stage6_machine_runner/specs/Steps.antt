@@ -50,16 +50,16 @@ pub record TakeStep : Type 0 where
   pub outcome : Taken
   pub stack : List ℕ
 
--- The taker's tail, whose length stands before the place of its entry, replaces it where the stack holds it.
+-- A tail of so many members replaces its taker, unless the stack does not hold them.
+unfoldable pub replaced : Bool → List ℕ → List ℕ → ℕ → ℕ → ℕ → TakeStep
+replaced true bytes stack base at size = record { outcome = TooDeep; stack = stack }
+replaced false bytes stack base at size = record { outcome = Depth (base + size); stack = pushed stack base (part bytes at size) }
+
+-- The members of a taker's tail start at the place that its entry gives, and their number stands before it.
 unfoldable pub replace-taker : List ℕ → List ℕ → Taker → TakeStep
 replace-taker bytes stack Nothing = record { outcome = NoTaker; stack = stack }
 replace-taker bytes stack (At base entry) =
-    cond (ltb (length stack) (base + getD bytes (entry - 1) 0))
-    (record { outcome = TooDeep; stack = stack })
-    (record {
-      outcome = Depth (base + getD bytes (entry - 1) 0);
-      stack = pushed stack base (part bytes entry (getD bytes (entry - 1) 0));
-    })
+    let size = getD bytes (entry - 1) 0 in replaced (ltb (length stack) (base + size)) bytes stack base entry size
 
 unfoldable pub take-step : List ℕ → List ℕ → ℕ → List ℕ → ℕ → ℕ → TakeStep
 take-step bytes productions empty stack depth rule = replace-taker bytes stack (taker productions empty stack depth rule)
@@ -75,10 +75,12 @@ after-take p n count (Depth depth) = Next (p + n) depth (count + 1)
 after-take p n count NoTaker = Done (run-answer 15 p count)
 after-take p n count TooDeep = Done (run-answer 17 p count)
 
+-- The turn of a rule that skips, or of a take.
+unfoldable pub turn-by : Bool → List ℕ → ℕ → ℕ → ℕ → ℕ → TakeStep → TurnStep
+turn-by true stack p n depth count t = record { outcome = Next (p + n) depth count; stack = stack }
+turn-by false stack p n depth count t = record { outcome = after-take p n count (t .outcome); stack = t .stack }
+
 -- The turn at place p, where a rule matches n bytes.
 unfoldable pub turn-step : List ℕ → List ℕ → ℕ → ℕ → List ℕ → ℕ → ℕ → ℕ → ℕ → ℕ → TurnStep
 turn-step bytes productions empty skips stack rule p n depth count =
-    cond (bit skips rule)
-    (record { outcome = Next (p + n) depth count; stack = stack })
-    (let t = take-step bytes productions empty stack depth rule in
-    record { outcome = after-take p n count (t .outcome); stack = t .stack })
+    turn-by (bit skips rule) stack p n depth count (take-step bytes productions empty stack depth rule)

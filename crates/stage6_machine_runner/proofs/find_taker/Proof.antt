@@ -1,70 +1,93 @@
+-- `find_taker` meets its contract. The loop's invariant: the taker among the entries that are left is the taker.
+use mathlib.Core.Path.{_≡_, refl, sym, _∙_}
+use Prim.Native.Nat.{ℕ, _≤_, _<_}
+use native.Mathlib.Omega.{arith}
+use lib.ListN.{length}
+use denote.Ref.{now}
+use borrow.Author.Tests.{not-true, not-false}
+use Rattle.stage0_laws.specs.Lists.{All}
+use Rattle.stage6_machine_runner.specs.Stack.{pending}
+use Rattle.stage6_machine_runner.specs.Steps.{taker}
+use Rattle.stage6_machine_runner.proofs.Entries.{all-top, taker-found, taker-stops, taker-passes, taker-none}
 use Rattle.stage6_machine_runner.proofs.find_taker.Statement.{statement}
 use Rattle.stage6_machine_runner.proofs.find_taker.Tie as tie
-use Rattle.stage6_machine_runner.proofs.find_taker.Reads as reads
-use Rattle.stage6_machine_runner.proofs.find_taker.Lts as lts
-use Rattle.stage6_machine_runner.proofs.is_member.Reads as is-member-reads
 
 abbrev Inv-loop : tie.InvT-loop
-Inv-loop productions empty stack depth rule left₀ left = ?
+Inv-loop productions empty stack depth rule left₀ left =
+    (left ≤ length stack)
+    × All (λ m. m < 64) (pending stack left)
+    × (taker productions empty stack left rule ≡ taker productions empty stack depth rule)
 
 abbrev μ-loop : tie.MeasureT-loop
-μ-loop productions empty stack depth rule left₀ left = ?
+μ-loop productions empty stack depth rule left₀ left = left
 
--- src/lib.rt:65:5
 loop-holds : tie.Need-loop-holds Inv-loop μ-loop
-loop-holds c = ?
+loop-holds c = (c .before .pre .1, c .before .pre .2, refl)
 
--- src/lib.rt:66:19
 sub-top : tie.Need-sub-top Inv-loop μ-loop
-sub-top c = ?
+sub-top c = omega arith
 
--- src/lib.rt:67:27
 shared-slice-read-nonterminal : tie.Need-shared-slice-read-nonterminal Inv-loop μ-loop
-shared-slice-read-nonterminal c = ?
+shared-slice-read-nonterminal c = omega (arith, c .before .before .loop .inv .0, c .before .loop-test .taken)
 
--- src/lib.rt:68:33
 cast-entry : tie.Need-cast-entry Inv-loop μ-loop
-cast-entry c = ?
+cast-entry c = omega (arith, all-top 64 _ _ (c .before .loop-test .taken) (c .before .before .loop .inv .1) .0)
 
--- src/lib.rt:68:33
 mul-entry : tie.Need-mul-entry Inv-loop μ-loop
-mul-entry c = ?
+mul-entry c = omega (arith, all-top 64 _ _ (c .before .loop-test .taken) (c .before .before .loop .inv .1) .0)
 
--- src/lib.rt:68:33
 add-entry : tie.Need-add-entry Inv-loop μ-loop
-add-entry c = ?
+add-entry c =
+    let start = c .before .before .before .before in
+    omega (arith, start .pre .0, all-top 64 _ _ (c .before .loop-test .taken) (c .before .before .loop .inv .1) .0)
 
--- src/lib.rt:68:21
 mul-entry-2 : tie.Need-mul-entry-2 Inv-loop μ-loop
-mul-entry-2 c = ?
+mul-entry-2 c =
+    let start = c .before .before .before .before in
+    omega (arith, start .pre .0, all-top 64 _ _ (c .before .loop-test .taken) (c .before .before .loop .inv .1) .0)
 
--- src/lib.rt:68:21
 element-copy-out-entry : tie.Need-element-copy-out-entry Inv-loop μ-loop
-element-copy-out-entry c = ?
+element-copy-out-entry c =
+    let start = c .before .before .before .before in
+    omega (arith, start .pre .0, all-top 64 _ _ (c .before .loop-test .taken) (c .before .before .loop .inv .1) .0)
 
--- src/lib.rt:70:13
 returns : tie.Need-returns Inv-loop μ-loop
-returns c = ?
+returns c =
+    let turn = c .before .before .before in
+    let l = turn .before .loop in
+    taker-found _ _ _ _ (l .left) (turn .loop-test .taken) (c .if1 .taken) ∙ l .inv .2
 
--- src/lib.rt:72:13
 is-member-requires : tie.Need-is-member-requires Inv-loop μ-loop
-is-member-requires c κs = ?
+is-member-requires c κs =
+    let turn = c .before .before .before in
+    all-top 64 _ _ (turn .loop-test .taken) (turn .before .loop .inv .1) .0
 
--- src/lib.rt:73:13
 returns-2 : tie.Need-returns-2 Inv-loop μ-loop
-returns-2 c = ?
+returns-2 c =
+    let member = c .before in
+    let tested = member .before in
+    let turn = tested .before .before .before in
+    let l = turn .before .loop in
+    taker-stops _ _ _ _ (l .left) (turn .loop-test .taken) (tested .if1 .left) (sym (member .is-member .ensures) ∙ not-true _ (c .if2 .taken))
+    ∙ l .inv .2
 
--- src/lib.rt:65:5
 loop-less : tie.Need-loop-less Inv-loop μ-loop
-loop-less c = ?
+loop-less c = omega (arith, c .before .before .before .before .before .loop-test .taken)
 
--- src/lib.rt:65:5
 loop-again : tie.Need-loop-again Inv-loop μ-loop
-loop-again c = ?
+loop-again c =
+    let member = c .before in
+    let tested = member .before in
+    let turn = tested .before .before .before in
+    let l = turn .before .loop in (
+      omega (arith, l .inv .0),
+      all-top 64 _ _ (turn .loop-test .taken) (l .inv .1) .1,
+      taker-passes _ _ _ _ (l .left) (turn .loop-test .taken) (tested .if1 .left) (sym (member .is-member .ensures) ∙ not-false _ (c .if2 .left))
+          ∙ l .inv .2,
+    )
 
--- src/lib.rt:54:1
 returns-3 : tie.Need-returns-3 Inv-loop μ-loop
-returns-3 c = ?
+returns-3 c = taker-none _ _ _ _ _ (c .loop-test .left) ∙ c .before .loop .inv .2
 
 pub find-taker-spec : {M : Type 1} → statement M
 find-taker-spec =
