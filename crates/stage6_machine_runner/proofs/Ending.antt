@@ -77,6 +77,17 @@ module _ (i : Image) (entries : ℕ) where
 
 -- ---- the whole run
 
+module _ (i : Image) (entries : ℕ) (text : List ℕ) where
+  pub run-no-entry : entries < 1 → answer 17 0 0 ≡ run-image i entries text
+  unfolding run-image
+  run-no-entry h = rw (lt-ltb entries 1 h)
+
+  pub run-some-entry : (same : ℕ) → same ≡ entries → 1 ≤ entries → (a : Answer)
+      → a ≡ run-from i same (length text) text 0 (0 ∷ []) 0 → a ≡ run-image i entries text
+  unfolding run-image
+  run-some-entry same e h a f =
+      rw (le-ltb entries 1 h) (f ∙ ap (λ (k : ℕ). run-from i k (length text) text 0 (0 ∷ []) 0) e)
+
 module _ (image text : List ℕ) (entries : ℕ) where
   pub run-too-long : 1048576 < length text → answer 12 0 0 ≡ run image text entries
   unfolding run

@@ -12,7 +12,8 @@ use borrow.Author.Tests.{eq-eqb, ne-eqb, not-true, not-false}
 use Rattle.stage0_laws.specs.Bits.{bit}
 use Rattle.stage0_laws.specs.Lists.{All}
 use Rattle.stage0_laws.specs.Order.{lt-or-le}
-use Rattle.stage6_machine_runner.specs.Stack.{pending}
+use Rattle.stage3_normal_form.specs.Productions.{Row}
+use Rattle.stage6_machine_runner.specs.Stack.{pending, Ready}
 use Rattle.stage6_machine_runner.specs.Steps.{taker, all-members}
 use Rattle.stage6_machine_runner.specs.declared.Taker.{Taker}
 use Rattle.stage6_machine_runner.specs.declared.Taker.the-variants.{Nothing, At}
@@ -58,6 +59,11 @@ module _ (bound : ℕ) where
       let e : depth ≡ suc (depth - 1) = omega arith in
       let a = subst (λ (d : ℕ). All (λ m. m < bound) (pending stack d)) e h in
       (a .0, a .1)
+
+-- What the functions that only look at the entries ask.
+pub ready-entries : {bytes productions : List ℕ} {empty : ℕ} {rows : List Row} {n : ℕ} {stack : List ℕ} {depth : ℕ}
+    → Ready bytes productions empty rows n stack depth → (depth ≤ length stack) × All (λ m. m < 64) (pending stack depth)
+ready-entries {n = n} {stack = stack} {depth = depth} r = (r .inside, all-wider 64 n (pending stack depth) (r .most) (r .below))
 
 -- ---- the taker, from the top
 

@@ -12,10 +12,13 @@ use borrow.Author.Tests.{lt-ltb, le-ltb}
 use Rattle.stage0_laws.specs.Bits.{bit}
 use Rattle.stage0_laws.specs.Lists.{All}
 use Rattle.stage3_normal_form.specs.Productions.{Row, row-of}
+use Rattle.stage4_lexer.specs.Positions.{Position}
 use Rattle.stage4_lexer.specs.Match.{Match, no-match, matched}
 use Rattle.stage4_lexer.specs.Walk.{longest-match}
-use Rattle.stage4_lexer_columns.specs.Held.{held-positions}
+use Rattle.stage4_lexer_columns.specs.Held.{held-from, held-positions}
 use Rattle.stage4_lexer_scanner.specs.Laws.{match-within, match-rule}
+use Rattle.stage4_lexer_scanner.specs.Meaning.{match-of}
+use Rattle.stage4_lexer_scanner.specs.declared.Found.{Found}
 use Rattle.stage5_image.specs.Image.{Image}
 use Rattle.stage5_image_reader.specs.Tables.{RowsHeld}
 use Rattle.stage5_image_reader.specs.Decoded.{Decoded}
@@ -102,6 +105,43 @@ pub record Going (i : Image) (bytes : List ℕ) (t : ImageTables) (text stack : 
   pub counted : count ≤ p
   pub same : run-from i entries turns (drop p text) p (pending stack depth) count ≡ whole
   pub ready : Ready bytes (t .productions) (t .empty) (i .rows) (t .nonterminals) stack depth
+
+-- At the start: 0 alone is pending.
+pub going-start : (i : Image) (bytes : List ℕ) (t : ImageTables) → Decoded bytes t i → (text stack : List ℕ) → getD stack 0 0 ≡ 0
+    → 1 ≤ length stack → Going i bytes t text stack (length stack) 0 1 0 (run-from i (length stack) (length text) text 0 (0 ∷ []) 0)
+unfolding pending
+going-start i bytes t decoded text stack z room =
+    let alone : pending stack 1 ≡ 0 ∷ [] = ap (λ (n : ℕ). n ∷ []) z in
+    let some-rows : 0 < t .nonterminals = omega (arith, decoded .some-nonterminals) in
+    record {
+      turns = length text;
+      enough = omega arith;
+      within = omega arith;
+      counted = omega arith;
+      same = ap (λ (l : List ℕ). run-from i (length stack) (length text) text 0 l 0) alone;
+      ready = record {
+        held = decoded .rows;
+        most = decoded .most-nonterminals;
+        inside = room;
+        below = subst (All (λ m. m < t .nonterminals)) (sym alone) (some-rows, tt);
+      };
+    }
+
+-- The scanner's answer over the tables and the rest of the text is the image's longest match.
+pub scanned : (i : Image) (bytes : List ℕ) (t : ImageTables) → Decoded bytes t i → (text : List ℕ) (p : ℕ) (r : Found)
+    → let c = t .positions in
+    match-of r ≡ longest-match (held-from (c .low) (c .high) (c .rule) (c .follow) (c .last) 0 (c .count)) (c .first)
+    (take (length text - p) (drop p text))
+    → (m : Match) → match-of r ≡ m → longest-match (i .positions) (i .first) (drop p text) ≡ m
+unfolding held-positions
+scanned i bytes t decoded text p r e m f =
+    let part = take (length text - p) (drop p text) in
+    let rest : part ≡ drop p text = take-all (length text - p) (drop p text) (simp length-drop (omega arith)) in
+    let same =
+        ap (λ (ps : List Position). longest-match ps (t .positions .first) part) (decoded .positions)
+        ∙ ap (λ (s : ℕ). longest-match (i .positions) s part) (decoded .first)
+        ∙ ap (λ (l : List ℕ). longest-match (i .positions) (i .first) l) rest in
+    sym (e ∙ same) ∙ f
 
 -- What a turn leads to.
 abbrev pub Leads : Image → List ℕ → ImageTables → List ℕ → ℕ → ℕ → Answer → List ℕ → Turn → Type 0
@@ -208,7 +248,19 @@ module _ (i : Image) (bytes : List ℕ) (t : ImageTables) (decoded : Decoded byt
             by-take _ _ (sym (decoded .skips rule) ∙ e)
             (take-leads bytes (t .productions) (t .empty) (i .rows) (t .nonterminals) stack depth rule (found-within .2) (going .ready))
 
-        pub turn-leads : let s = turn-step bytes (t .productions) (t .empty) (t .skips) stack rule p n depth count in
+        turn-leads : let s = turn-step bytes (t .productions) (t .empty) (t .skips) stack rule p n depth count in
             Leads i bytes t text entries p whole (s .stack) (s .outcome)
         unfolding turn-step
         turn-leads = by-skip (bit (t .skips) rule) refl
+
+        pub turn-done : (a : RunAnswer) → turn-step bytes (t .productions) (t .empty) (t .skips) stack rule p n depth count .outcome ≡ Done a
+            → answer-of a ≡ whole
+        turn-done a e = subst (Leads i bytes t text entries p whole _) e turn-leads
+
+        pub turn-next : (stack' : List ℕ) (place depth' count' : ℕ)
+            → stack' ≡ turn-step bytes (t .productions) (t .empty) (t .skips) stack rule p n depth count .stack
+            → turn-step bytes (t .productions) (t .empty) (t .skips) stack rule p n depth count .outcome ≡ Next place depth' count'
+            → Going i bytes t text stack' entries place depth' count' whole × (p < place)
+        turn-next stack' place depth' count' f e =
+            subst (λ (l : List ℕ). Leads i bytes t text entries p whole l (Next place depth' count')) (sym f)
+            (subst (Leads i bytes t text entries p whole _) e turn-leads)

@@ -1,46 +1,59 @@
+-- `run` meets its contract: one law of `Ending` for each answer.
+use mathlib.Core.Path.{_≡_, ap, _∙_}
+use Prim.Native.Nat.{ℕ, _≤_}
+use native.Mathlib.Omega.{arith}
+use lib.ListN.{length, replicate}
+use denote.Ref.{now}
+use Rattle.stage0_buffers.specs.Cleared.{cleared-all}
+use Rattle.stage6_machine_runner.specs.Steps.{answer-of}
+use Rattle.stage6_machine_runner.proofs.Ending.{run-too-long, run-unreadable, run-readable, stack-kept-12, stack-kept-13, stack-cleared}
 use borrow.Author.Needs.{needs}
 use Rattle.stage6_machine_runner.proofs.run.Statement.{statement}
 use Rattle.stage6_machine_runner.proofs.run.Tie as tie
-use Rattle.stage6_machine_runner.proofs.run.Reads as reads
-use Rattle.stage6_machine_runner.proofs.run.Lts as lts
-use Rattle.stage0_buffers.proofs.clear_front.Reads as clear-front-reads
-use Rattle.stage5_image_reader.proofs.read_image.Reads as read-image-reads
-use Rattle.stage6_machine_runner.proofs.run_image.Reads as run-image-reads
 
--- src/lib.rt:268:9
 returns : tie.Need-returns
-returns c = ?
+unfolding answer-of
+returns c = (run-too-long _ _ _ (c .if1 .taken), stack-kept-12 _)
 
--- src/lib.rt:274:9
 read-image-requires : tie.Need-read-image-requires
 read-image-requires c κs = search needs
 
--- src/lib.rt:276:29
 enum-known-outcome : tie.Need-enum-known-outcome
 enum-known-outcome c = search needs
 
--- src/lib.rt:277:9
 returns-2 : tie.Need-returns-2
-returns-2 c = ?
+unfolding answer-of
+returns-2 c = 
+    let refused = c .before .before .before .read-image .ensures .refusal (c .before .outcome .given .1) in
+    (run-unreadable _ _ _ (c .before .before .before .before .if1 .left) _ (refused .0), stack-kept-13 _ _)
 
 enum-told : tie.Need-enum-told
 enum-told c = search needs
 
--- src/lib.rt:284:9
 run-image-requires : tie.Need-run-image-requires
-run-image-requires c κs = ?
+run-image-requires c κs = 
+    let readable = c .before .before .before .before .read-image .ensures .readable (c .before .before .enum-told .given .1) in
+    (readable .0, readable .2)
 
--- src/lib.rt:286:5
 clear-front-requires : tie.Need-clear-front-requires
 clear-front-requires c κs = search needs
 
--- src/lib.rt:262:1
 same-length : tie.Need-same-length
 same-length c = search needs
 
--- src/lib.rt:262:1
 returns-3 : tie.Need-returns-3
-returns-3 c = ?
+returns-3 c = 
+    let start = c .before .before .before .before .before .before .before .before .before .before .before .before .before .before .before .before in
+    let readable = c .before .before .before .before .before .before .before .before .before .before .before .read-image .ensures .readable (c .before .before .before .before .before .before .before .before .before .enum-told .given .1) in
+    let ran = c .before .before .before .before .before .before .run-image in
+    let answers = ran .ensures (readable .0) (readable .2) in
+    let left = ran .last .1 .1 .1 .0 in (
+      run-readable _ _ _ (c .before .before .before .before .before .before .before .before .before .before .before .before .if1 .left) (readable .0) _ (readable .1) _ answers,
+      c .before .before .clear-front .ensures
+          ∙ cleared-all (length left) left (omega arith)
+          ∙ ap (λ (k : ℕ). replicate k 0) (ran .kept .1 .1 .1 .0)
+          ∙ stack-cleared (readable .0) _ _ _ (now (start .args .stack)) answers,
+    )
 
 pub run-spec : {M : Type 1} → statement M
 run-spec =

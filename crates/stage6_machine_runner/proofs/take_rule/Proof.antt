@@ -3,7 +3,7 @@ use mathlib.Core.Path.{_≡_, sym, _∙_}
 use Prim.Native.Nat.{ℕ, _-_}
 use native.Mathlib.Omega.{arith}
 use denote.Ref.{now}
-use Rattle.stage6_machine_runner.proofs.Entries.{all-wider}
+use Rattle.stage6_machine_runner.proofs.Entries.{ready-entries}
 use Rattle.stage6_machine_runner.proofs.Taking.{found-tail}
 use Rattle.stage6_machine_runner.proofs.Answers.{no-taker, too-deep, took}
 use borrow.Author.Needs.{needs}
@@ -13,8 +13,8 @@ use Rattle.stage6_machine_runner.proofs.take_rule.Tie as tie
 find-taker-requires : tie.Need-find-taker-requires
 find-taker-requires c κs = 
     let start = c .before .before .before in
-    let ready = start .pre .1 .2 in
-    (start .pre .0, ready .inside, all-wider 64 _ _ (ready .most) (ready .below))
+    let entries = ready-entries (start .pre .1 .2) in
+    (start .pre .0, entries .0, entries .1)
 
 enum-known-found : tie.Need-enum-known-found
 enum-known-found c = search needs
