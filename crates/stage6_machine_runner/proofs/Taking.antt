@@ -161,8 +161,8 @@ module _ (bytes productions : List ℕ) (empty : ℕ) (rows : List Row) (n : ℕ
         let stack' = pushed stack base (part bytes entry (getD bytes (entry - 1) 0)) in
         let same : length stack' ≡ length stack = length-pushed stack base (part bytes entry (getD bytes (entry - 1) 0)) in
         let now-pending : pending stack' (base + getD bytes (entry - 1) 0) ≡ x .tail ++ pending stack base =
-            ap₂ (λ (l : List ℕ) (k : ℕ). pending (pushed stack base l) (base + k)) tail-part (x .there .size)
-            ∙ pending-pushed stack base (x .tail) room in
+        ap₂ (λ (l : List ℕ) (k : ℕ). pending (pushed stack base l) (base + k)) tail-part (x .there .size)
+        ∙ pending-pushed stack base (x .tail) room in
         let low = all-lower n stack base depth (omega (arith, x .under)) (ready .below) in (
           x .next-is ∙ ap some (sym now-pending),
           record {

@@ -16,9 +16,10 @@ use Rattle.stage4_lexer.specs.Positions.{Position}
 use Rattle.stage4_lexer.specs.Match.{Match, no-match, matched}
 use Rattle.stage4_lexer.specs.Walk.{longest-match}
 use Rattle.stage4_lexer_columns.specs.Held.{held-from, held-positions}
-use Rattle.stage4_lexer_scanner.specs.Laws.{match-within, match-rule}
+use Rattle.stage4_lexer_scanner.specs.Laws.{match-within, match-rule, found-nothing, found-rule}
 use Rattle.stage4_lexer_scanner.specs.Meaning.{match-of}
 use Rattle.stage4_lexer_scanner.specs.declared.Found.{Found}
+use Rattle.stage4_lexer_scanner.specs.declared.Found.the-variants.{Nothing, Rule}
 use Rattle.stage5_image.specs.Image.{Image}
 use Rattle.stage5_image_reader.specs.Tables.{RowsHeld}
 use Rattle.stage5_image_reader.specs.Decoded.{Decoded}
@@ -128,20 +129,28 @@ going-start i bytes t decoded text stack z room =
     }
 
 -- The scanner's answer over the tables and the rest of the text is the image's longest match.
-pub scanned : (i : Image) (bytes : List ℕ) (t : ImageTables) → Decoded bytes t i → (text : List ℕ) (p : ℕ) (r : Found)
-    → let c = t .positions in
-    match-of r ≡ longest-match (held-from (c .low) (c .high) (c .rule) (c .follow) (c .last) 0 (c .count)) (c .first)
-    (take (length text - p) (drop p text))
-    → (m : Match) → match-of r ≡ m → longest-match (i .positions) (i .first) (drop p text) ≡ m
-unfolding held-positions
-scanned i bytes t decoded text p r e m f =
-    let part = take (length text - p) (drop p text) in
-    let rest : part ≡ drop p text = take-all (length text - p) (drop p text) (simp length-drop (omega arith)) in
-    let same =
-        ap (λ (ps : List Position). longest-match ps (t .positions .first) part) (decoded .positions)
-        ∙ ap (λ (s : ℕ). longest-match (i .positions) s part) (decoded .first)
-        ∙ ap (λ (l : List ℕ). longest-match (i .positions) (i .first) l) rest in
-    sym (e ∙ same) ∙ f
+module _ (i : Image) (bytes : List ℕ) (t : ImageTables) (decoded : Decoded bytes t i) (text : List ℕ) (p : ℕ) (r : Found) where
+  abbrev Scanned : Type 0
+  Scanned =
+      let c = t .positions in
+      match-of r ≡ longest-match (held-from (c .low) (c .high) (c .rule) (c .follow) (c .last) 0 (c .count)) (c .first)
+      (take (length text - p) (drop p text))
+
+  scanned : Scanned → match-of r ≡ longest-match (i .positions) (i .first) (drop p text)
+  unfolding held-positions
+  scanned e =
+      let part = take (length text - p) (drop p text) in
+      let rest : part ≡ drop p text = take-all (length text - p) (drop p text) (simp length-drop (omega arith)) in
+      e
+      ∙ ap (λ (ps : List Position). longest-match ps (t .positions .first) part) (decoded .positions)
+      ∙ ap (λ (s : ℕ). longest-match (i .positions) s part) (decoded .first)
+      ∙ ap (λ (l : List ℕ). longest-match (i .positions) (i .first) l) rest
+
+  pub scanned-nothing : Scanned → r ≡ Nothing → longest-match (i .positions) (i .first) (drop p text) ≡ no-match
+  scanned-nothing e f = found-nothing r _ (scanned e) f
+
+  pub scanned-rule : Scanned → (rule n : ℕ) → r ≡ Rule rule n → longest-match (i .positions) (i .first) (drop p text) ≡ matched rule n
+  scanned-rule e rule n f = found-rule r _ rule n (scanned e) f
 
 -- What a turn leads to.
 abbrev pub Leads : Image → List ℕ → ImageTables → List ℕ → ℕ → ℕ → Answer → List ℕ → Turn → Type 0
@@ -151,7 +160,6 @@ Leads i bytes t text entries p whole stack' (Done a) = answer-of a ≡ whole
 
 module _ (i : Image) (bytes : List ℕ) (t : ImageTables) (decoded : Decoded bytes t i) (text stack : List ℕ) (entries p depth count : ℕ)
     (whole : Answer) (going : Going i bytes t text stack entries p depth count whole) where
-
   -- At the end.
   members-are : (l : List ℕ) → all-members (t .empty) l ≡ all-nullable (i .rows) l
   unfolding all-members all-nullable

@@ -27,7 +27,7 @@ same-length c = search needs
 
 returns-2 : tie.Need-returns-2
 unfolding after-take
-returns-2 c = 
+returns-2 c =
     let s = sym (c .before .before .before .before .before .before .before .is-member .ensures) ∙ c .before .before .before .before .before .before .if1 .left in
     turn-takes _ _ _ _ _ _ _ _ _ _ s _ _ (c .before .before .before .before .take-rule .ensures) NoTaker (c .enum-told .given .1)
 
@@ -39,7 +39,7 @@ same-length-2 c = search needs
 
 returns-3 : tie.Need-returns-3
 unfolding after-take
-returns-3 c = 
+returns-3 c =
     let s = sym (c .before .before .before .before .before .before .before .is-member .ensures) ∙ c .before .before .before .before .before .before .if1 .left in
     turn-takes _ _ _ _ _ _ _ _ _ _ s _ _ (c .before .before .before .before .take-rule .ensures) TooDeep (c .enum-told2 .given .1)
 
@@ -57,7 +57,7 @@ same-length-3 c = search needs
 
 returns-4 : tie.Need-returns-4
 unfolding after-take
-returns-4 c = 
+returns-4 c =
     let s = sym (c .before .before .before .before .before .before .before .before .is-member .ensures) ∙ c .before .before .before .before .before .before .before .if1 .left in
     turn-takes _ _ _ _ _ _ _ _ _ _ s _ _ (c .before .before .before .before .before .take-rule .ensures) (Depth (c .before .taken .given .0 .0)) (c .before .taken .given .1)
 

@@ -23,7 +23,7 @@ enum-known-outcome c = search needs
 
 returns-2 : tie.Need-returns-2
 unfolding answer-of
-returns-2 c = 
+returns-2 c =
     let refused = c .before .before .before .read-image .ensures .refusal (c .before .outcome .given .1) in
     (run-unreadable _ _ _ (c .before .before .before .before .if1 .left) _ (refused .0), stack-kept-13 _ _)
 
@@ -31,7 +31,7 @@ enum-told : tie.Need-enum-told
 enum-told c = search needs
 
 run-image-requires : tie.Need-run-image-requires
-run-image-requires c κs = 
+run-image-requires c κs =
     let readable = c .before .before .before .before .read-image .ensures .readable (c .before .before .enum-told .given .1) in
     (readable .0, readable .2)
 
@@ -42,7 +42,7 @@ same-length : tie.Need-same-length
 same-length c = search needs
 
 returns-3 : tie.Need-returns-3
-returns-3 c = 
+returns-3 c =
     let start = c .before .before .before .before .before .before .before .before .before .before .before .before .before .before .before .before in
     let readable = c .before .before .before .before .before .before .before .before .before .before .before .read-image .ensures .readable (c .before .before .before .before .before .before .before .before .before .enum-told .given .1) in
     let ran = c .before .before .before .before .before .before .run-image in

@@ -7,14 +7,12 @@ use native.Mathlib.Omega.{arith}
 use lib.ListN.{length, length-set}
 use lib.Seq.{getD-set-same}
 use denote.Ref.{now}
-use Rattle.stage4_lexer.specs.Match.{no-match, matched}
-use Rattle.stage4_lexer_scanner.specs.Meaning.{match-of}
 use Rattle.stage5_image.specs.Image.{Image}
 use Rattle.stage5_image_reader.specs.Decoded.{Decoded}
 use Rattle.stage6_machine.specs.Run.{run-from}
 use Rattle.stage6_machine_runner.specs.Steps.{answer-of}
 use Rattle.stage6_machine_runner.proofs.Entries.{ready-entries}
-use Rattle.stage6_machine_runner.proofs.Turns.{Going, going-start, scanned, going-ends, going-unmatched, found-within, turn-done, turn-next}
+use Rattle.stage6_machine_runner.proofs.Turns.{Going, going-start, scanned-nothing, scanned-rule, going-ends, going-unmatched, found-within, turn-done, turn-next}
 use Rattle.stage6_machine_runner.proofs.Ending.{run-no-entry, run-some-entry}
 use Rattle.stage6_machine_runner.proofs.run_image.Statement.{statement}
 use Rattle.stage6_machine_runner.proofs.run_image.Tie as tie
@@ -36,7 +34,7 @@ slice-write-stack : tie.Need-slice-write-stack Inv-loop μ-loop
 slice-write-stack c = search needs
 
 loop-holds : tie.Need-loop-holds Inv-loop μ-loop
-loop-holds c = 
+loop-holds c =
     let start = c .before .before .before .before .before in
     let room : 0 < length (now (start .args .stack)) = omega (arith, c .before .if1 .left) in
     let size = length-set (now (start .args .stack)) 0 0 in
@@ -61,28 +59,27 @@ enum-told : tie.Need-enum-told Inv-loop μ-loop
 enum-told c = search needs
 
 same-length : tie.Need-same-length Inv-loop μ-loop
-same-length c = 
+same-length c =
     let start = c .before .before .before .before .before .before .before .before .before .before .before .before .before .before .before .before in
     let l = c .before .before .before .before .before .before .before .before .before .before .loop in
     l .inv .0 ∙ length-set (now (start .args .stack)) 0 0
 
 returns-2 : tie.Need-returns-2 Inv-loop μ-loop
-unfolding match-of answer-of
-returns-2 c = 
+unfolding answer-of
+returns-2 c =
     let start = c .before .before .before .before .before .before .before .before .before .before .before .before .before .before .before .before in
     let l = c .before .before .before .before .before .before .before .before .before .before .loop in
     λ i d.
-      let m = scanned i (now (start .args .image)) (start .args .t2) d (now (start .args .text)) (l .p) _ (c .before .before .longest-match .ensures) (no-match) (ap match-of (c .enum-told .given .1)) in
-      run-some-entry i _ _ _ (length-set (now (start .args .stack)) 0 0) (c .before .before .before .before .before .before .before .before .before .before .before .before .if1 .left) _ (going-unmatched i (now (start .args .image)) (start .args .t2) d (now (start .args .text)) (l .stack) _ (l .p) (l .depth) (l .count) _ (l .inv .1 i d) (c .before .before .before .before .before .before .before .before .before .loop-test .taken) m)
+    let m = scanned-nothing i (now (start .args .image)) (start .args .t2) d (now (start .args .text)) (l .p) _ (c .before .before .longest-match .ensures) (c .enum-told .given .1) in
+    run-some-entry i _ _ _ (length-set (now (start .args .stack)) 0 0) (c .before .before .before .before .before .before .before .before .before .before .before .before .if1 .left) _ (going-unmatched i (now (start .args .image)) (start .args .t2) d (now (start .args .text)) (l .stack) _ (l .p) (l .depth) (l .count) _ (l .inv .1 i d) (c .before .before .before .before .before .before .before .before .before .loop-test .taken) m)
 
 after-match-requires : tie.Need-after-match-requires Inv-loop μ-loop
-unfolding match-of
-after-match-requires c κs = 
+after-match-requires c κs =
     let start = c .before .before .before .before .before .before .before .before .before .before .before .before .before .before .before .before .before .before .before .before in
     let l = c .before .before .before .before .before .before .before .before .before .before .before .before .before .before .loop in
     let w = start .pre in
     let g = c .before .before .before .before .found .given in
-    let m = scanned (w .0) (now (start .args .image)) (start .args .t2) (w .1) (now (start .args .text)) (l .p) _ (c .before .before .before .before .before .before .longest-match .ensures) (matched (g .0 .0) (g .0 .1 .0)) (ap match-of (g .1)) in
+    let m = scanned-rule (w .0) (now (start .args .image)) (start .args .t2) (w .1) (now (start .args .text)) (l .p) _ (c .before .before .before .before .before .before .longest-match .ensures) _ _ (g .1) in
     let f = found-within (w .0) (now (start .args .image)) (start .args .t2) (w .1) (now (start .args .text)) (l .stack) _ (l .p) (l .depth) (l .count) _ (l .inv .1 (w .0) (w .1)) (c .before .before .before .before .before .before .before .before .before .before .before .before .before .loop-test .taken) _ _ m in
     let going = l .inv .1 (w .0) (w .1) in
     (f .2, omega (arith, f .1), omega (arith, f .0, going .counted), (_, _, going .ready))
@@ -91,73 +88,70 @@ enum-known-after : tie.Need-enum-known-after Inv-loop μ-loop
 enum-known-after c = search needs
 
 same-length-2 : tie.Need-same-length-2 Inv-loop μ-loop
-same-length-2 c = 
+same-length-2 c =
     let start = c .before .before .before .before .before .before .before .before .before .before .before .before .before .before .before .before .before .before .before .before .before .before .before .before .before .before in
     let l = c .before .before .before .before .before .before .before .before .before .before .before .before .before .before .before .before .before .before .before .before .loop in
     c .before .before .before .before .before .after-match .kept .1 .1 .1 .1 .0 ∙ l .inv .0 ∙ length-set (now (start .args .stack)) 0 0
 
 returns-3 : tie.Need-returns-3 Inv-loop μ-loop
-unfolding match-of
-returns-3 c = 
+returns-3 c =
     let start = c .before .before .before .before .before .before .before .before .before .before .before .before .before .before .before .before .before .before .before .before .before .before .before .before .before .before in
     let l = c .before .before .before .before .before .before .before .before .before .before .before .before .before .before .before .before .before .before .before .before .loop in
     let after = c .before .after .given in
     let e = sym (c .before .before .before .before .before .after-match .ensures .0) ∙ after .1 in
     λ i d.
-      let g = c .before .before .before .before .before .before .before .before .before .before .found .given in
-      let m = scanned i (now (start .args .image)) (start .args .t2) d (now (start .args .text)) (l .p) _ (c .before .before .before .before .before .before .before .before .before .before .before .before .longest-match .ensures) (matched (g .0 .0) (g .0 .1 .0)) (ap match-of (g .1)) in
-      run-some-entry i _ _ _ (length-set (now (start .args .stack)) 0 0) (c .before .before .before .before .before .before .before .before .before .before .before .before .before .before .before .before .before .before .before .before .before .before .if1 .left) _ (turn-done i (now (start .args .image)) (start .args .t2) d (now (start .args .text)) (l .stack) _ (l .p) (l .depth) (l .count) _ (l .inv .1 i d) (c .before .before .before .before .before .before .before .before .before .before .before .before .before .before .before .before .before .before .before .loop-test .taken) _ _ m (l .inv .0) _ e)
+    let g = c .before .before .before .before .before .before .before .before .before .before .found .given in
+    let m = scanned-rule i (now (start .args .image)) (start .args .t2) d (now (start .args .text)) (l .p) _ (c .before .before .before .before .before .before .before .before .before .before .before .before .longest-match .ensures) _ _ (g .1) in
+    run-some-entry i _ _ _ (length-set (now (start .args .stack)) 0 0) (c .before .before .before .before .before .before .before .before .before .before .before .before .before .before .before .before .before .before .before .before .before .before .if1 .left) _ (turn-done i (now (start .args .image)) (start .args .t2) d (now (start .args .text)) (l .stack) _ (l .p) (l .depth) (l .count) _ (l .inv .1 i d) (c .before .before .before .before .before .before .before .before .before .before .before .before .before .before .before .before .before .before .before .loop-test .taken) _ _ m (l .inv .0) _ e)
 
 enum-known-after-2 : tie.Need-enum-known-after-2 Inv-loop μ-loop
 enum-known-after-2 c = search needs
 
 loop-less : tie.Need-loop-less Inv-loop μ-loop
-unfolding match-of
-loop-less c = 
+loop-less c =
     let start = c .before .before .before .before .before .before .before .before .before .before .before .before .before .before .before .before .before .before .before .before .before .before .before .before .before .before in
     let l = c .before .before .before .before .before .before .before .before .before .before .before .before .before .before .before .before .before .before .before .before .loop in
     let w = start .pre in
-    let after = c .before .after .given in
+    let after = c .before .after2 .given in
     let e = sym (c .before .before .before .before .before .after-match .ensures .0) ∙ after .1 in
     let g = c .before .before .before .before .before .before .before .before .before .before .found .given in
-    let m = scanned (w .0) (now (start .args .image)) (start .args .t2) (w .1) (now (start .args .text)) (l .p) _ (c .before .before .before .before .before .before .before .before .before .before .before .before .longest-match .ensures) (matched (g .0 .0) (g .0 .1 .0)) (ap match-of (g .1)) in
+    let m = scanned-rule (w .0) (now (start .args .image)) (start .args .t2) (w .1) (now (start .args .text)) (l .p) _ (c .before .before .before .before .before .before .before .before .before .before .before .before .longest-match .ensures) _ _ (g .1) in
     let t = turn-next (w .0) (now (start .args .image)) (start .args .t2) (w .1) (now (start .args .text)) (l .stack) _ (l .p) (l .depth) (l .count) _ (l .inv .1 (w .0) (w .1)) (c .before .before .before .before .before .before .before .before .before .before .before .before .before .before .before .before .before .before .before .loop-test .taken) _ _ m (l .inv .0) _ _ _ _ (c .before .before .before .before .before .after-match .ensures .1) e in
     omega (arith, t .0 .within, t .1)
 
 loop-again : tie.Need-loop-again Inv-loop μ-loop
-unfolding match-of
-loop-again c = 
+loop-again c =
     let start = c .before .before .before .before .before .before .before .before .before .before .before .before .before .before .before .before .before .before .before .before .before .before .before .before .before .before in
     let l = c .before .before .before .before .before .before .before .before .before .before .before .before .before .before .before .before .before .before .before .before .loop in
-    let after = c .before .after .given in
+    let after = c .before .after2 .given in
     let e = sym (c .before .before .before .before .before .after-match .ensures .0) ∙ after .1 in (
       c .before .before .before .before .before .after-match .kept .1 .1 .1 .1 .0 ∙ l .inv .0,
       λ i d.
-        let g = c .before .before .before .before .before .before .before .before .before .before .found .given in
-        let m = scanned i (now (start .args .image)) (start .args .t2) d (now (start .args .text)) (l .p) _ (c .before .before .before .before .before .before .before .before .before .before .before .before .longest-match .ensures) (matched (g .0 .0) (g .0 .1 .0)) (ap match-of (g .1)) in
-        turn-next i (now (start .args .image)) (start .args .t2) d (now (start .args .text)) (l .stack) _ (l .p) (l .depth) (l .count) _ (l .inv .1 i d) (c .before .before .before .before .before .before .before .before .before .before .before .before .before .before .before .before .before .before .before .loop-test .taken) _ _ m (l .inv .0) _ _ _ _ (c .before .before .before .before .before .after-match .ensures .1) e .0,
+          let g = c .before .before .before .before .before .before .before .before .before .before .found .given in
+          let m = scanned-rule i (now (start .args .image)) (start .args .t2) d (now (start .args .text)) (l .p) _ (c .before .before .before .before .before .before .before .before .before .before .before .before .longest-match .ensures) _ _ (g .1) in
+          turn-next i (now (start .args .image)) (start .args .t2) d (now (start .args .text)) (l .stack) _ (l .p) (l .depth) (l .count) _ (l .inv .1 i d) (c .before .before .before .before .before .before .before .before .before .before .before .before .before .before .before .before .before .before .before .loop-test .taken) _ _ m (l .inv .0) _ _ _ _ (c .before .before .before .before .before .after-match .ensures .1) e .0,
     )
 
 at-end-requires : tie.Need-at-end-requires Inv-loop μ-loop
-at-end-requires c κs = 
+at-end-requires c κs =
     let start = c .before .before .before .before .before .before .before .before in
     let l = c .before .before .loop in
     let w = start .pre in
     ready-entries (l .inv .1 (w .0) (w .1) .ready)
 
 same-length-3 : tie.Need-same-length-3 Inv-loop μ-loop
-same-length-3 c = 
+same-length-3 c =
     let start = c .before .before .before .before .before .before .before .before .before in
     let l = c .before .before .before .loop in
     l .inv .0 ∙ length-set (now (start .args .stack)) 0 0
 
 returns-4 : tie.Need-returns-4 Inv-loop μ-loop
-returns-4 c = 
+returns-4 c =
     let start = c .before .before .before .before .before .before .before .before .before in
     let l = c .before .before .before .loop in
     λ i d.
-      run-some-entry i _ _ _ (length-set (now (start .args .stack)) 0 0) (c .before .before .before .before .before .if1 .left) _
-      (ap answer-of (c .at-end .ensures) ∙ going-ends i (now (start .args .image)) (start .args .t2) d (now (start .args .text)) (l .stack) _ (l .p) (l .depth) (l .count) _ (l .inv .1 i d) (c .before .before .loop-test .left))
+    run-some-entry i _ _ _ (length-set (now (start .args .stack)) 0 0) (c .before .before .before .before .before .if1 .left) _
+    (ap answer-of (c .at-end .ensures) ∙ going-ends i (now (start .args .image)) (start .args .t2) d (now (start .args .text)) (l .stack) _ (l .p) (l .depth) (l .count) _ (l .inv .1 i d) (c .before .before .loop-test .left))
 
 pub run-image-spec : {M : Type 1} → statement M
 run-image-spec =

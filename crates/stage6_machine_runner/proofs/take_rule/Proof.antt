@@ -11,7 +11,7 @@ use Rattle.stage6_machine_runner.proofs.take_rule.Statement.{statement}
 use Rattle.stage6_machine_runner.proofs.take_rule.Tie as tie
 
 find-taker-requires : tie.Need-find-taker-requires
-find-taker-requires c κs = 
+find-taker-requires c κs =
     let start = c .before .before .before in
     let entries = ready-entries (start .pre .1 .2) in
     (start .pre .0, entries .0, entries .1)
@@ -26,12 +26,12 @@ same-length : tie.Need-same-length
 same-length c = search needs
 
 returns : tie.Need-returns
-returns c = 
+returns c =
     let e = sym (c .before .before .find-taker .ensures) ∙ c .enum-told .given .1 in
     no-taker _ _ _ _ _ _ e
 
 sub-size : tie.Need-sub-size
-sub-size c = 
+sub-size c =
     let start = c .before .before .before .before .before .before .before in
     let found = c .before in
     let e = sym (c .before .before .before .find-taker .ensures) ∙ found .found .given .1 in
@@ -39,7 +39,7 @@ sub-size c =
     w .0
 
 shared-slice-read-size : tie.Need-shared-slice-read-size
-shared-slice-read-size c = 
+shared-slice-read-size c =
     let start = c .before .before .before .before .before .before .before .before in
     let found = c .before .before in
     let e = sym (c .before .before .before .before .find-taker .ensures) ∙ found .found .given .1 in
@@ -47,12 +47,12 @@ shared-slice-read-size c =
     omega (arith, w .0, w .1)
 
 cast-size : tie.Need-cast-size
-cast-size c = 
+cast-size c =
     let found = c .before .before in
     omega (arith, c .shared-slice-known2 .given (found .found .given .0 .1 .0 - 1))
 
 sub-if1 : tie.Need-sub-if1
-sub-if1 c = 
+sub-if1 c =
     let start = c .before .before .before .before .before .before .before .before in
     let found = c .before .before in
     let e = sym (c .before .before .before .before .find-taker .ensures) ∙ found .found .given .1 in
@@ -63,7 +63,7 @@ same-length-2 : tie.Need-same-length-2
 same-length-2 c = search needs
 
 returns-2 : tie.Need-returns-2
-returns-2 c = 
+returns-2 c =
     let start = c .before .before .before .before .before .before .before .before .before in
     let found = c .before .before .before in
     let e = sym (c .before .before .before .before .before .find-taker .ensures) ∙ found .found .given .1 in
@@ -71,7 +71,7 @@ returns-2 c =
     too-deep _ _ _ _ _ _ _ _ e (w .2) (c .if1 .taken)
 
 push-tail-requires : tie.Need-push-tail-requires
-push-tail-requires c κs = 
+push-tail-requires c κs =
     let start = c .before .before .before .before .before .before .before .before .before .before in
     let found = c .before .before .before .before in
     let e = sym (c .before .before .before .before .before .before .find-taker .ensures) ∙ found .found .given .1 in
@@ -85,7 +85,7 @@ same-length-3 : tie.Need-same-length-3
 same-length-3 c = search needs
 
 returns-3 : tie.Need-returns-3
-returns-3 c = 
+returns-3 c =
     let start = c .before .before .before .before .before .before .before .before .before .before .before .before .before in
     let found = c .before .before .before .before .before .before .before in
     let e = sym (c .before .before .before .before .before .before .before .before .before .find-taker .ensures) ∙ found .found .given .1 in
