@@ -1,0 +1,72 @@
+-- What a take and a turn answer: one law for each way through the code.
+use mathlib.Core.Path.{_≡_, refl, sym, ap, _∙_}
+use mathlib.Core.Bool.{Bool, true, false, cond}
+use mathlib.Core.List.{List}
+use Prim.Native.Nat.{ℕ, _+_, _-_, _≤_, _<_}
+use native.Mathlib.Omega.{arith}
+use lib.Dec.{ltb}
+use lib.ListN.{length, getD}
+use borrow.Author.Tests.{lt-ltb, le-ltb}
+use Rattle.stage0_laws.specs.Bits.{bit}
+use Rattle.stage6_machine_runner.specs.Stack.{pushed}
+use Rattle.stage6_machine_runner.specs.Steps.{part, taker, TakeStep, replaced, replace-taker, take-step}
+use Rattle.stage6_machine_runner.specs.Steps.{run-answer, all-members, end-answer, after-take, turn-by, turn-step}
+use Rattle.stage6_machine_runner.specs.declared.RunAnswer.{RunAnswer}
+use Rattle.stage6_machine_runner.specs.declared.Taker.the-variants.{Nothing, At}
+use Rattle.stage6_machine_runner.specs.declared.Taken.{Taken}
+use Rattle.stage6_machine_runner.specs.declared.Taken.the-variants.{Depth, NoTaker, TooDeep}
+use Rattle.stage6_machine_runner.specs.declared.Turn.{Turn}
+use Rattle.stage6_machine_runner.specs.declared.Turn.the-variants.{Next}
+
+module _ (bytes productions : List ℕ) (empty : ℕ) (stack : List ℕ) (depth rule : ℕ) where
+  abbrev step : TakeStep
+  step = take-step bytes productions empty stack depth rule
+
+  pub no-taker : taker productions empty stack depth rule ≡ Nothing → (NoTaker ≡ step .outcome) × (stack ≡ step .stack)
+  unfolding take-step replace-taker
+  no-taker e = (rw e, rw e)
+
+  module _ (base entry : ℕ) (found : taker productions empty stack depth rule ≡ At base entry) (inside : base < length stack) where
+    by-taker : step ≡ replaced (ltb (length stack) (base + getD bytes (entry - 1) 0)) bytes stack base entry (getD bytes (entry - 1) 0)
+    unfolding take-step replace-taker
+    by-taker = ap (replace-taker bytes stack) found
+
+    pub too-deep : length stack - base < getD bytes (entry - 1) 0 → (TooDeep ≡ step .outcome) × (stack ≡ step .stack)
+    unfolding replaced
+    too-deep h =
+        let t = lt-ltb (length stack) (base + getD bytes (entry - 1) 0) (omega arith) in
+        let e = by-taker ∙ ap (λ (b : Bool). replaced b bytes stack base entry (getD bytes (entry - 1) 0)) t in
+        (sym (ap (λ (s : TakeStep). s .outcome) e), sym (ap (λ (s : TakeStep). s .stack) e))
+
+    pub took : getD bytes (entry - 1) 0 ≤ length stack - base → (stack' : List ℕ)
+        → stack' ≡ pushed stack base (part bytes entry (getD bytes (entry - 1) 0))
+        → (Depth (base + getD bytes (entry - 1) 0) ≡ step .outcome) × (stack' ≡ step .stack)
+    unfolding replaced
+    took h stack' f =
+        let t = le-ltb (length stack) (base + getD bytes (entry - 1) 0) (omega arith) in
+        let e = by-taker ∙ ap (λ (b : Bool). replaced b bytes stack base entry (getD bytes (entry - 1) 0)) t in
+        (sym (ap (λ (s : TakeStep). s .outcome) e), f ∙ sym (ap (λ (s : TakeStep). s .stack) e))
+
+  module _ (skips p n count : ℕ) where
+    pub turn-skips : bit skips rule ≡ true
+        → (Next (p + n) depth count ≡ turn-step bytes productions empty skips stack rule p n depth count .outcome)
+        × (stack ≡ turn-step bytes productions empty skips stack rule p n depth count .stack)
+    unfolding turn-step turn-by
+    turn-skips e = (rw e, rw e)
+
+    pub turn-takes : bit skips rule ≡ false → (r : Taken) (stack' : List ℕ) → (r ≡ step .outcome) × (stack' ≡ step .stack)
+        → (o : Taken) → r ≡ o
+        → (after-take p n count o ≡ turn-step bytes productions empty skips stack rule p n depth count .outcome)
+        × (stack' ≡ turn-step bytes productions empty skips stack rule p n depth count .stack)
+    unfolding turn-step turn-by
+    turn-takes e r stack' h o f = (rw e (ap (after-take p n count) (sym f ∙ h .0)), rw e (h .1))
+
+-- At the text's end.
+module _ (empty : ℕ) (l : List ℕ) (p count : ℕ) where
+  pub ends-well : (r : Bool) → r ≡ all-members empty l → r ≡ true → run-answer 0 p count ≡ end-answer empty l p count
+  unfolding end-answer
+  ends-well r e f = ap (λ (b : Bool). cond b (run-answer 0 p count) (run-answer 16 p count)) (sym f ∙ e)
+
+  pub ends-early : (r : Bool) → r ≡ all-members empty l → r ≡ false → run-answer 16 p count ≡ end-answer empty l p count
+  unfolding end-answer
+  ends-early r e f = ap (λ (b : Bool). cond b (run-answer 0 p count) (run-answer 16 p count)) (sym f ∙ e)
