@@ -24,3 +24,4 @@ pub mod ImageLength
 pub mod BufferLaws
 pub mod CompileLaws
 pub mod CompileQuestions
+pub mod CompileNumbers
