@@ -1,0 +1,8 @@
+-- The laws that the functions' proofs cite: fields, things read one after the other, sets of flags, columns and the table.
+pub mod Fields
+pub mod Turns
+pub mod Flags
+pub mod Tails
+pub mod Positions
+pub mod Productions
+pub mod Rows

@@ -1,0 +1,160 @@
+-- Laws of positions: one law for each way through the reading of a position, and columns with one position more.
+use mathlib.Core.Path.{_≡_, refl, sym, ap, _∙_}
+use mathlib.Core.Bool.{Bool, true, false, _&&_}
+use mathlib.Core.Logic.{_⊎_, inl, inr, ⊎-elim}
+use mathlib.Core.List.{List, [], _∷_, _++_}
+use Prim.Native.Nat.{ℕ, zero, suc, _+_, _-_, _^_, _≤_, _<_}
+use native.Mathlib.Omega.{arith}
+use lib.ListN.{length, getD, set, length-append, length-set}
+use lib.Seq.{getD-set-same, getD-set-other}
+use lib.Dec.{eqb, leb, ltb}
+use lib.Pow.{pow-pos}
+use Rattle.stage0_laws.specs.Bits.{bit}
+use Rattle.stage0_laws.specs.Order.{lt-or-le}
+use Rattle.stage1_sheet.specs.Field.{Reading, stop, got, between}
+use Rattle.stage4_lexer.specs.Positions.{Position}
+use Rattle.stage4_lexer_columns.specs.Held.{held-position, held-from, held-positions}
+use Rattle.stage4_lexer_columns.specs.declared.PositionColumns.{PositionColumns}
+use Rattle.stage5_image.specs.ImageReading.{image-field, read-flag, read-position}
+use Rattle.stage5_image_reader.specs.Answers.{with-flag, with-position, no-positions}
+use Rattle.stage5_image_reader.specs.Tables.{listed, FlagsOf}
+use Rattle.stage5_image_reader.proofs.Fields.{field-same, field-below, below-limit, flag-reads, flag-stops}
+use Rattle.stage5_image_reader.proofs.Flags.{flags-none, flags-more, snoc-below, snoc-last, listed-is}
+
+-- ---- reading a position
+
+-- A rule that must not fall, and lie below the number of rules.
+pub field-rule : (bytes : List ℕ) (least rules at : ℕ) → 1 ≤ rules
+    → image-field (between least (rules - 1)) bytes at ≡ image-field (λ v. leb least v && ltb v rules) bytes at
+unfolding between
+field-rule bytes least rules at h =
+    field-same (between least (rules - 1)) (λ v. leb least v && ltb v rules) bytes at (λ v. ap (λ (b : Bool). leb least v && b) (below-limit rules h v))
+
+-- A set of the first positions.
+pub field-set : (bytes : List ℕ) (count at : ℕ) → image-field (between 0 (2 ^ count - 1)) bytes at ≡ image-field (λ v. ltb v (2 ^ count)) bytes at
+field-set bytes count at = field-below bytes (2 ^ count) at (omega (arith, pow-pos count))
+
+module _ (bytes : List ℕ) (rules count least at : ℕ) where
+  pub low-stops : {p : ℕ} → image-field (between 0 255) bytes at ≡ stop 13 p → read-position bytes rules count least at ≡ stop 13 p
+  unfolding read-position
+  low-stops e = rw e
+
+  module _ {low at-high : ℕ} (e : image-field (between 0 255) bytes at ≡ got low at-high) where
+    pub high-stops : {p : ℕ} → image-field (between low 255) bytes at-high ≡ stop 13 p → read-position bytes rules count least at ≡ stop 13 p
+    unfolding read-position
+    high-stops e₂ = rw (e, e₂)
+
+    module _ (h : 1 ≤ rules) {high at-rule : ℕ} (e₂ : image-field (between low 255) bytes at-high ≡ got high at-rule) where
+      pub rule-stops : {p : ℕ} → image-field (between least (rules - 1)) bytes at-rule ≡ stop 13 p → read-position bytes rules count least at ≡ stop 13 p
+      unfolding read-position
+      rule-stops e₃ = rw (e, e₂, sym (field-rule bytes least rules at-rule h) ∙ e₃)
+
+      module _ {rule at-last : ℕ} (e₃ : image-field (between least (rules - 1)) bytes at-rule ≡ got rule at-last) where
+        pub last-stops : {p : ℕ} → image-field (between 0 1) bytes at-last ≡ stop 13 p → read-position bytes rules count least at ≡ stop 13 p
+        unfolding read-position
+        last-stops e₄ = rw (e, e₂, sym (field-rule bytes least rules at-rule h) ∙ e₃, flag-stops bytes at-last e₄)
+
+        module _ {last at-follow : ℕ} (e₄ : image-field (between 0 1) bytes at-last ≡ got last at-follow) where
+          pub follow-stops : {p : ℕ} → image-field (between 0 (2 ^ count - 1)) bytes at-follow ≡ stop 13 p → read-position bytes rules count least at ≡ stop 13 p
+          unfolding read-position
+          follow-stops e₅ =
+              rw (e, e₂, sym (field-rule bytes least rules at-rule h) ∙ e₃, flag-reads bytes at-last e₄, sym (field-set bytes count at-follow) ∙ e₅)
+
+          pub position-reads : {follow next : ℕ} → image-field (between 0 (2 ^ count - 1)) bytes at-follow ≡ got follow next
+              → read-position bytes rules count least at ≡ got (record { low = low; high = high; rule = rule; last = eqb last 1; follow = follow }) next
+          unfolding read-position
+          position-reads e₅ =
+              rw (e, e₂, sym (field-rule bytes least rules at-rule h) ∙ e₃, flag-reads bytes at-last e₄, sym (field-set bytes count at-follow) ∙ e₅)
+
+-- ---- columns
+
+pub no-position : Position
+no-position = record { low = 0; high = 0; rule = 0; last = false; follow = 0 }
+
+-- A column has what f gives of each position.
+abbrev Column : (Position → ℕ) → List ℕ → List Position → Type 0
+Column f col ps = (k : ℕ) → k < length ps → getD col k 0 ≡ f (getD ps k no-position)
+
+column-more : (f : Position → ℕ) (col : List ℕ) (ps : List Position) (p : Position) (i : ℕ) → length ps ≡ i → i < length col → Column f col ps
+    → Column f (set col i (f p)) (ps ++ (p ∷ []))
+column-more f col ps p i hl h c k m = ⊎-elim below last (lt-or-le k i)
+  where
+    below : k < i → getD (set col i (f p)) k 0 ≡ f (getD (ps ++ (p ∷ [])) k no-position)
+    below l =
+        getD-set-other col i k (f p) 0 (λ e. omega arith) ∙ c k (omega arith) ∙ ap f (sym (snoc-below ps p no-position k (omega arith)))
+
+    last : i ≤ k → getD (set col i (f p)) k 0 ≡ f (getD (ps ++ (p ∷ [])) k no-position)
+    last l =
+        let e : k ≡ i = omega (arith, length-append ps (p ∷ [])) in
+        ap (λ (x : ℕ). getD (set col i (f p)) x 0) e ∙ getD-set-same col i (f p) 0 h ∙ ap f (sym (snoc-last ps p no-position k (omega arith)))
+
+-- Columns that hold these positions.
+pub record Columns (c : PositionColumns) (ps : List Position) : Type 0 where
+  pub size : length ps ≡ c .count
+  pub low-size : length (c .low) ≡ 64
+  pub high-size : length (c .high) ≡ 64
+  pub rule-size : length (c .rule) ≡ 64
+  pub follow-size : length (c .follow) ≡ 64
+  pub low : Column (λ p. p .low) (c .low) ps
+  pub high : Column (λ p. p .high) (c .high) ps
+  pub rule : Column (λ p. p .rule) (c .rule) ps
+  pub follow : Column (λ p. p .follow) (c .follow) ps
+  pub last : FlagsOf (λ p. p .last) no-position (c .last) ps
+
+pub columns-none : Columns no-positions []
+unfolding no-position
+columns-none = record {
+  size = refl;
+  low-size = refl;
+  high-size = refl;
+  rule-size = refl;
+  follow-size = refl;
+  low = λ k h. absurd (omega arith);
+  high = λ k h. absurd (omega arith);
+  rule = λ k h. absurd (omega arith);
+  follow = λ k h. absurd (omega arith);
+  last = flags-none (λ p. p .last) no-position refl;
+}
+
+pub columns-more : (c : PositionColumns) (ps : List Position) (low high rule last follow : ℕ) → c .count < 64 → Columns c ps
+    → Columns (with-position c low high rule last follow)
+    (ps ++ (record { low = low; high = high; rule = rule; last = eqb last 1; follow = follow } ∷ []))
+unfolding with-position no-position
+columns-more c ps low high rule last follow h s =
+    let p : Position = record { low = low; high = high; rule = rule; last = eqb last 1; follow = follow } in
+    record {
+      size = length-append ps (p ∷ []) ∙ ap (λ (n : ℕ). n + 1) (s .size);
+      low-size = length-set (c .low) (c .count) low ∙ s .low-size;
+      high-size = length-set (c .high) (c .count) high ∙ s .high-size;
+      rule-size = length-set (c .rule) (c .count) rule ∙ s .rule-size;
+      follow-size = length-set (c .follow) (c .count) follow ∙ s .follow-size;
+      low = column-more (λ p. p .low) (c .low) ps p (c .count) (s .size) (omega (arith, s .low-size)) (s .low);
+      high = column-more (λ p. p .high) (c .high) ps p (c .count) (s .size) (omega (arith, s .high-size)) (s .high);
+      rule = column-more (λ p. p .rule) (c .rule) ps p (c .count) (s .size) (omega (arith, s .rule-size)) (s .rule);
+      follow = column-more (λ p. p .follow) (c .follow) ps p (c .count) (s .size) (omega (arith, s .follow-size)) (s .follow);
+      last = flags-more (λ p. p .last) no-position p (c .last) (c .count) ps refl (s .size) (s .last);
+    }
+
+-- Positions with the same values are one.
+same-position : (p q : Position) → p .low ≡ q .low → p .high ≡ q .high → p .rule ≡ q .rule → p .last ≡ q .last → p .follow ≡ q .follow → p ≡ q
+same-position p q a b c d e =
+    ap (λ (x : ℕ). record { low = x; high = p .high; rule = p .rule; last = p .last; follow = p .follow }) a
+    ∙ ap (λ (x : ℕ). record { low = q .low; high = x; rule = p .rule; last = p .last; follow = p .follow }) b
+    ∙ ap (λ (x : ℕ). record { low = q .low; high = q .high; rule = x; last = p .last; follow = p .follow }) c
+    ∙ ap (λ (x : Bool). record { low = q .low; high = q .high; rule = q .rule; last = x; follow = p .follow }) d
+    ∙ ap (λ (x : ℕ). record { low = q .low; high = q .high; rule = q .rule; last = q .last; follow = x }) e
+
+from-listed : (low high rule follow : List ℕ) (last i n : ℕ) → held-from low high rule follow last i n ≡ listed (held-position low high rule follow last) i n
+unfolding held-from listed
+from-listed low high rule follow last i zero = refl
+from-listed low high rule follow last i (suc n) =
+    ap (λ (l : List Position). held-position low high rule follow last i ∷ l) (from-listed low high rule follow last (suc i) n)
+
+pub columns-held : (c : PositionColumns) (ps : List Position) → Columns c ps → ps ≡ held-positions c
+unfolding held-positions held-position
+columns-held c ps s =
+    listed-is (held-position (c .low) (c .high) (c .rule) (c .follow) (c .last)) no-position (c .count) ps (s .size)
+    (λ k h. let m : k < length ps = omega (arith, s .size) in
+      same-position (held-position (c .low) (c .high) (c .rule) (c .follow) (c .last) k) (getD ps k no-position)
+      (s .low k m) (s .high k m) (s .rule k m) (s .last k) (s .follow k m))
+    ∙ sym (from-listed (c .low) (c .high) (c .rule) (c .follow) (c .last) 0 (c .count))

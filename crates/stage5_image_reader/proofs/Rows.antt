@@ -1,0 +1,91 @@
+-- Laws of rows: one law for each way through the reading of a row, and the tables with one row more.
+use mathlib.Core.Path.{_≡_, refl, sym, ap, subst, _∙_}
+use mathlib.Core.Bool.{Bool, false}
+use mathlib.Core.Logic.{_⊎_, inl, inr, ⊎-elim}
+use mathlib.Core.List.{List, [], _∷_, _++_}
+use Prim.Native.Nat.{ℕ, zero, suc, _+_, _-_, _*_, _≤_, _<_}
+use native.Mathlib.Omega.{arith}
+use lib.ListN.{length, getD, length-append}
+use lib.Dec.{eqb}
+use Rattle.stage0_laws.specs.Order.{lt-or-le}
+use Rattle.stage1_sheet.specs.Field.{Reading, stop, got, between, read-many}
+use Rattle.stage3_normal_form.specs.Productions.{Production, Row, row-of, no-productions}
+use Rattle.stage5_image.specs.Fusion.{production-of}
+use Rattle.stage5_image.specs.ImageReading.{image-field, read-flag, read-production, read-row}
+use Rattle.stage5_image_reader.specs.Answers.{with-flag}
+use Rattle.stage5_image_reader.specs.Tables.{FlagsOf, EntryIs, EntriesOf, RowHeld, RowsHeld, ZeroFrom, SameBelow}
+use Rattle.stage5_image_reader.proofs.Fields.{flag-reads, flag-stops}
+use Rattle.stage5_image_reader.proofs.Flags.{flags-none, flags-more, snoc-below, snoc-last}
+
+module _ (bytes : List ℕ) (skips : List Bool) (n at : ℕ) where
+  pub empty-stops : {p : ℕ} → image-field (between 0 1) bytes at ≡ stop 13 p → read-row bytes skips n at ≡ stop 13 p
+  unfolding read-row
+  empty-stops e = rw (flag-stops bytes at e)
+
+  module _ {v at-count : ℕ} (e : image-field (between 0 1) bytes at ≡ got v at-count) where
+    pub count-stops : {p : ℕ} → image-field (between 0 32) bytes at-count ≡ stop 13 p → read-row bytes skips n at ≡ stop 13 p
+    unfolding read-row
+    count-stops e₂ = rw (flag-reads bytes at e, e₂)
+
+    module _ {size at-first : ℕ} (e₂ : image-field (between 0 32) bytes at-count ≡ got size at-first) where
+      pub productions-stop : {p : ℕ} → read-many (read-production bytes skips n) (λ least p. suc (p .head)) 0 size at-first ≡ stop 13 p
+          → read-row bytes skips n at ≡ stop 13 p
+      unfolding read-row
+      productions-stop e₃ = rw (flag-reads bytes at e, e₂, e₃)
+
+      pub row-reads : {ps : List Production} {next : ℕ} → read-many (read-production bytes skips n) (λ least p. suc (p .head)) 0 size at-first ≡ got ps next
+          → read-row bytes skips n at ≡ got (record { empty = eqb v 1; productions = ps }) next
+      unfolding read-row
+      row-reads e₃ = rw (flag-reads bytes at e, e₂, e₃)
+
+-- The rows so far, in the table: the entries of row m start at 32 m, and those of rows to come are zero.
+pub record Filling (bytes : List ℕ) (n : ℕ) (table : List ℕ) (s base i : ℕ) (rows : List Row) : Type 0 where
+  pub size : length rows ≡ i
+  pub start : base ≡ i * 32
+  pub empty : FlagsOf (λ row. row .empty) no-productions s rows
+  pub entries : (m : ℕ) → m < i → EntriesOf bytes n table (m * 32) ((row-of rows m) .productions)
+  pub zero-after : ZeroFrom table base
+
+pub filling-none : (bytes : List ℕ) (n : ℕ) (table : List ℕ) → ZeroFrom table 0 → Filling bytes n table 0 0 0 []
+filling-none bytes n table z = record {
+  size = refl;
+  start = refl;
+  empty = flags-none (λ row. row .empty) no-productions refl;
+  entries = λ m h. absurd (omega arith);
+  zero-after = z;
+}
+
+module _ (bytes : List ℕ) (n : ℕ) (table table' : List ℕ) (s base i v : ℕ) (rows : List Row) (row : Row) (f : Filling bytes n table s base i rows)
+    (h : RowHeld bytes n table' base v row) (same : SameBelow base table table') (after : ZeroFrom table' (base + 32)) where
+  entries-below : (m : ℕ) → m < i → EntriesOf bytes n table' (m * 32) ((row-of (rows ++ (row ∷ [])) m) .productions)
+  entries-below m l r k =
+      let g : getD table' (m * 32 + r) 0 ≡ getD table (m * 32 + r) 0 = same (m * 32 + r) (omega (arith, f .start)) in
+      let o : row-of (rows ++ (row ∷ [])) m ≡ row-of rows m = snoc-below rows row no-productions m (omega (arith, f .size)) in
+      subst (λ (x : Row). EntryIs bytes n (getD table' (m * 32 + r) 0) (production-of r (x .productions))) (sym o)
+      (subst (λ (x : ℕ). EntryIs bytes n x (production-of r ((row-of rows m) .productions))) (sym g) (f .entries m l r k))
+
+  entries-last : (m : ℕ) → m ≡ i → EntriesOf bytes n table' (m * 32) ((row-of (rows ++ (row ∷ [])) m) .productions)
+  entries-last m e r k =
+      let o : row-of (rows ++ (row ∷ [])) m ≡ row = snoc-last rows row no-productions m (f .size ∙ sym e) in
+      let b : base ≡ m * 32 = omega (arith, f .start) in
+      subst (λ (x : Row). EntryIs bytes n (getD table' (m * 32 + r) 0) (production-of r (x .productions))) (sym o)
+      (subst (λ (x : ℕ). EntryIs bytes n (getD table' (x + r) 0) (production-of r (row .productions))) b (h .entries r k))
+
+  pub filling-more : Filling bytes n table' (with-flag s i (eqb v 1)) (base + 32) (i + 1) (rows ++ (row ∷ []))
+  filling-more = record {
+    size = length-append rows (row ∷ []) ∙ ap (λ (x : ℕ). x + 1) (f .size);
+    start = omega (arith, f .start);
+    empty =
+      subst (λ (b : Bool). FlagsOf (λ row. row .empty) no-productions (with-flag s i b) (rows ++ (row ∷ []))) (sym (h .empty))
+      (flags-more (λ row. row .empty) no-productions row s i rows refl (f .size) (f .empty));
+    entries = λ m l. ⊎-elim (λ k. entries-below m k) (λ k. entries-last m (omega arith)) (lt-or-le m i);
+    zero-after = after;
+  }
+
+pub filling-end : (bytes : List ℕ) (n : ℕ) (table : List ℕ) (s base i : ℕ) (rows : List Row) → i ≡ n → Filling bytes n table s base i rows
+    → RowsHeld bytes n table s rows
+filling-end bytes n table s base i rows e f = record {
+  size = f .size ∙ e;
+  empty = f .empty;
+  entries = λ m h. f .entries m (omega arith);
+}

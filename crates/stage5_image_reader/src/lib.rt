@@ -1,0 +1,389 @@
+// The image reader: an image's bytes are read once, before the text, into tables for the machine. Question 13 is answered here,
+// and no other: the text is not looked at.
+ghost use mathlib.Core.Path.{_≡_};
+ghost use mathlib.Core.List.{List};
+ghost use mathlib.Core.Bool.{Bool};
+ghost use Prim.Native.Nat.{ℕ, suc, _+_, _-_, _*_, _^_, _≤_, _<_};
+ghost use lib.ListN.{length};
+ghost use lib.Dec.{eqb, ltb};
+ghost use Rattle.stage1_sheet.specs.Field.{between, read-many};
+ghost use Rattle.stage5_image.specs.ImageReading.{image-field, read-flag, read-list, read-position, read-production, read-row};
+ghost use Rattle.stage5_image_reader.specs.Answers.{field-reading, place-of, position-reading, Answers, ProductionAnswers, with-flag, with-position, no-positions};
+ghost use Rattle.stage3_normal_form.specs.Productions.{Production, Row};
+ghost use Rattle.stage4_lexer.specs.Positions.{Position};
+ghost use Rattle.stage5_image_reader.specs.Tables.{held-flags, FlagsHeld, PositionsHeld, Members, InBounds, EntriesOf, RowHeld, RowsHeld, ZeroFrom, SameBelow};
+
+use stage4_lexer_columns::PositionColumns;
+
+// What a field gives: a value and the place after it, or the place of question 13.
+pub enum Field {
+    Value(u64, usize),
+    Refused(usize),
+}
+
+// A position that was read: its values and the place after it, or the place of question 13.
+pub enum PositionRead {
+    Position {
+        low: u8,
+        high: u8,
+        rule: u8,
+        last: u64,
+        follow: u64,
+        next: usize,
+    },
+    Refused(usize),
+}
+
+// Positions, as columns, and the place after them, or the place of question 13.
+pub struct PositionsRead {
+    pub end: Field,
+    pub columns: PositionColumns,
+}
+
+// A production that was read: its rule, the place of its tail's length and the place after it, or the place of question 13.
+pub enum ProductionRead {
+    Production {
+        rule: u64,
+        tail: usize,
+        next: usize,
+    },
+    Refused(usize),
+}
+
+// What bounds the values of productions: the number of rules, those that skip, and the number of nonterminals.
+pub struct Bounds {
+    pub rules: u64,
+    pub skips: u64,
+    pub nonterminals: u64,
+}
+
+// The tables of an image. The entry of `productions` for a nonterminal n and a rule r stands at n * 32 + r: 0 where n has no
+// production for r, else 1 + the place of the tail's length in the image's bytes.
+pub struct ImageTables {
+    pub rules: usize,
+    pub skips: u64,
+    pub positions: PositionColumns,
+    pub nonterminals: usize,
+    pub empty: u64,
+    pub productions: [usize; 2048],
+}
+
+pub enum Outcome {
+    Readable,
+    Refused(usize),
+}
+
+// The answer to question 13, and the tables where the image is readable.
+pub struct ImageRead {
+    pub outcome: Outcome,
+    pub tables: ImageTables,
+}
+
+// The place that a refused field names.
+fn place_of(field: Field) -> usize
+    ensures { λ r. ⌜ r ≡ place-of field ⌝ }
+{
+    match field {
+        Field::Value(_, next) => next,
+        Field::Refused(place) => place,
+    }
+}
+
+// A number in a range, both ends included.
+fn read_between(bytes: &[u8], at: usize, least: u64, most: u64) -> Field
+    ensures { λ r. ⌜ field-reading r ≡ image-field (between least most) (now (bytes .entry)) at ⌝ }
+{
+    let number = stage0_number::read_number(bytes, at);
+    let stage0_number::Number::Read(value, used) = number else {
+        return Field::Refused(at);
+    };
+    if value < least {
+        return Field::Refused(at);
+    }
+    if most < value {
+        return Field::Refused(at);
+    }
+    Field::Value(value, at + used)
+}
+
+// A set with i added where a flag is 1.
+fn with_flag(set: u64, i: u64, flag: u64) -> u64
+    requires { ⌜ i < 64 ⌝ }
+    ensures { λ r. ⌜ r ≡ with-flag set i (eqb flag 1) ⌝ }
+{
+    if flag == 1 {
+        return set | (1u64 << i);
+    }
+    set
+}
+
+// The largest set of the first positions: 2^count - 1.
+fn largest_set(count: u64) -> u64
+    requires { ⌜ count ≤ 64 ⌝ }
+    ensures { λ r. ⌜ r ≡ 2 ^ count - 1 ⌝ }
+{
+    if count == 64 {
+        return 18446744073709551615;
+    }
+    (1u64 << count) - 1
+}
+
+// So many flags, as a set.
+fn read_flags(bytes: &[u8], at: usize, count: u64) -> Field
+    requires { ⌜ count ≤ 64 ⌝ }
+    ensures { λ r. ⌜ Answers (FlagsHeld count) r (read-list (read-flag (now (bytes .entry))) count at) ⌝ }
+{
+    let mut set: u64 = 0;
+    let mut next = at;
+    let mut i: u64 = 0;
+    while i < count {
+        let flag = read_between(bytes, next, 0, 1);
+        let Field::Value(value, after) = flag else {
+            return Field::Refused(place_of(flag));
+        };
+        set = with_flag(set, i, value);
+        next = after;
+        i += 1;
+    }
+    Field::Value(set, next)
+}
+
+// So many nonterminals of a tail. A nonterminal is below 64 and so one byte: the tail is later read from the image's bytes.
+fn read_tail(bytes: &[u8], at: usize, size: u64, nonterminals: u64) -> Field
+    requires { ⌜ (1 ≤ nonterminals) × (nonterminals ≤ 64) × (at ≤ length (now bytes)) ⌝ }
+    ensures { λ r. ⌜ Answers (λ v l. Members (now (bytes .entry)) at nonterminals l) r (read-list (image-field (λ v. ltb v nonterminals) (now (bytes .entry))) size at) ⌝ }
+{
+    let mut next = at;
+    let mut i: u64 = 0;
+    while i < size {
+        let member = read_between(bytes, next, 0, nonterminals - 1);
+        let Field::Value(_, after) = member else {
+            return Field::Refused(place_of(member));
+        };
+        next = after;
+        i += 1;
+    }
+    Field::Value(size, next)
+}
+
+// A position. Its rule is `least` or above.
+fn read_position(bytes: &[u8], at: usize, rules: u64, count: u64, least: u64) -> PositionRead
+    requires { ⌜ (1 ≤ rules) × (rules ≤ 32) × (count ≤ 64) ⌝ }
+    ensures { λ r. ⌜ position-reading r ≡ read-position (now (bytes .entry)) rules count least at ⌝ }
+{
+    let low = read_between(bytes, at, 0, 255);
+    let Field::Value(low_byte, at_high) = low else {
+        return PositionRead::Refused(place_of(low));
+    };
+    let high = read_between(bytes, at_high, low_byte, 255);
+    let Field::Value(high_byte, at_rule) = high else {
+        return PositionRead::Refused(place_of(high));
+    };
+    let rule = read_between(bytes, at_rule, least, rules - 1);
+    let Field::Value(rule_number, at_last) = rule else {
+        return PositionRead::Refused(place_of(rule));
+    };
+    let last = read_between(bytes, at_last, 0, 1);
+    let Field::Value(last_flag, at_follow) = last else {
+        return PositionRead::Refused(place_of(last));
+    };
+    let follow = read_between(bytes, at_follow, 0, largest_set(count));
+    let Field::Value(follow_set, next) = follow else {
+        return PositionRead::Refused(place_of(follow));
+    };
+    PositionRead::Position {
+        low: low_byte as u8,
+        high: high_byte as u8,
+        rule: rule_number as u8,
+        last: last_flag,
+        follow: follow_set,
+        next,
+    }
+}
+
+// Columns with no positions.
+fn no_positions() -> PositionColumns
+    ensures { λ r. ⌜ r ≡ no-positions ⌝ }
+{
+    PositionColumns {
+        count: 0,
+        low: [0; 64],
+        high: [0; 64],
+        rule: [0; 64],
+        follow: [0; 64],
+        last: 0,
+        first: 0,
+    }
+}
+
+// Columns with one position more.
+fn with_position(
+    columns: PositionColumns,
+    low: u8,
+    high: u8,
+    rule: u8,
+    last: u64,
+    follow: u64,
+) -> PositionColumns
+    requires { ⌜ columns .count < 64 ⌝ }
+    ensures { λ r. ⌜ r ≡ with-position columns low high rule last follow ⌝ }
+{
+    let mut out = columns;
+    let n = columns.count;
+    out.low[n] = low;
+    out.high[n] = high;
+    out.rule[n] = rule;
+    out.follow[n] = follow;
+    out.last = with_flag(columns.last, n as u64, last);
+    out.count = n + 1;
+    out
+}
+
+// So many positions.
+fn read_positions(bytes: &[u8], at: usize, rules: u64, count: u64) -> PositionsRead
+    requires { ⌜ (1 ≤ rules) × (rules ≤ 32) × (count ≤ 64) ⌝ }
+    ensures { λ r. ⌜ Answers (λ v ps. PositionsHeld count (r .columns) ps) (r .end) (read-many (read-position (now (bytes .entry)) rules count) (λ least p. p .rule) 0 count at) ⌝ }
+{
+    let mut columns = no_positions();
+    let mut next = at;
+    let mut least: u64 = 0;
+    let mut i: u64 = 0;
+    while i < count {
+        let position = read_position(bytes, next, rules, count, least);
+        match position {
+            PositionRead::Refused(place) => {
+                return PositionsRead {
+                    end: Field::Refused(place),
+                    columns,
+                };
+            }
+            PositionRead::Position {
+                low,
+                high,
+                rule,
+                last,
+                follow,
+                next: after,
+            } => {
+                columns = with_position(columns, low, high, rule, last, follow);
+                least = rule as u64;
+                next = after;
+                i += 1;
+            }
+        }
+    }
+    PositionsRead {
+        end: Field::Value(count, next),
+        columns,
+    }
+}
+
+// A production. Its rule is `least` or above and does not skip.
+fn read_production(bytes: &[u8], at: usize, bounds: Bounds, least: u64) -> ProductionRead
+    requires { ⌜ InBounds bounds ⌝ }
+    ensures { λ r. ⌜ ProductionAnswers (now (bytes .entry)) (bounds .nonterminals) least r (read-production (now (bytes .entry)) (held-flags (bounds .skips) (bounds .rules)) (bounds .nonterminals) least at) ⌝ }
+{
+    let rule = read_between(bytes, at, least, bounds.rules - 1);
+    let Field::Value(rule_number, at_length) = rule else {
+        return ProductionRead::Refused(place_of(rule));
+    };
+    if bounds.skips & (1u64 << rule_number) != 0 {
+        return ProductionRead::Refused(at);
+    }
+    let size = read_between(bytes, at_length, 0, 31);
+    let Field::Value(length, at_tail) = size else {
+        return ProductionRead::Refused(place_of(size));
+    };
+    let tail = read_tail(bytes, at_tail, length, bounds.nonterminals);
+    let Field::Value(_, next) = tail else {
+        return ProductionRead::Refused(place_of(tail));
+    };
+    ProductionRead::Production {
+        rule: rule_number,
+        tail: at_length,
+        next,
+    }
+}
+
+// So many productions of one nonterminal, whose entries start at `base`.
+fn read_productions(
+    bytes: &[u8],
+    at: usize,
+    bounds: Bounds,
+    count: u64,
+    base: usize,
+    table: &mut [usize; 2048],
+) -> Field
+    requires { ⌜ InBounds bounds × (base + 32 ≤ 2048) × ZeroFrom (now table) base ⌝ }
+    ensures { λ r. ⌜ Answers (λ v ps. EntriesOf (now (bytes .entry)) (bounds .nonterminals) (now (table .exit)) base ps) r (read-many (read-production (now (bytes .entry)) (held-flags (bounds .skips) (bounds .rules)) (bounds .nonterminals)) (λ least p. suc (p .head)) 0 count at) × SameBelow base (now (table .entry)) (now (table .exit)) × ZeroFrom (now (table .exit)) (base + 32) ⌝ }
+{
+    let mut next = at;
+    let mut least: u64 = 0;
+    let mut i: u64 = 0;
+    while i < count {
+        let production = read_production(bytes, next, bounds, least);
+        match production {
+            ProductionRead::Refused(place) => return Field::Refused(place),
+            ProductionRead::Production {
+                rule,
+                tail,
+                next: after,
+            } => {
+                table[base + rule as usize] = tail + 1;
+                least = rule + 1;
+                next = after;
+                i += 1;
+            }
+        }
+    }
+    Field::Value(count, next)
+}
+
+// The row of one nonterminal, whose entries start at `base`: its ε flag is the value.
+fn read_row(
+    bytes: &[u8],
+    at: usize,
+    bounds: Bounds,
+    base: usize,
+    table: &mut [usize; 2048],
+) -> Field
+    requires { ⌜ InBounds bounds × (base + 32 ≤ 2048) × ZeroFrom (now table) base ⌝ }
+    ensures { λ r. ⌜ Answers (λ v row. RowHeld (now (bytes .entry)) (bounds .nonterminals) (now (table .exit)) base v row) r (read-row (now (bytes .entry)) (held-flags (bounds .skips) (bounds .rules)) (bounds .nonterminals) at) × SameBelow base (now (table .entry)) (now (table .exit)) × ZeroFrom (now (table .exit)) (base + 32) ⌝ }
+{
+    let empty = read_between(bytes, at, 0, 1);
+    let Field::Value(flag, at_count) = empty else {
+        return Field::Refused(place_of(empty));
+    };
+    let count = read_between(bytes, at_count, 0, 32);
+    let Field::Value(size, at_first) = count else {
+        return Field::Refused(place_of(count));
+    };
+    let productions = read_productions(bytes, at_first, bounds, size, base, table);
+    let Field::Value(_, next) = productions else {
+        return Field::Refused(place_of(productions));
+    };
+    Field::Value(flag, next)
+}
+
+// The rows of all nonterminals: the set of those with ε is the value.
+fn read_rows(bytes: &[u8], at: usize, bounds: Bounds, table: &mut [usize; 2048]) -> Field
+    requires { ⌜ InBounds bounds × ZeroFrom (now table) 0 ⌝ }
+    ensures { λ r. ⌜ Answers (λ s rows. RowsHeld (now (bytes .entry)) (bounds .nonterminals) (now (table .exit)) s rows) r (read-list (read-row (now (bytes .entry)) (held-flags (bounds .skips) (bounds .rules)) (bounds .nonterminals)) (bounds .nonterminals) at) ⌝ }
+{
+    let count = bounds.nonterminals;
+    let mut empty: u64 = 0;
+    let mut next = at;
+    let mut base: usize = 0;
+    let mut i: u64 = 0;
+    while i < count {
+        let row = read_row(bytes, next, bounds, base, table);
+        let Field::Value(flag, after) = row else {
+            return Field::Refused(place_of(row));
+        };
+        empty = with_flag(empty, i, flag);
+        next = after;
+        base += 32;
+        i += 1;
+    }
+    Field::Value(empty, next)
+}
