@@ -47,9 +47,9 @@ pub flags-none : {A : Type 0} (f : A → Bool) (d : A) → f d ≡ false → Fla
 flags-none f d h k = bit-zero k ∙ sym h
 
 pub flags-more : {A : Type 0} (f : A → Bool) (d a : A) (s i : ℕ) (l : List A) → f d ≡ false → length l ≡ i → FlagsOf f d s l
-    → FlagsOf f d (with-flag s i (f a)) (l ++ (a ∷ []))
-flags-more f d a s i l hd hl h k =
-    ⊎-elim below (⊎-elim last above) (compare-cases k i)
+    → {s' : ℕ} → s' ≡ with-flag s i (f a) → FlagsOf f d s' (l ++ (a ∷ []))
+flags-more f d a s i l hd hl h e k =
+    ap (λ (x : ℕ). bit x k) e ∙ ⊎-elim below (⊎-elim last above) (compare-cases k i)
   where
     below : k < i → bit (with-flag s i (f a)) k ≡ f (getD (l ++ (a ∷ [])) k d)
     below m = flag-other s i (f a) k (λ e. omega arith) ∙ h k ∙ ap f (sym (snoc-below l a d k (omega arith)))

@@ -1,5 +1,5 @@
 -- Laws of positions: one law for each way through the reading of a position, and columns with one position more.
-use mathlib.Core.Path.{_≡_, refl, sym, ap, _∙_}
+use mathlib.Core.Path.{_≡_, refl, sym, ap, subst, _∙_}
 use mathlib.Core.Bool.{Bool, true, false, _&&_}
 use mathlib.Core.Logic.{_⊎_, inl, inr, ⊎-elim}
 use mathlib.Core.List.{List, [], _∷_, _++_}
@@ -31,8 +31,10 @@ field-rule bytes least rules at h =
     field-same (between least (rules - 1)) (λ v. leb least v && ltb v rules) bytes at (λ v. ap (λ (b : Bool). leb least v && b) (below-limit rules h v))
 
 -- A set of the first positions.
-pub field-set : (bytes : List ℕ) (count at : ℕ) → image-field (between 0 (2 ^ count - 1)) bytes at ≡ image-field (λ v. ltb v (2 ^ count)) bytes at
-field-set bytes count at = field-below bytes (2 ^ count) at (omega (arith, pow-pos count))
+pub field-set : (bytes : List ℕ) (count at : ℕ) {m : ℕ} → m ≡ 2 ^ count - 1
+    → image-field (between 0 m) bytes at ≡ image-field (λ v. ltb v (2 ^ count)) bytes at
+field-set bytes count at {m} e =
+    ap (λ (x : ℕ). image-field (between 0 x) bytes at) e ∙ field-below bytes (2 ^ count) at (omega (arith, pow-pos count))
 
 module _ (bytes : List ℕ) (rules count least at : ℕ) where
   pub low-stops : {p : ℕ} → image-field (between 0 255) bytes at ≡ stop 13 p → read-position bytes rules count least at ≡ stop 13 p
@@ -55,16 +57,16 @@ module _ (bytes : List ℕ) (rules count least at : ℕ) where
         last-stops e₄ = rw (e, e₂, sym (field-rule bytes least rules at-rule h) ∙ e₃, flag-stops bytes at-last e₄)
 
         module _ {last at-follow : ℕ} (e₄ : image-field (between 0 1) bytes at-last ≡ got last at-follow) where
-          pub follow-stops : {p : ℕ} → image-field (between 0 (2 ^ count - 1)) bytes at-follow ≡ stop 13 p → read-position bytes rules count least at ≡ stop 13 p
+          pub follow-stops : {m p : ℕ} → m ≡ 2 ^ count - 1 → image-field (between 0 m) bytes at-follow ≡ stop 13 p → read-position bytes rules count least at ≡ stop 13 p
           unfolding read-position
-          follow-stops e₅ =
-              rw (e, e₂, sym (field-rule bytes least rules at-rule h) ∙ e₃, flag-reads bytes at-last e₄, sym (field-set bytes count at-follow) ∙ e₅)
+          follow-stops l e₅ =
+              rw (e, e₂, sym (field-rule bytes least rules at-rule h) ∙ e₃, flag-reads bytes at-last e₄, sym (field-set bytes count at-follow l) ∙ e₅)
 
-          pub position-reads : {follow next : ℕ} → image-field (between 0 (2 ^ count - 1)) bytes at-follow ≡ got follow next
+          pub position-reads : {m follow next : ℕ} → m ≡ 2 ^ count - 1 → image-field (between 0 m) bytes at-follow ≡ got follow next
               → read-position bytes rules count least at ≡ got (record { low = low; high = high; rule = rule; last = eqb last 1; follow = follow }) next
           unfolding read-position
-          position-reads e₅ =
-              rw (e, e₂, sym (field-rule bytes least rules at-rule h) ∙ e₃, flag-reads bytes at-last e₄, sym (field-set bytes count at-follow) ∙ e₅)
+          position-reads l e₅ =
+              rw (e, e₂, sym (field-rule bytes least rules at-rule h) ∙ e₃, flag-reads bytes at-last e₄, sym (field-set bytes count at-follow l) ∙ e₅)
 
 -- ---- columns
 
@@ -116,7 +118,7 @@ columns-none = record {
   last = flags-none (λ p. p .last) no-position refl;
 }
 
-pub columns-more : (c : PositionColumns) (ps : List Position) (low high rule last follow : ℕ) → c .count < 64 → Columns c ps
+columns-more : (c : PositionColumns) (ps : List Position) (low high rule last follow : ℕ) → c .count < 64 → Columns c ps
     → Columns (with-position c low high rule last follow)
     (ps ++ (record { low = low; high = high; rule = rule; last = eqb last 1; follow = follow } ∷ []))
 unfolding with-position no-position
@@ -132,8 +134,20 @@ columns-more c ps low high rule last follow h s =
       high = column-more (λ p. p .high) (c .high) ps p (c .count) (s .size) (omega (arith, s .high-size)) (s .high);
       rule = column-more (λ p. p .rule) (c .rule) ps p (c .count) (s .size) (omega (arith, s .rule-size)) (s .rule);
       follow = column-more (λ p. p .follow) (c .follow) ps p (c .count) (s .size) (omega (arith, s .follow-size)) (s .follow);
-      last = flags-more (λ p. p .last) no-position p (c .last) (c .count) ps refl (s .size) (s .last);
+      last = flags-more (λ p. p .last) no-position p (c .last) (c .count) ps refl (s .size) (s .last) refl;
     }
+
+-- The same for columns that are so.
+pub columns-next : (c c' : PositionColumns) (ps : List Position) (low high rule last follow : ℕ) → c .count < 64 → Columns c ps
+    → c' ≡ with-position c low high rule last follow
+    → Columns c' (ps ++ (record { low = low; high = high; rule = rule; last = eqb last 1; follow = follow } ∷ []))
+columns-next c c' ps low high rule last follow h s e =
+    subst (λ (x : PositionColumns). Columns x (ps ++ (record { low = low; high = high; rule = rule; last = eqb last 1; follow = follow } ∷ []))) (sym e)
+    (columns-more c ps low high rule last follow h s)
+
+pub columns-count : (c c' : PositionColumns) (low high rule last follow : ℕ) → c' ≡ with-position c low high rule last follow → c' .count ≡ c .count + 1
+unfolding with-position
+columns-count c c' low high rule last follow e = ap (λ (x : PositionColumns). x .count) e
 
 -- Positions with the same values are one.
 same-position : (p q : Position) → p .low ≡ q .low → p .high ≡ q .high → p .rule ≡ q .rule → p .last ≡ q .last → p .follow ≡ q .follow → p ≡ q

@@ -4,22 +4,37 @@ use mathlib.Core.Bool.{Bool, true, false, not, _&&_}
 use mathlib.Core.Logic.{_⊎_, inl, inr, ⊎-elim}
 use mathlib.Core.List.{List, [], _∷_, _++_}
 use mathlib.Core.Option.{Option, none, some}
-use Prim.Native.Nat.{ℕ, zero, suc, _+_, _-_, _^_, _≤_, _<_}
+use Prim.Native.Nat.{ℕ, zero, suc, _+_, _-_, _*_, _^_, _%_, _≤_, _<_}
 use native.Mathlib.Omega.{arith}
 use native.Mathlib.Nat.{zero-add}
 use lib.ListN.{length, getD, set, length-set}
 use lib.Seq.{getD-set-same, getD-set-other}
+use lib.Bits.{bitAnd}
 use lib.Dec.{eqb, leb, ltb}
 use borrow.Author.Tests.{eq-eqb, ne-eqb, eqb-true, eqb-false, le-leb, lt-ltb}
 use Rattle.stage0_laws.specs.Bits.{bit}
+use Rattle.stage0_laws.specs.BitLaws.{and-test, shl-one}
 use Rattle.stage0_laws.specs.Order.{compare-cases}
 use Rattle.stage1_sheet.specs.Field.{Reading, stop, got, between}
 use Rattle.stage3_normal_form.specs.Productions.{Production}
 use Rattle.stage5_image.specs.Fusion.{production-of}
 use Rattle.stage5_image.specs.ImageReading.{image-field, read-list, read-production}
-use Rattle.stage5_image_reader.specs.Tables.{held-flags, TailAt, Members, EntryIs, EntriesOf, ZeroFrom, SameBelow}
+use Rattle.stage5_image_reader.specs.Answers.{ProductionHeld, ProductionAnswers}
+use Rattle.stage5_image_reader.specs.declared.ProductionRead.{ProductionRead}
+use Rattle.stage5_image_reader.specs.declared.ProductionRead.the-variants as production
+use Rattle.stage5_image_reader.specs.Tables.{held-flags, TailAt, Members, EntryIs, EntriesOf, Room, SameBelow}
 use Rattle.stage5_image_reader.proofs.Fields.{field-passes, field-fails, field-stricter, field-range, field-one-byte, between-most, below-limit}
 use Rattle.stage5_image_reader.proofs.Flags.{length-listed, getD-listed}
+
+-- ---- answers
+
+pub production-answers : (bytes : List ℕ) (n least : ℕ) {r : ProductionRead} {x : Reading Production} {rule place next : ℕ} → r ≡ production.Production rule place next
+    → ProductionAnswers bytes n least r x → (p : Production) × (x ≡ got p next) × ProductionHeld bytes n least rule place p
+production-answers bytes n least {r} {x} h a = subst (λ (r : ProductionRead). ProductionAnswers bytes n least r x) h a
+
+pub production-refused : (bytes : List ℕ) (n least : ℕ) {r : ProductionRead} {x : Reading Production} {place : ℕ} → r ≡ production.Refused place
+    → ProductionAnswers bytes n least r x → x ≡ stop 13 place
+production-refused bytes n least {r} {x} h a = subst (λ (r : ProductionRead). ProductionAnswers bytes n least r x) h a
 
 -- ---- the rule of a production
 
@@ -111,18 +126,18 @@ some-none {A} {X} {a} e = let z : _≡_ {A = ℕ} 0 1 = cc in absurd (omega arit
 
 production-new : (r : ℕ) (ps : List Production) (p : Production) → production-of r ps ≡ none → p .head ≡ r → production-of r (ps ++ (p ∷ [])) ≡ some p
 unfolding production-of
-production-new r [] p e h = rw (eq-eqb (p .head) r h)
+production-new r [] p e h = rw (eq-eqb (p .head) r h, production-of)
 production-new r (q ∷ ps) p e h = go (eqb (q .head) r) (λ f. production-new r ps p f h) e
   where
     go : (b : Bool) → (production-of r ps ≡ none → production-of r (ps ++ (p ∷ [])) ≡ some p)
-        → elim b [ true ↦ some q | false ↦ production-of r ps ] ≡ none
-        → elim b [ true ↦ some q | false ↦ production-of r (ps ++ (p ∷ [])) ] ≡ some p
+        → _≡_ {A = Option Production} (elim b [ true ↦ some q | false ↦ production-of r ps ]) none
+        → _≡_ {A = Option Production} (elim b [ true ↦ some q | false ↦ production-of r (ps ++ (p ∷ [])) ]) (some p)
     go true ih f = some-none f
     go false ih f = ih f
 
 production-other : (r : ℕ) (ps : List Production) (p : Production) → (p .head ≡ r → ⊥) → production-of r (ps ++ (p ∷ [])) ≡ production-of r ps
 unfolding production-of
-production-other r [] p h = rw (ne-eqb (p .head) r h)
+production-other r [] p h = rw (ne-eqb (p .head) r h, production-of)
 production-other r (q ∷ ps) p h = go (eqb (q .head) r) (production-other r ps p h)
   where
     go : (b : Bool) → production-of r (ps ++ (p ∷ [])) ≡ production-of r ps
@@ -135,20 +150,18 @@ production-other r (q ∷ ps) p h = go (eqb (q .head) r) (production-other r ps 
 -- The productions of a row so far, in the table from a base on: rules from `least` on have none yet, and nothing but the row's
 -- own entries was changed.
 pub record Entering (bytes : List ℕ) (n base : ℕ) (table₀ table : List ℕ) (least : ℕ) (ps : List Production) : Type 0 where
-  pub size : length table ≡ 2048
   pub entries : EntriesOf bytes n table base ps
   pub free : (r : ℕ) → least ≤ r → production-of r ps ≡ none
   pub same : SameBelow base table₀ table
-  pub zero-after : ZeroFrom table (base + 32)
+  pub room : Room table (base + 32)
 
-pub entering-none : (bytes : List ℕ) (n base : ℕ) (table : List ℕ) → length table ≡ 2048 → ZeroFrom table base → Entering bytes n base table table 0 []
+pub entering-none : (bytes : List ℕ) (n base : ℕ) (table : List ℕ) → Room table base → Entering bytes n base table table 0 []
 unfolding production-of
-entering-none bytes n base table l z = record {
-  size = l;
-  entries = λ r h. z (base + r) (omega arith);
+entering-none bytes n base table z = record {
+  entries = λ r h. z .zero-from (base + r) (omega arith);
   free = λ r h. refl;
   same = λ k h. refl;
-  zero-after = λ k h. z k (omega arith);
+  room = record { size = z .size; zero-from = λ k h. z .zero-from k (omega arith) };
 }
 
 module _ (bytes : List ℕ) (n base : ℕ) (table₀ table : List ℕ) (least : ℕ) (ps : List Production) (s : Entering bytes n base table₀ table least ps)
@@ -159,7 +172,7 @@ module _ (bytes : List ℕ) (n base : ℕ) (table₀ table : List ℕ) (least : 
       let o : production-of r (ps ++ (p ∷ [])) ≡ some p = production-new r ps p (s .free r (omega arith)) (head ∙ sym e) in
       let g : getD (set table (base + rule) (place + 1)) (base + r) 0 ≡ place + 1 =
       ap (λ (x : ℕ). getD (set table (base + rule) (place + 1)) (base + x) 0) e
-      ∙ getD-set-same table (base + rule) (place + 1) 0 (omega (arith, s .size)) in
+      ∙ getD-set-same table (base + rule) (place + 1) 0 (omega (arith, s .room .size)) in
       subst (EntryIs bytes n (getD (set table (base + rule) (place + 1)) (base + r) 0)) (sym o) (place, g, t)
 
   entry-other : (r : ℕ) → r < 32 → (r ≡ rule → ⊥)
@@ -173,9 +186,20 @@ module _ (bytes : List ℕ) (n base : ℕ) (table₀ table : List ℕ) (least : 
 
   pub entering-more : Entering bytes n base table₀ (set table (base + rule) (place + 1)) (rule + 1) (ps ++ (p ∷ []))
   entering-more = record {
-    size = length-set table (base + rule) (place + 1) ∙ s .size;
     entries = λ r h. ⊎-elim (λ m. entry-other r h (λ e. omega arith)) (⊎-elim (λ e. entry-new r e) (λ m. entry-other r h (λ e. omega arith))) (compare-cases r rule);
     free = λ r h. production-other r ps p (λ e. omega (arith, head)) ∙ s .free r (omega arith);
     same = λ k h. getD-set-other table (base + rule) k (place + 1) 0 (λ e. omega arith) ∙ s .same k h;
-    zero-after = λ k h. getD-set-other table (base + rule) k (place + 1) 0 (λ e. omega arith) ∙ s .zero-after k h;
+    room = record {
+      size = length-set table (base + rule) (place + 1) ∙ s .room .size;
+      zero-from = λ k h. getD-set-other table (base + rule) k (place + 1) 0 (λ e. omega arith) ∙ s .room .zero-from k h;
+    };
   }
+
+-- The test of a skipping rule, as the code makes it.
+pub skip-set : (skips rule : ℕ) → rule < 64 → (bitAnd skips ((1 * 2 ^ rule) % 2 ^ 64) ≡ 0 → ⊥) → bit skips rule ≡ true
+skip-set skips rule h e =
+    sym (and-test skips rule) ∙ ap not (ne-eqb (bitAnd skips (2 ^ rule)) 0 (λ z. e (ap (bitAnd skips) (shl-one rule h) ∙ z)))
+
+pub skip-clear : (skips rule : ℕ) → rule < 64 → bitAnd skips ((1 * 2 ^ rule) % 2 ^ 64) ≡ 0 → bit skips rule ≡ false
+skip-clear skips rule h e =
+    sym (and-test skips rule) ∙ ap not (eq-eqb (bitAnd skips (2 ^ rule)) 0 (sym (ap (bitAnd skips) (shl-one rule h)) ∙ e))

@@ -13,7 +13,7 @@ use Rattle.stage3_normal_form.specs.Productions.{Production, Row, row-of, no-pr
 use Rattle.stage5_image.specs.Fusion.{production-of}
 use Rattle.stage5_image.specs.ImageReading.{image-field, read-flag, read-production, read-row}
 use Rattle.stage5_image_reader.specs.Answers.{with-flag}
-use Rattle.stage5_image_reader.specs.Tables.{FlagsOf, EntryIs, EntriesOf, RowHeld, RowsHeld, ZeroFrom, SameBelow}
+use Rattle.stage5_image_reader.specs.Tables.{FlagsOf, EntryIs, EntriesOf, RowHeld, RowsHeld, Room, SameBelow}
 use Rattle.stage5_image_reader.proofs.Fields.{flag-reads, flag-stops}
 use Rattle.stage5_image_reader.proofs.Flags.{flags-none, flags-more, snoc-below, snoc-last}
 
@@ -38,25 +38,29 @@ module _ (bytes : List ℕ) (skips : List Bool) (n at : ℕ) where
       unfolding read-row
       row-reads e₃ = rw (flag-reads bytes at e, e₂, e₃)
 
+-- A row that is refused before its productions leaves the table as it is.
+pub room-after : (table : List ℕ) (base : ℕ) → Room table base → Room table (base + 32)
+room-after table base r = record { size = r .size; zero-from = λ k h. r .zero-from k (omega arith) }
+
 -- The rows so far, in the table: the entries of row m start at 32 m, and those of rows to come are zero.
 pub record Filling (bytes : List ℕ) (n : ℕ) (table : List ℕ) (s base i : ℕ) (rows : List Row) : Type 0 where
   pub size : length rows ≡ i
   pub start : base ≡ i * 32
   pub empty : FlagsOf (λ row. row .empty) no-productions s rows
   pub entries : (m : ℕ) → m < i → EntriesOf bytes n table (m * 32) ((row-of rows m) .productions)
-  pub zero-after : ZeroFrom table base
+  pub room : Room table base
 
-pub filling-none : (bytes : List ℕ) (n : ℕ) (table : List ℕ) → ZeroFrom table 0 → Filling bytes n table 0 0 0 []
+pub filling-none : (bytes : List ℕ) (n : ℕ) (table : List ℕ) → Room table 0 → Filling bytes n table 0 0 0 []
 filling-none bytes n table z = record {
   size = refl;
   start = refl;
   empty = flags-none (λ row. row .empty) no-productions refl;
   entries = λ m h. absurd (omega arith);
-  zero-after = z;
+  room = z;
 }
 
 module _ (bytes : List ℕ) (n : ℕ) (table table' : List ℕ) (s base i v : ℕ) (rows : List Row) (row : Row) (f : Filling bytes n table s base i rows)
-    (h : RowHeld bytes n table' base v row) (same : SameBelow base table table') (after : ZeroFrom table' (base + 32)) where
+    (h : RowHeld bytes n table' base v row) (same : SameBelow base table table') (after : Room table' (base + 32)) where
   entries-below : (m : ℕ) → m < i → EntriesOf bytes n table' (m * 32) ((row-of (rows ++ (row ∷ [])) m) .productions)
   entries-below m l r k =
       let g : getD table' (m * 32 + r) 0 ≡ getD table (m * 32 + r) 0 = same (m * 32 + r) (omega (arith, f .start)) in
@@ -71,15 +75,14 @@ module _ (bytes : List ℕ) (n : ℕ) (table table' : List ℕ) (s base i v : �
       subst (λ (x : Row). EntryIs bytes n (getD table' (m * 32 + r) 0) (production-of r (x .productions))) (sym o)
       (subst (λ (x : ℕ). EntryIs bytes n (getD table' (x + r) 0) (production-of r (row .productions))) b (h .entries r k))
 
-  pub filling-more : Filling bytes n table' (with-flag s i (eqb v 1)) (base + 32) (i + 1) (rows ++ (row ∷ []))
-  filling-more = record {
+  pub filling-more : {s' : ℕ} → s' ≡ with-flag s i (eqb v 1) → Filling bytes n table' s' (base + 32) (i + 1) (rows ++ (row ∷ []))
+  filling-more {s'} e = record {
     size = length-append rows (row ∷ []) ∙ ap (λ (x : ℕ). x + 1) (f .size);
     start = omega (arith, f .start);
     empty =
-      subst (λ (b : Bool). FlagsOf (λ row. row .empty) no-productions (with-flag s i b) (rows ++ (row ∷ []))) (sym (h .empty))
-      (flags-more (λ row. row .empty) no-productions row s i rows refl (f .size) (f .empty));
+      flags-more (λ row. row .empty) no-productions row s i rows refl (f .size) (f .empty) (e ∙ ap (with-flag s i) (h .empty));
     entries = λ m l. ⊎-elim (λ k. entries-below m k) (λ k. entries-last m (omega arith)) (lt-or-le m i);
-    zero-after = after;
+    room = after;
   }
 
 pub filling-end : (bytes : List ℕ) (n : ℕ) (table : List ℕ) (s base i : ℕ) (rows : List Row) → i ≡ n → Filling bytes n table s base i rows

@@ -1,5 +1,5 @@
 -- Laws of things read one after the other by a loop: what was read so far, and that the rest is read from the present place.
-use mathlib.Core.Path.{_≡_, refl, sym, ap, _∙_}
+use mathlib.Core.Path.{_≡_, refl, sym, ap, subst, _∙_}
 use mathlib.Core.List.{List, [], _∷_, _++_, append-assoc, append-nil}
 use mathlib.Core.Bool.{Bool, true}
 use Prim.Native.Nat.{ℕ, zero, suc, _+_, _-_, _≤_, _<_}
@@ -52,6 +52,10 @@ module _ {S A : Type 0} (one : S → ℕ → Reading A) (update : S → A → S)
           size = length-append done (a ∷ []) ∙ ap (λ (x : ℕ). x + 1) (t .size);
           rest = t .rest ∙ ap (λ (x : ℕ). prepend done (read-many one update s x at)) m ∙ many-more one update s (n - (i + 1)) at done e;
         }
+
+    -- The same state under another name.
+    pub turns-state : {s' : S} → s ≡ s' → Turns one update s₀ n at₀ i s' at done
+    turns-state e = subst (λ (x : S). Turns one update s₀ n at₀ i x at done) e t
 
     pub turns-stop : {p : ℕ} → i < n → one s at ≡ stop 13 p → read-many one update s₀ n at₀ ≡ stop 13 p
     unfolding prepend

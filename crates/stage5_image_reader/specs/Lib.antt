@@ -1,4 +1,5 @@
--- What the image reader's functions answer (`Answers`), what its tables hold (`Tables`), and the laws of both that callers
--- need (`TableLaws`).
-pub mod Answers
+-- What the image reader's functions answer (`Answers`), what its tables hold (`Tables`), and what reading a whole image
+-- answers (`Decoded`).
 pub mod Tables
+pub mod Answers
+pub mod Decoded

@@ -49,9 +49,10 @@ EntryIs bytes n entry (some p) = (place : ℕ) × (entry ≡ place + 1) × TailA
 abbrev pub EntriesOf : List ℕ → ℕ → List ℕ → ℕ → List Production → Type 0
 EntriesOf bytes n table base ps = (r : ℕ) → r < 32 → EntryIs bytes n (getD table (base + r) 0) (production-of r ps)
 
--- The entries from a place on are zero.
-abbrev pub ZeroFrom : List ℕ → ℕ → Type 0
-ZeroFrom table at = (k : ℕ) → at ≤ k → getD table k 0 ≡ 0
+-- The table is whole, and its entries from a place on are zero: rows from there on can be entered.
+pub record Room (table : List ℕ) (at : ℕ) : Type 0 where
+  pub size : length table ≡ 2048
+  pub zero-from : (k : ℕ) → at ≤ k → getD table k 0 ≡ 0
 
 -- Two tables are alike below a place.
 abbrev pub SameBelow : ℕ → List ℕ → List ℕ → Type 0

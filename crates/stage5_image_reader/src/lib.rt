@@ -2,16 +2,19 @@
 // and no other: the text is not looked at.
 ghost use mathlib.Core.Path.{_≡_};
 ghost use mathlib.Core.List.{List};
-ghost use mathlib.Core.Bool.{Bool};
+ghost use mathlib.Core.Bool.{Bool, false};
 ghost use Prim.Native.Nat.{ℕ, suc, _+_, _-_, _*_, _^_, _≤_, _<_};
 ghost use lib.ListN.{length};
 ghost use lib.Dec.{eqb, ltb};
 ghost use Rattle.stage1_sheet.specs.Field.{between, read-many};
 ghost use Rattle.stage5_image.specs.ImageReading.{image-field, read-flag, read-list, read-position, read-production, read-row};
 ghost use Rattle.stage5_image_reader.specs.Answers.{field-reading, place-of, position-reading, Answers, ProductionAnswers, with-flag, with-position, no-positions};
+ghost use Rattle.stage4_lexer_columns.specs.Held.{held-positions};
+ghost use Rattle.stage5_image.specs.ImageReading.{read-image};
+ghost use Rattle.stage5_image_reader.specs.Decoded.{ImageAnswers, no-tables, refused-image, read-grammar, read-lexer};
 ghost use Rattle.stage3_normal_form.specs.Productions.{Production, Row};
 ghost use Rattle.stage4_lexer.specs.Positions.{Position};
-ghost use Rattle.stage5_image_reader.specs.Tables.{held-flags, FlagsHeld, PositionsHeld, Members, InBounds, EntriesOf, RowHeld, RowsHeld, ZeroFrom, SameBelow};
+ghost use Rattle.stage5_image_reader.specs.Tables.{held-flags, FlagsOf, FlagsHeld, PositionsHeld, Members, InBounds, EntriesOf, RowHeld, RowsHeld, Room, SameBelow};
 
 use stage4_lexer_columns::PositionColumns;
 
@@ -151,7 +154,7 @@ fn read_flags(bytes: &[u8], at: usize, count: u64) -> Field
 // So many nonterminals of a tail. A nonterminal is below 64 and so one byte: the tail is later read from the image's bytes.
 fn read_tail(bytes: &[u8], at: usize, size: u64, nonterminals: u64) -> Field
     requires { ⌜ (1 ≤ nonterminals) × (nonterminals ≤ 64) × (at ≤ length (now bytes)) ⌝ }
-    ensures { λ r. ⌜ Answers (λ v l. Members (now (bytes .entry)) at nonterminals l) r (read-list (image-field (λ v. ltb v nonterminals) (now (bytes .entry))) size at) ⌝ }
+    ensures { λ r. ⌜ Answers (λ v l. (length l ≡ size) × Members (now (bytes .entry)) at nonterminals l) r (read-list (image-field (λ v. ltb v nonterminals) (now (bytes .entry))) size at) ⌝ }
 {
     let mut next = at;
     let mut i: u64 = 0;
@@ -314,8 +317,8 @@ fn read_productions(
     base: usize,
     table: &mut [usize; 2048],
 ) -> Field
-    requires { ⌜ InBounds bounds × (base + 32 ≤ 2048) × ZeroFrom (now table) base ⌝ }
-    ensures { λ r. ⌜ Answers (λ v ps. EntriesOf (now (bytes .entry)) (bounds .nonterminals) (now (table .exit)) base ps) r (read-many (read-production (now (bytes .entry)) (held-flags (bounds .skips) (bounds .rules)) (bounds .nonterminals)) (λ least p. suc (p .head)) 0 count at) × SameBelow base (now (table .entry)) (now (table .exit)) × ZeroFrom (now (table .exit)) (base + 32) ⌝ }
+    requires { ⌜ InBounds bounds × (base + 32 ≤ 2048) × Room (now table) base ⌝ }
+    ensures { λ r. ⌜ Answers (λ v ps. EntriesOf (now (bytes .entry)) (bounds .nonterminals) (now (table .exit)) base ps) r (read-many (read-production (now (bytes .entry)) (held-flags (bounds .skips) (bounds .rules)) (bounds .nonterminals)) (λ least p. suc (p .head)) 0 count at) × SameBelow base (now (table .entry)) (now (table .exit)) × Room (now (table .exit)) (base + 32) ⌝ }
 {
     let mut next = at;
     let mut least: u64 = 0;
@@ -347,8 +350,8 @@ fn read_row(
     base: usize,
     table: &mut [usize; 2048],
 ) -> Field
-    requires { ⌜ InBounds bounds × (base + 32 ≤ 2048) × ZeroFrom (now table) base ⌝ }
-    ensures { λ r. ⌜ Answers (λ v row. RowHeld (now (bytes .entry)) (bounds .nonterminals) (now (table .exit)) base v row) r (read-row (now (bytes .entry)) (held-flags (bounds .skips) (bounds .rules)) (bounds .nonterminals) at) × SameBelow base (now (table .entry)) (now (table .exit)) × ZeroFrom (now (table .exit)) (base + 32) ⌝ }
+    requires { ⌜ InBounds bounds × (base + 32 ≤ 2048) × Room (now table) base ⌝ }
+    ensures { λ r. ⌜ Answers (λ v row. RowHeld (now (bytes .entry)) (bounds .nonterminals) (now (table .exit)) base v row) r (read-row (now (bytes .entry)) (held-flags (bounds .skips) (bounds .rules)) (bounds .nonterminals) at) × SameBelow base (now (table .entry)) (now (table .exit)) × Room (now (table .exit)) (base + 32) ⌝ }
 {
     let empty = read_between(bytes, at, 0, 1);
     let Field::Value(flag, at_count) = empty else {
@@ -367,7 +370,7 @@ fn read_row(
 
 // The rows of all nonterminals: the set of those with ε is the value.
 fn read_rows(bytes: &[u8], at: usize, bounds: Bounds, table: &mut [usize; 2048]) -> Field
-    requires { ⌜ InBounds bounds × ZeroFrom (now table) 0 ⌝ }
+    requires { ⌜ InBounds bounds × Room (now table) 0 ⌝ }
     ensures { λ r. ⌜ Answers (λ s rows. RowsHeld (now (bytes .entry)) (bounds .nonterminals) (now (table .exit)) s rows) r (read-list (read-row (now (bytes .entry)) (held-flags (bounds .skips) (bounds .rules)) (bounds .nonterminals)) (bounds .nonterminals) at) ⌝ }
 {
     let count = bounds.nonterminals;
@@ -386,4 +389,105 @@ fn read_rows(bytes: &[u8], at: usize, bounds: Bounds, table: &mut [usize; 2048])
         i += 1;
     }
     Field::Value(empty, next)
+}
+
+// Tables that hold nothing.
+fn no_tables() -> ImageTables
+    ensures { λ r. ⌜ r ≡ no-tables ⌝ }
+{
+    ImageTables {
+        rules: 0,
+        skips: 0,
+        positions: no_positions(),
+        nonterminals: 0,
+        empty: 0,
+        productions: [0; 2048],
+    }
+}
+
+// The answer of question 13 at a place.
+fn refused(place: usize) -> ImageRead
+    ensures { λ r. ⌜ r ≡ refused-image place ⌝ }
+{
+    ImageRead {
+        outcome: Outcome::Refused(place),
+        tables: no_tables(),
+    }
+}
+
+// The image from its nonterminal count on.
+fn read_grammar(bytes: &[u8], at: usize, rules: u64, skips: u64, positions: PositionColumns) -> ImageRead
+    requires { ⌜ (1 ≤ rules) × (rules ≤ 32) × (positions .count ≤ 64) × FlagsOf (λ b. b) false skips (held-flags skips rules) ⌝ }
+    ensures { λ r. ⌜ ImageAnswers (now (bytes .entry)) (r .outcome) (r .tables) (read-grammar (now (bytes .entry)) (held-flags skips rules) (held-positions positions) (positions .first) at) ⌝ }
+{
+    let count = read_between(bytes, at, 1, 64);
+    let Field::Value(nonterminals, at_rows) = count else {
+        return refused(place_of(count));
+    };
+    let mut productions = [0usize; 2048];
+    let bounds = Bounds {
+        rules,
+        skips,
+        nonterminals,
+    };
+    let rows = read_rows(bytes, at_rows, bounds, &mut productions);
+    let Field::Value(empty, end) = rows else {
+        return refused(place_of(rows));
+    };
+    if end != bytes.len() {
+        return refused(end);
+    }
+    ImageRead {
+        outcome: Outcome::Readable,
+        tables: ImageTables {
+            rules: rules as usize,
+            skips,
+            positions,
+            nonterminals: nonterminals as usize,
+            empty,
+            productions,
+        },
+    }
+}
+
+// The image from its position count on.
+fn read_lexer(bytes: &[u8], at: usize, rules: u64, skips: u64) -> ImageRead
+    requires { ⌜ (1 ≤ rules) × (rules ≤ 32) × FlagsOf (λ b. b) false skips (held-flags skips rules) ⌝ }
+    ensures { λ r. ⌜ ImageAnswers (now (bytes .entry)) (r .outcome) (r .tables) (read-lexer (now (bytes .entry)) rules (held-flags skips rules) at) ⌝ }
+{
+    let size = read_between(bytes, at, 1, 64);
+    let Field::Value(count, at_positions) = size else {
+        return refused(place_of(size));
+    };
+    let positions = read_positions(bytes, at_positions, rules, count);
+    let end = positions.end;
+    let Field::Value(_, at_first) = end else {
+        return refused(place_of(end));
+    };
+    let first = read_between(bytes, at_first, 0, largest_set(count));
+    let Field::Value(first_set, at_nonterminals) = first else {
+        return refused(place_of(first));
+    };
+    let mut columns = positions.columns;
+    columns.first = first_set;
+    read_grammar(bytes, at_nonterminals, rules, skips, columns)
+}
+
+// Reads an image: question 13, and the tables for the machine.
+pub fn read_image(bytes: &[u8]) -> ImageRead
+    ensures { λ r. ⌜ ImageAnswers (now (bytes .entry)) (r .outcome) (r .tables) (read-image (now (bytes .entry))) ⌝ }
+{
+    let version = read_between(bytes, 0, 1, 1);
+    let Field::Value(_, at_rules) = version else {
+        return refused(place_of(version));
+    };
+    let size = read_between(bytes, at_rules, 1, 32);
+    let Field::Value(rules, at_skips) = size else {
+        return refused(place_of(size));
+    };
+    let flags = read_flags(bytes, at_skips, rules);
+    let Field::Value(skips, at_count) = flags else {
+        return refused(place_of(flags));
+    };
+    read_lexer(bytes, at_count, rules, skips)
 }

@@ -75,8 +75,7 @@ loop-again c =
     (omega arith, (
       _,
       listing-more _ _ _ (l .inv .1 .1) (search needs) (flag-reads _ _ (value-reads (v .given .1) (c .before .before .before .before .read-between .ensures))),
-      subst (λ (s : ℕ). FlagsOf (λ b. b) false s (l .inv .1 .0 ++ (eqb (v .given .0 .0) 1 ∷ []))) (sym (c .with-flag .ensures))
-      (flags-more (λ b. b) false (eqb (v .given .0 .0) 1) _ _ (l .inv .1 .0) refl (l .inv .1 .1 .size) (l .inv .1 .2))))
+      flags-more (λ b. b) false (eqb (v .given .0 .0) 1) _ _ (l .inv .1 .0) refl (l .inv .1 .1 .size) (l .inv .1 .2) (c .with-flag .ensures)))
 
 -- src/lib.rt:83:1
 returns-2 : tie.Need-returns-2 Inv-loop μ-loop

@@ -1,4 +1,13 @@
+-- `read_position` meets its contract: one law of `Positions` for each answer.
 use borrow.Author.Needs.{needs}
+use native.Mathlib.Omega.{arith}
+use mathlib.Core.Path.{_≡_, refl, sym, ap, subst, _∙_}
+use Prim.Native.Nat.{ℕ}
+use denote.Ref.{now}
+use Rattle.stage1_sheet.specs.Field.{between}
+use Rattle.stage5_image.specs.ImageReading.{image-field}
+use Rattle.stage5_image_reader.proofs.Fields.{value-reads, refusal-reads, field-range}
+use Rattle.stage5_image_reader.proofs.Positions.{low-stops, high-stops, rule-stops, last-stops, follow-stops, position-reads}
 use Rattle.stage5_image_reader.proofs.read_position.Statement.{statement}
 use Rattle.stage5_image_reader.proofs.read_position.Tie as tie
 use Rattle.stage5_image_reader.proofs.read_position.Reads as reads
@@ -25,7 +34,10 @@ place-of-requires c κs = search needs
 
 -- src/lib.rt:176:9
 returns : tie.Need-returns
-returns c = ?
+returns c =
+    sym (
+    low-stops _ _ _ _ _
+    (refusal-reads (c .before .enum-told .given .1) (c .place-of .ensures) (c .before .before .before .read-between .ensures)))
 
 -- src/lib.rt:178:9
 read-between-requires-2 : tie.Need-read-between-requires-2
@@ -45,7 +57,11 @@ place-of-requires-2 c κs = search needs
 
 -- src/lib.rt:180:9
 returns-2 : tie.Need-returns-2
-returns-2 c = ?
+returns-2 c =
+    sym (
+    high-stops _ _ _ _ _
+    (value-reads (c .before .before .before .before .before .low .given .1) (c .before .before .before .before .before .before .before .read-between .ensures))
+    (refusal-reads (c .before .enum-told2 .given .1) (c .place-of2 .ensures) (c .before .before .before .read-between2 .ensures)))
 
 -- src/lib.rt:182:52
 sub-read-between : tie.Need-sub-read-between
@@ -69,7 +85,13 @@ place-of-requires-3 c κs = search needs
 
 -- src/lib.rt:184:9
 returns-3 : tie.Need-returns-3
-returns-3 c = ?
+returns-3 c =
+    sym (
+    rule-stops _ _ _ _ _
+    (value-reads (c .before .before .before .before .before .before .before .before .before .low .given .1) (c .before .before .before .before .before .before .before .before .before .before .before .read-between .ensures))
+    (c .before .before .before .before .before .before .before .before .before .before .before .before .before .pre .0)
+    (value-reads (c .before .before .before .before .before .high .given .1) (c .before .before .before .before .before .before .before .read-between2 .ensures))
+    (refusal-reads (c .before .enum-told3 .given .1) (c .place-of3 .ensures) (c .before .before .before .read-between3 .ensures)))
 
 -- src/lib.rt:186:9
 read-between-requires-4 : tie.Need-read-between-requires-4
@@ -89,7 +111,14 @@ place-of-requires-4 c κs = search needs
 
 -- src/lib.rt:188:9
 returns-4 : tie.Need-returns-4
-returns-4 c = ?
+returns-4 c =
+    sym (
+    last-stops _ _ _ _ _
+    (value-reads (c .before .before .before .before .before .before .before .before .before .before .before .before .before .low .given .1) (c .before .before .before .before .before .before .before .before .before .before .before .before .before .before .before .read-between .ensures))
+    (c .before .before .before .before .before .before .before .before .before .before .before .before .before .before .before .before .before .pre .0)
+    (value-reads (c .before .before .before .before .before .before .before .before .before .high .given .1) (c .before .before .before .before .before .before .before .before .before .before .before .read-between2 .ensures))
+    (value-reads (c .before .before .before .before .before .rule .given .1) (c .before .before .before .before .before .before .before .read-between3 .ensures))
+    (refusal-reads (c .before .enum-told4 .given .1) (c .place-of4 .ensures) (c .before .before .before .read-between4 .ensures)))
 
 -- src/lib.rt:190:52
 largest-set-requires : tie.Need-largest-set-requires
@@ -113,23 +142,41 @@ place-of-requires-5 c κs = search needs
 
 -- src/lib.rt:192:9
 returns-5 : tie.Need-returns-5
-returns-5 c = ?
+returns-5 c =
+    sym (
+    follow-stops _ _ _ _ _
+    (value-reads (c .before .before .before .before .before .before .before .before .before .before .before .before .before .before .before .before .before .before .low .given .1) (c .before .before .before .before .before .before .before .before .before .before .before .before .before .before .before .before .before .before .before .before .read-between .ensures))
+    (c .before .before .before .before .before .before .before .before .before .before .before .before .before .before .before .before .before .before .before .before .before .before .pre .0)
+    (value-reads (c .before .before .before .before .before .before .before .before .before .before .before .before .before .before .high .given .1) (c .before .before .before .before .before .before .before .before .before .before .before .before .before .before .before .before .read-between2 .ensures))
+    (value-reads (c .before .before .before .before .before .before .before .before .before .before .rule .given .1) (c .before .before .before .before .before .before .before .before .before .before .before .before .read-between3 .ensures))
+    (value-reads (c .before .before .before .before .before .before .last .given .1) (c .before .before .before .before .before .before .before .before .read-between4 .ensures))
+    (c .before .before .before .before .largest-set .ensures)
+    (refusal-reads (c .before .enum-told5 .given .1) (c .place-of5 .ensures) (c .before .before .before .read-between5 .ensures)))
 
 -- src/lib.rt:195:14
 cast-t27 : tie.Need-cast-t27
-cast-t27 c = ?
+cast-t27 c = omega (arith, field-range 0 255 _ _ (value-reads (c .before .before .before .before .before .before .before .before .before .before .before .before .before .before .before .before .before .before .low .given .1) (c .before .before .before .before .before .before .before .before .before .before .before .before .before .before .before .before .before .before .before .before .read-between .ensures)))
 
 -- src/lib.rt:196:15
 cast-t28 : tie.Need-cast-t28
-cast-t28 c = ?
+cast-t28 c = omega (arith, field-range _ 255 _ _ (value-reads (c .before .before .before .before .before .before .before .before .before .before .before .before .before .before .high .given .1) (c .before .before .before .before .before .before .before .before .before .before .before .before .before .before .before .before .read-between2 .ensures)))
 
 -- src/lib.rt:197:15
 cast-t29 : tie.Need-cast-t29
-cast-t29 c = ?
+cast-t29 c = omega (arith, field-range _ _ _ _ (value-reads (c .before .before .before .before .before .before .before .before .before .before .rule .given .1) (c .before .before .before .before .before .before .before .before .before .before .before .before .read-between3 .ensures)), c .before .before .before .before .before .before .before .before .before .before .before .before .before .before .before .before .before .before .before .before .before .before .pre .1)
 
 -- src/lib.rt:170:1
 returns-6 : tie.Need-returns-6
-returns-6 c = ?
+returns-6 c =
+    sym (
+    position-reads _ _ _ _ _
+    (value-reads (c .before .before .before .before .before .before .before .before .before .before .before .before .before .before .before .before .before .before .low .given .1) (c .before .before .before .before .before .before .before .before .before .before .before .before .before .before .before .before .before .before .before .before .read-between .ensures))
+    (c .before .before .before .before .before .before .before .before .before .before .before .before .before .before .before .before .before .before .before .before .before .before .pre .0)
+    (value-reads (c .before .before .before .before .before .before .before .before .before .before .before .before .before .before .high .given .1) (c .before .before .before .before .before .before .before .before .before .before .before .before .before .before .before .before .read-between2 .ensures))
+    (value-reads (c .before .before .before .before .before .before .before .before .before .before .rule .given .1) (c .before .before .before .before .before .before .before .before .before .before .before .before .read-between3 .ensures))
+    (value-reads (c .before .before .before .before .before .before .last .given .1) (c .before .before .before .before .before .before .before .before .read-between4 .ensures))
+    (c .before .before .before .before .largest-set .ensures)
+    (value-reads (c .before .follow .given .1) (c .before .before .before .read-between5 .ensures)))
 
 pub read-position-spec : {M : Type 1} → statement M
 read-position-spec =

@@ -81,7 +81,7 @@ loop-again c =
 returns-2 : tie.Need-returns-2 Inv-loop μ-loop
 returns-2 c =
     let l = c .before .loop in
-    (l .inv .1 .0, listing-end _ _ _ (l .inv .1 .1) (search needs), l .inv .1 .2 .members)
+    (l .inv .1 .0, listing-end _ _ _ (l .inv .1 .1) (search needs), (omega (arith, l .inv .1 .1 .size), l .inv .1 .2 .members))
 
 pub read-tail-spec : {M : Type 1} → statement M
 read-tail-spec =

@@ -1,4 +1,11 @@
+-- `with_position` meets its contract.
 use borrow.Author.Needs.{needs}
+use native.Mathlib.Omega.{arith}
+use mathlib.Core.Path.{_≡_, refl, sym, ap, subst, _∙_}
+use Prim.Native.Nat.{ℕ, _+_}
+use lib.ListN.{set}
+use Rattle.stage4_lexer_columns.specs.declared.PositionColumns.{PositionColumns}
+use Rattle.stage5_image_reader.specs.Answers.{with-position}
 use Rattle.stage5_image_reader.proofs.with_position.Statement.{statement}
 use Rattle.stage5_image_reader.proofs.with_position.Tie as tie
 use Rattle.stage5_image_reader.proofs.with_position.Reads as reads
@@ -35,7 +42,8 @@ add-out c = search needs
 
 -- src/lib.rt:220:1
 returns : tie.Need-returns
-returns c = ?
+unfolding with-position
+returns c = rw (c .with-flag .ensures)
 
 pub with-position-spec : {M : Type 1} → statement M
 with-position-spec =

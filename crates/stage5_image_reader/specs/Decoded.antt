@@ -1,0 +1,67 @@
+-- What reading an image answers: the outcome is the definition's own answer to question 13, and tables of a readable image
+-- hold it. The parts of the definition that functions answer one after the other are named here.
+use mathlib.Core.Path.{_≡_}
+use mathlib.Core.Bool.{Bool, false}
+use mathlib.Core.List.{List}
+use Prim.Native.Nat.{ℕ, _^_, _≤_}
+use lib.ListN.{length, replicate}
+use lib.Dec.{ltb}
+use Rattle.stage1_sheet.specs.Limits.{most-classes, most-expression-nodes}
+use Rattle.stage1_sheet.specs.Field.{Reading, stop, got, and-then, between, read-many}
+use Rattle.stage4_lexer.specs.Positions.{Position}
+use Rattle.stage4_lexer_columns.specs.Held.{held-positions}
+use Rattle.stage5_image.specs.Image.{Image}
+use Rattle.stage5_image.specs.ImageReading.{image-field, read-list, read-position, read-row, image-end}
+use Rattle.stage5_image_reader.specs.Answers.{no-positions}
+use Rattle.stage5_image_reader.specs.Tables.{FlagsOf, RowsHeld}
+use Rattle.stage5_image_reader.specs.declared.ImageTables.{ImageTables}
+use Rattle.stage5_image_reader.specs.declared.ImageRead.{ImageRead}
+use Rattle.stage5_image_reader.specs.declared.Outcome.{Outcome}
+use Rattle.stage5_image_reader.specs.declared.Outcome.the-variants.{Readable, Refused}
+
+-- The tables hold an image that stands in these bytes.
+pub record Decoded (bytes : List ℕ) (t : ImageTables) (i : Image) : Type 0 where
+  pub rules : t .rules ≡ length (i .skips)
+  pub most-rules : t .rules ≤ 32
+  pub skips : FlagsOf (λ b. b) false (t .skips) (i .skips)
+  pub positions : held-positions (t .positions) ≡ i .positions
+  pub most-positions : t .positions .count ≤ 64
+  pub first : t .positions .first ≡ i .first
+  pub some-nonterminals : 1 ≤ t .nonterminals
+  pub most-nonterminals : t .nonterminals ≤ 64
+  pub rows : RowsHeld bytes (t .nonterminals) (t .productions) (t .empty) (i .rows)
+
+-- What a refused image's tables are.
+unfoldable pub no-tables : ImageTables
+no-tables = record {
+  rules = 0;
+  skips = 0;
+  positions = no-positions;
+  nonterminals = 0;
+  empty = 0;
+  productions = replicate 2048 0;
+}
+
+unfoldable pub refused-image : ℕ → ImageRead
+refused-image place = record { outcome = Refused place; tables = no-tables }
+
+-- The answer to the reading of an image: 13 at its place, and tables that hold nothing; or all bytes were read, and the tables
+-- hold the image.
+abbrev pub ImageAnswers : List ℕ → Outcome → ImageTables → Reading Image → Type 0
+ImageAnswers bytes Readable t x = (i : Image) × (x ≡ got i (length bytes)) × Decoded bytes t i
+ImageAnswers bytes (Refused place) t x = (x ≡ stop 13 place) × (t ≡ no-tables)
+
+-- From the nonterminal count on.
+unfoldable pub read-grammar : List ℕ → List Bool → List Position → ℕ → ℕ → Reading Image
+read-grammar bytes skips ps first at =
+    and-then (image-field (between 1 most-expression-nodes) bytes at)
+    (λ nonterminals at-rows. and-then (read-list (read-row bytes skips nonterminals) nonterminals at-rows)
+    (λ rows end. image-end bytes (record { skips = skips; positions = ps; first = first; rows = rows }) end))
+
+-- From the position count on.
+unfoldable pub read-lexer : List ℕ → ℕ → List Bool → ℕ → Reading Image
+read-lexer bytes rules skips at =
+    and-then (image-field (between 1 most-classes) bytes at)
+    (λ count at-positions. and-then (read-many (read-position bytes rules count) (λ before p. p .rule) 0 count at-positions)
+    (λ ps at-first. and-then (image-field (λ v. ltb v (2 ^ count)) bytes at-first)
+    (λ first at-nonterminals. read-grammar bytes skips ps first at-nonterminals)))
