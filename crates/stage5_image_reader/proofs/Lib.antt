@@ -6,3 +6,4 @@ pub mod Tails
 pub mod Positions
 pub mod Productions
 pub mod Rows
+pub mod Whole

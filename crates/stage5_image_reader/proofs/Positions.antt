@@ -169,6 +169,6 @@ unfolding held-positions held-position
 columns-held c ps s =
     listed-is (held-position (c .low) (c .high) (c .rule) (c .follow) (c .last)) no-position (c .count) ps (s .size)
     (λ k h. let m : k < length ps = omega (arith, s .size) in
-      same-position (held-position (c .low) (c .high) (c .rule) (c .follow) (c .last) k) (getD ps k no-position)
-      (s .low k m) (s .high k m) (s .rule k m) (s .last k) (s .follow k m))
+    same-position (held-position (c .low) (c .high) (c .rule) (c .follow) (c .last) k) (getD ps k no-position)
+    (s .low k m) (s .high k m) (s .rule k m) (s .last k) (s .follow k m))
     ∙ sym (from-listed (c .low) (c .high) (c .rule) (c .follow) (c .last) 0 (c .count))

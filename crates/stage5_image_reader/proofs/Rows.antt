@@ -80,7 +80,7 @@ module _ (bytes : List ℕ) (n : ℕ) (table table' : List ℕ) (s base i v : �
     size = length-append rows (row ∷ []) ∙ ap (λ (x : ℕ). x + 1) (f .size);
     start = omega (arith, f .start);
     empty =
-      flags-more (λ row. row .empty) no-productions row s i rows refl (f .size) (f .empty) (e ∙ ap (with-flag s i) (h .empty));
+        flags-more (λ row. row .empty) no-productions row s i rows refl (f .size) (f .empty) (e ∙ ap (with-flag s i) (h .empty));
     entries = λ m l. ⊎-elim (λ k. entries-below m k) (λ k. entries-last m (omega arith)) (lt-or-le m i);
     room = after;
   }

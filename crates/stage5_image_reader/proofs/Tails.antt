@@ -27,10 +27,10 @@ members-more bytes at n next v l m e h b k =
     record {
       inside = omega (arith, length-append l (v ∷ []));
       there =
-        ap (λ (x : ℕ). take x (drop at bytes)) (length-append l (v ∷ []) ∙ add-one (length l))
-        ∙ take-suc (drop at bytes) (length l) 0 (omega (arith, length-drop at bytes))
-        ∙ ap (λ (x : List ℕ). x ++ (getD (drop at bytes) (length l) 0 ∷ [])) (m .there)
-        ∙ ap (λ (x : ℕ). l ++ (x ∷ [])) g;
+          ap (λ (x : ℕ). take x (drop at bytes)) (length-append l (v ∷ []) ∙ add-one (length l))
+          ∙ take-suc (drop at bytes) (length l) 0 (omega (arith, length-drop at bytes))
+          ∙ ap (λ (x : List ℕ). x ++ (getD (drop at bytes) (length l) 0 ∷ [])) (m .there)
+          ∙ ap (λ (x : ℕ). l ++ (x ∷ [])) g;
       below = all-more (λ x. x < n) l v (m .below) k;
     }
 

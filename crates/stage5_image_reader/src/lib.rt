@@ -15,7 +15,6 @@ ghost use Rattle.stage5_image_reader.specs.Decoded.{ImageAnswers, no-tab
 ghost use Rattle.stage3_normal_form.specs.Productions.{Production, Row};
 ghost use Rattle.stage4_lexer.specs.Positions.{Position};
 ghost use Rattle.stage5_image_reader.specs.Tables.{held-flags, FlagsOf, FlagsHeld, PositionsHeld, Members, InBounds, EntriesOf, RowHeld, RowsHeld, Room, SameBelow};
-
 use stage4_lexer_columns::PositionColumns;
 
 // What a field gives: a value and the place after it, or the place of question 13.
@@ -45,11 +44,7 @@ pub struct PositionsRead {
 
 // A production that was read: its rule, the place of its tail's length and the place after it, or the place of question 13.
 pub enum ProductionRead {
-    Production {
-        rule: u64,
-        tail: usize,
-        next: usize,
-    },
+    Production { rule: u64, tail: usize, next: usize },
     Refused(usize),
 }
 
@@ -416,7 +411,13 @@ fn refused(place: usize) -> ImageRead
 }
 
 // The image from its nonterminal count on.
-fn read_grammar(bytes: &[u8], at: usize, rules: u64, skips: u64, positions: PositionColumns) -> ImageRead
+fn read_grammar(
+    bytes: &[u8],
+    at: usize,
+    rules: u64,
+    skips: u64,
+    positions: PositionColumns,
+) -> ImageRead
     requires { ⌜ (1 ≤ rules) × (rules ≤ 32) × (positions .count ≤ 64) × FlagsOf (λ b. b) false skips (held-flags skips rules) ⌝ }
     ensures { λ r. ⌜ ImageAnswers (now (bytes .entry)) (r .outcome) (r .tables) (read-grammar (now (bytes .entry)) (held-flags skips rules) (held-positions positions) (positions .first) at) ⌝ }
 {

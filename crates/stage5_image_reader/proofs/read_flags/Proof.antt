@@ -71,11 +71,14 @@ loop-less c = search needs
 loop-again : tie.Need-loop-again Inv-loop μ-loop
 loop-again c =
     let l = c .before .before .before .before .before .before .loop in
-    let v = c .before .before .flag in
-    (omega arith, (
-      _,
-      listing-more _ _ _ (l .inv .1 .1) (search needs) (flag-reads _ _ (value-reads (v .given .1) (c .before .before .before .before .read-between .ensures))),
-      flags-more (λ b. b) false (eqb (v .given .0 .0) 1) _ _ (l .inv .1 .0) refl (l .inv .1 .1 .size) (l .inv .1 .2) (c .with-flag .ensures)))
+    let v = c .before .before .flag in (
+      omega arith,
+      (
+        _,
+        listing-more _ _ _ (l .inv .1 .1) (search needs) (flag-reads _ _ (value-reads (v .given .1) (c .before .before .before .before .read-between .ensures))),
+        flags-more (λ b. b) false (eqb (v .given .0 .0) 1) _ _ (l .inv .1 .0) refl (l .inv .1 .1 .size) (l .inv .1 .2) (c .with-flag .ensures),
+      ),
+    )
 
 -- src/lib.rt:83:1
 returns-2 : tie.Need-returns-2 Inv-loop μ-loop

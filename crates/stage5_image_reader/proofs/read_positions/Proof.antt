@@ -74,12 +74,15 @@ loop-again c =
     let l = c .before .before .before .before .before .before .loop in
     let v = c .before .before .position2 in
     let s : l .columns .count < 64 = omega (arith, l .inv .1 .3, c .before .before .before .before .before .before .before .before .before .pre .2) in
-    let e = c .with-position .ensures in
-    (omega arith, (
-    _,
-    turns-more _ _ _ _ _ (l .inv .1 .1) (search needs) (sym (c .before .before .before .before .read-position .ensures) ∙ ap position-reading (v .given .1)),
-    columns-next (l .columns) _ (l .inv .1 .0) _ _ _ _ _ s (l .inv .1 .2) e,
-    columns-count _ _ _ _ _ _ _ e ∙ ap (λ (n : ℕ). n + 1) (l .inv .1 .3)))
+    let e = c .with-position .ensures in (
+      omega arith,
+      (
+        _,
+        turns-more _ _ _ _ _ (l .inv .1 .1) (search needs) (sym (c .before .before .before .before .read-position .ensures) ∙ ap position-reading (v .given .1)),
+        columns-next (l .columns) _ (l .inv .1 .0) _ _ _ _ _ s (l .inv .1 .2) e,
+        columns-count _ _ _ _ _ _ _ e ∙ ap (λ (n : ℕ). n + 1) (l .inv .1 .3),
+      ),
+    )
 
 -- src/lib.rt:243:1
 returns-2 : tie.Need-returns-2 Inv-loop μ-loop

@@ -112,13 +112,16 @@ returns-5 c =
     let r : c .before .before .before .before .before .before .before .before .before .before .before .rule .given .0 .0 < 64 = omega (arith, field-range _ _ _ _ e, c .before .before .before .before .before .before .before .before .before .before .before .before .before .before .before .before .pre .most-rules) in
     let p = rule-passes _ _ _ (c .before .before .before .before .before .before .before .before .before .before .before .before .before .before .before .before .pre .rules) _ _ e (skip-clear _ _ r (c .before .before .before .before .before .before .before .before .if1 .left)) in
     let e₂ = value-reads (c .before .before .before .before .before .size .given .1) (c .before .before .before .before .before .before .before .read-between2 .ensures) in
-    let t = value-answers (λ v l. (length l ≡ c .before .before .before .before .before .size .given .0 .0) × Members (now (c .before .before .before .before .before .before .before .before .before .before .before .before .before .before .before .before .args .bytes)) (c .before .before .before .before .before .size .given .0 .1 .0) (c .before .before .before .before .before .before .before .before .before .before .before .before .before .before .before .before .args .bounds .nonterminals) l) (c .before .tail .given .1) (c .before .before .before .read-tail .ensures) in
-    (_, production-reads _ _ _ _ _ p e₂ (t .1), record {
-      head = refl;
-      at-least = field-range _ _ _ _ e .0;
-      below = omega (arith, field-range _ _ _ _ e .1, c .before .before .before .before .before .before .before .before .before .before .before .before .before .before .before .before .pre .rules, c .before .before .before .before .before .before .before .before .before .before .before .before .before .before .before .before .pre .most-rules);
-      tail = tail-at _ _ _ _ _ _ (λ i. omega (arith, c .before .before .before .before .before .before .before .before .before .before .before .before .before .before .before .shared-slice-known .given i)) e₂ (t .2 .0) (t .2 .1);
-    })
+    let t = value-answers (λ v l. (length l ≡ c .before .before .before .before .before .size .given .0 .0) × Members (now (c .before .before .before .before .before .before .before .before .before .before .before .before .before .before .before .before .args .bytes)) (c .before .before .before .before .before .size .given .0 .1 .0) (c .before .before .before .before .before .before .before .before .before .before .before .before .before .before .before .before .args .bounds .nonterminals) l) (c .before .tail .given .1) (c .before .before .before .read-tail .ensures) in (
+      _,
+      production-reads _ _ _ _ _ p e₂ (t .1),
+      record {
+        head = refl;
+        at-least = field-range _ _ _ _ e .0;
+        below = omega (arith, field-range _ _ _ _ e .1, c .before .before .before .before .before .before .before .before .before .before .before .before .before .before .before .before .pre .rules, c .before .before .before .before .before .before .before .before .before .before .before .before .before .before .before .before .pre .most-rules);
+        tail = tail-at _ _ _ _ _ _ (λ i. omega (arith, c .before .before .before .before .before .before .before .before .before .before .before .before .before .before .before .shared-slice-known .given i)) e₂ (t .2 .0) (t .2 .1);
+      },
+    )
 
 pub read-production-spec : {M : Type 1} → statement M
 read-production-spec =

@@ -91,11 +91,14 @@ loop-again : tie.Need-loop-again Inv-loop μ-loop
 loop-again c =
     let l = c .before .before .before .before .before .loop in
     let a = production-answers _ _ _ (c .before .production2 .given .1) (c .before .before .before .read-production .ensures) in
-    let h : suc (a .0 .head) ≡ c .before .production2 .given .0 .0 + 1 = ap suc (a .2 .head) ∙ sym (add-one _) in
-    (omega arith, (
-    _,
-    turns-state _ _ _ _ _ (turns-more _ _ _ _ _ (l .inv .1 .1) (search needs) (a .1)) h,
-    entering-more _ _ _ _ _ _ _ (l .inv .1 .2) _ _ _ (a .2 .head) (a .2 .at-least) (a .2 .below) (c .before .before .before .before .before .before .before .pre .1) (a .2 .tail)))
+    let h : suc (a .0 .head) ≡ c .before .production2 .given .0 .0 + 1 = ap suc (a .2 .head) ∙ sym (add-one _) in (
+      omega arith,
+      (
+        _,
+        turns-state _ _ _ _ _ (turns-more _ _ _ _ _ (l .inv .1 .1) (search needs) (a .1)) h,
+        entering-more _ _ _ _ _ _ _ (l .inv .1 .2) _ _ _ (a .2 .head) (a .2 .at-least) (a .2 .below) (c .before .before .before .before .before .before .before .pre .1) (a .2 .tail),
+      ),
+    )
 
 -- src/lib.rt:309:1
 returns-2 : tie.Need-returns-2 Inv-loop μ-loop

@@ -55,9 +55,12 @@ place-of-requires-2 c κs = search needs
 
 -- src/lib.rt:359:9
 returns-2 : tie.Need-returns-2
-returns-2 c =
-    (count-stops _ _ _ _ (value-reads (c .before .before .before .before .before .empty .given .1) (c .before .before .before .before .before .before .before .read-between .ensures))
-    (refusal-reads (c .before .enum-told2 .given .1) (c .place-of2 .ensures) (c .before .before .before .read-between2 .ensures)), (λ k h. refl), room-after _ _ (c .before .before .before .before .before .before .before .before .before .pre .2))
+returns-2 c = (
+  count-stops _ _ _ _ (value-reads (c .before .before .before .before .before .empty .given .1) (c .before .before .before .before .before .before .before .read-between .ensures))
+      (refusal-reads (c .before .enum-told2 .given .1) (c .place-of2 .ensures) (c .before .before .before .read-between2 .ensures)),
+  (λ k h. refl),
+  room-after _ _ (c .before .before .before .before .before .before .before .before .before .pre .2),
+)
 
 -- src/lib.rt:361:9
 read-productions-requires : tie.Need-read-productions-requires
@@ -78,18 +81,28 @@ place-of-requires-3 c κs = search needs
 -- src/lib.rt:363:9
 returns-3 : tie.Need-returns-3
 returns-3 c =
-    let q = c .before .before .before .read-productions .ensures in
-    (productions-stop _ _ _ _ (value-reads (c .before .before .before .before .before .before .before .before .before .before .empty .given .1) (c .before .before .before .before .before .before .before .before .before .before .before .before .read-between .ensures))
-    (value-reads (c .before .before .before .before .before .before .count .given .1) (c .before .before .before .before .before .before .before .before .read-between2 .ensures))
-    (refusal-answers (λ v ps. EntriesOf (now (c .before .before .before .before .before .before .before .before .before .before .before .before .before .before .args .bytes)) (c .before .before .before .before .before .before .before .before .before .before .before .before .before .before .args .bounds .nonterminals) (c .before .before .before .read-productions .last .1 .1 .1 .1 .1 .0) (c .before .before .before .before .before .before .before .before .before .before .before .before .before .before .args .base) ps) (c .before .enum-told3 .given .1) (c .place-of3 .ensures) (q .0)), q .1, q .2)
+    let q = c .before .before .before .read-productions .ensures in (
+      productions-stop _ _ _ _ (value-reads (c .before .before .before .before .before .before .before .before .before .before .empty .given .1) (c .before .before .before .before .before .before .before .before .before .before .before .before .read-between .ensures))
+          (value-reads (c .before .before .before .before .before .before .count .given .1) (c .before .before .before .before .before .before .before .before .read-between2 .ensures))
+          (refusal-answers (λ v ps. EntriesOf (now (c .before .before .before .before .before .before .before .before .before .before .before .before .before .before .args .bytes)) (c .before .before .before .before .before .before .before .before .before .before .before .before .before .before .args .bounds .nonterminals) (c .before .before .before .read-productions .last .1 .1 .1 .1 .1 .0) (c .before .before .before .before .before .before .before .before .before .before .before .before .before .before .args .base) ps) (c .before .enum-told3 .given .1) (c .place-of3 .ensures) (q .0)),
+      q .1,
+      q .2,
+    )
 
 -- src/lib.rt:343:1
 returns-4 : tie.Need-returns-4
 returns-4 c =
     let q = c .before .before .before .read-productions .ensures in
-    let t = value-answers (λ v ps. EntriesOf (now (c .before .before .before .before .before .before .before .before .before .before .before .before .before .before .args .bytes)) (c .before .before .before .before .before .before .before .before .before .before .before .before .before .before .args .bounds .nonterminals) (c .before .before .before .read-productions .last .1 .1 .1 .1 .1 .0) (c .before .before .before .before .before .before .before .before .before .before .before .before .before .before .args .base) ps) (c .before .productions .given .1) (q .0) in
-    ((_, row-reads _ _ _ _ (value-reads (c .before .before .before .before .before .before .before .before .before .before .empty .given .1) (c .before .before .before .before .before .before .before .before .before .before .before .before .read-between .ensures))
-    (value-reads (c .before .before .before .before .before .before .count .given .1) (c .before .before .before .before .before .before .before .before .read-between2 .ensures)) (t .1), record { empty = refl; entries = t .2 }), q .1, q .2)
+    let t = value-answers (λ v ps. EntriesOf (now (c .before .before .before .before .before .before .before .before .before .before .before .before .before .before .args .bytes)) (c .before .before .before .before .before .before .before .before .before .before .before .before .before .before .args .bounds .nonterminals) (c .before .before .before .read-productions .last .1 .1 .1 .1 .1 .0) (c .before .before .before .before .before .before .before .before .before .before .before .before .before .before .args .base) ps) (c .before .productions .given .1) (q .0) in (
+      (
+        _,
+        row-reads _ _ _ _ (value-reads (c .before .before .before .before .before .before .before .before .before .before .empty .given .1) (c .before .before .before .before .before .before .before .before .before .before .before .before .read-between .ensures))
+            (value-reads (c .before .before .before .before .before .before .count .given .1) (c .before .before .before .before .before .before .before .before .read-between2 .ensures)) (t .1),
+        record { empty = refl; entries = t .2 },
+      ),
+      q .1,
+      q .2,
+    )
 
 pub read-row-spec : {M : Type 1} → statement M
 read-row-spec =

@@ -79,11 +79,15 @@ loop-again : tie.Need-loop-again Inv-loop μ-loop
 loop-again c =
     let l = c .before .before .before .before .before .before .before .loop in
     let q = c .before .before .before .before .read-row .ensures in
-    let t = value-answers (λ v row. RowHeld (now (c .before .before .before .before .before .before .before .before .before .args .bytes)) (c .before .before .before .before .before .before .before .before .before .args .bounds .nonterminals) (c .before .before .before .before .read-row .last .1 .1 .1 .1 .0) (c .before .before .before .before .before .before .before .loop .base) v row) (c .before .before .row .given .1) (q .0) in
-    (omega arith, refl, (
-    _,
-    listing-more _ _ _ (l .inv .2 .1) (search needs) (t .1),
-    filling-more _ _ _ _ _ _ _ _ _ _ (l .inv .2 .2) (t .2) (q .1) (q .2) (c .with-flag .ensures)))
+    let t = value-answers (λ v row. RowHeld (now (c .before .before .before .before .before .before .before .before .before .args .bytes)) (c .before .before .before .before .before .before .before .before .before .args .bounds .nonterminals) (c .before .before .before .before .read-row .last .1 .1 .1 .1 .0) (c .before .before .before .before .before .before .before .loop .base) v row) (c .before .before .row .given .1) (q .0) in (
+      omega arith,
+      refl,
+      (
+        _,
+        listing-more _ _ _ (l .inv .2 .1) (search needs) (t .1),
+        filling-more _ _ _ _ _ _ _ _ _ _ (l .inv .2 .2) (t .2) (q .1) (q .2) (c .with-flag .ensures),
+      ),
+    )
 
 -- src/lib.rt:369:1
 returns-2 : tie.Need-returns-2 Inv-loop μ-loop

@@ -71,11 +71,14 @@ loop-again : tie.Need-loop-again Inv-loop μ-loop
 loop-again c =
     let z = c .before .before .before .before .before .before .before in
     let l = c .before .before .before .before .before .loop in
-    let e = value-reads (c .before .member .given .1) (c .before .before .before .read-between .ensures) in
-    (omega arith, (
-      _,
-      listing-more _ _ _ (l .inv .1 .1) (search needs) (sym (field-below _ _ _ (z .pre .0)) ∙ e),
-      member-more _ _ _ _ _ _ (l .inv .1 .0) (λ i. omega (arith, c .before .before .before .before .before .before .shared-slice-known .given i)) (z .pre .0) (z .pre .1) e (l .inv .1 .2)))
+    let e = value-reads (c .before .member .given .1) (c .before .before .before .read-between .ensures) in (
+      omega arith,
+      (
+        _,
+        listing-more _ _ _ (l .inv .1 .1) (search needs) (sym (field-below _ _ _ (z .pre .0)) ∙ e),
+        member-more _ _ _ _ _ _ (l .inv .1 .0) (λ i. omega (arith, c .before .before .before .before .before .before .shared-slice-known .given i)) (z .pre .0) (z .pre .1) e (l .inv .1 .2),
+      ),
+    )
 
 -- src/lib.rt:103:1
 returns-2 : tie.Need-returns-2 Inv-loop μ-loop
