@@ -1,13 +1,13 @@
 -- Laws of an image's fields: when one is read, what is then known of it, and how two tests of a value compare.
-use mathlib.Core.Path.{_≡_, refl, sym, ap, ap₂, subst, _∙_}
+use mathlib.Core.Path.{_≡_, refl, sym, ap, subst, _∙_}
 use mathlib.Core.Bool.{Bool, true, false, cond, _&&_}
 use mathlib.Core.List.{List, [], _∷_}
-use Prim.Native.Nat.{ℕ, zero, suc, _+_, _-_, _≤_, _<_, _^_}
+use Prim.Native.Nat.{ℕ, _+_, _-_, _≤_, _<_}
 use native.Mathlib.Omega.{arith}
-use lib.ListN.{length, getD, take, drop, length-take, length-drop}
-use lib.Seq.{drop-cons, getD-take, getD-drop}
+use lib.ListN.{length, getD, take, drop}
+use lib.Seq.{getD-take, getD-drop}
 use lib.Dec.{leb, ltb, eqb}
-use borrow.Author.Tests.{lt-ltb, le-ltb, le-leb, lt-leb, leb-true, ltb-true}
+use borrow.Author.Tests.{lt-ltb, le-ltb, le-leb, lt-leb, leb-true}
 use Rattle.stage0_laws.specs.Truth.{and-true-first, and-true-second}
 use Rattle.stage0_laws.specs.Order.{lt-or-le}
 use mathlib.Core.Logic.{⊎-elim}
@@ -170,13 +170,33 @@ pub refusal-reads : {r : Field} {x : Reading ℕ} {p q : ℕ} → r ≡ Refused 
 refusal-reads h k e = sym e ∙ ap field-reading h ∙ ap (stop 13) (refusal-place h k)
 
 -- The same for answers that stand in a relation to what was read.
-pub value-answers : {A : Type 0} (P : ℕ → A → Type 0) {r : Field} {x : Reading A} {v n : ℕ} → r ≡ Value v n → Answers P r x
-    → (a : A) × (x ≡ got a n) × P v a
-value-answers P {r} {x} h e = subst (λ (r : Field). Answers P r x) h e
+value-refused : {X : Type 0} {v n p : ℕ} → Value v n ≡ Refused p → X
+value-refused {X} {v} {n} {p} e = let z : _≡_ {A = ℕ} 0 1 = cc in absurd (omega arith)
 
-pub refusal-answers : {A : Type 0} (P : ℕ → A → Type 0) {r : Field} {x : Reading A} {p q : ℕ} → r ≡ Refused p → q ≡ place-of r
-    → Answers P r x → x ≡ stop 13 q
-refusal-answers P {r} {x} h k e = subst (λ (r : Field). Answers P r x) h e ∙ ap (stop 13) (refusal-place h k)
+pub answers-value : {A : Type 0} {P : ℕ → A → Type 0} {x : Reading A} {v n : ℕ} (a : A) → x ≡ got a n → P v a → Answers P (Value v n) x
+answers-value {A} {P} {x} {v} {n} a h p = record {
+  value = λ e. (a, h ∙ ap (got a) (value-next e), subst (λ (w : ℕ). P w a) (value-first e) p);
+  refusal = λ e. value-refused e;
+}
+  where
+    value-first : {w m : ℕ} → Value v n ≡ Value w m → v ≡ w
+    value-first {w} {m} e = cc
+
+    value-next : {w m : ℕ} → Value v n ≡ Value w m → n ≡ m
+    value-next {w} {m} e = cc
+
+pub answers-refusal : {A : Type 0} {P : ℕ → A → Type 0} {x : Reading A} {p : ℕ} → x ≡ stop 13 p → Answers P (Refused p) x
+answers-refusal {A} {P} {x} {p} h = record {
+  value = λ e. value-refused (sym e);
+  refusal = λ e. h ∙ ap (stop 13) (refused-at e);
+}
+  where
+    refused-at : {q : ℕ} → Refused p ≡ Refused q → p ≡ q
+    refused-at {q} e = cc
+
+pub refusal-answers : {A : Type 0} {P : ℕ → A → Type 0} {r : Field} {x : Reading A} {p q : ℕ} → Answers P r x → r ≡ Refused p → q ≡ place-of r
+    → x ≡ stop 13 q
+refusal-answers a h k = a .refusal h ∙ ap (stop 13) (refusal-place h k)
 
 -- ---- flags
 

@@ -1,22 +1,20 @@
 -- Laws of sets of flags: a flag more, and the list that a set holds.
 use mathlib.Core.Path.{_≡_, refl, sym, ap, _∙_}
-use mathlib.Core.Bool.{Bool, true, false, cond, _||_}
+use mathlib.Core.Bool.{Bool, true, false, _||_}
 use mathlib.Core.Bool as B
-use mathlib.Core.Logic.{_⊎_, inl, inr, ⊎-elim}
+use mathlib.Core.Logic.{⊎-elim}
 use mathlib.Core.List.{List, [], _∷_, _++_}
-use Prim.Native.Nat.{ℕ, zero, suc, _+_, _-_, _^_, _≤_, _<_}
+use Prim.Native.Nat.{ℕ, zero, suc, _+_, _^_, _<_}
 use native.Mathlib.Omega.{arith}
 use native.Mathlib.Nat.{add-zero, zero-add}
 use lib.ListN.{length, getD, length-append, List·getD-eq-default, List·getD-append}
 use lib.Seq.{getD-at, ext-getD}
-use lib.Bits.{bitOr}
-use lib.Dec.{eqb}
 use borrow.Author.Tests.{eq-eqb, ne-eqb}
 use Rattle.stage0_laws.specs.Bits.{bit}
 use Rattle.stage0_laws.specs.BitLaws.{bit-or, bit-one, bit-zero}
 use Rattle.stage0_laws.specs.Order.{compare-cases}
 use Rattle.stage5_image_reader.specs.Answers.{with-flag}
-use Rattle.stage5_image_reader.specs.Tables.{listed, held-flags, FlagsOf}
+use Rattle.stage5_image_reader.specs.Tables.{listed, FlagsOf}
 
 or-false : (b : Bool) → (b || false) ≡ b
 or-false true = refl

@@ -1,7 +1,7 @@
 -- Laws of positions: one law for each way through the reading of a position, and columns with one position more.
 use mathlib.Core.Path.{_≡_, refl, sym, ap, subst, _∙_}
-use mathlib.Core.Bool.{Bool, true, false, _&&_}
-use mathlib.Core.Logic.{_⊎_, inl, inr, ⊎-elim}
+use mathlib.Core.Bool.{Bool, false, _&&_}
+use mathlib.Core.Logic.{⊎-elim}
 use mathlib.Core.List.{List, [], _∷_, _++_}
 use Prim.Native.Nat.{ℕ, zero, suc, _+_, _-_, _^_, _≤_, _<_}
 use native.Mathlib.Omega.{arith}
@@ -9,16 +9,19 @@ use lib.ListN.{length, getD, set, length-append, length-set}
 use lib.Seq.{getD-set-same, getD-set-other}
 use lib.Dec.{eqb, leb, ltb}
 use lib.Pow.{pow-pos}
-use Rattle.stage0_laws.specs.Bits.{bit}
+use borrow.Author.Tests.{ltb-true}
+use Rattle.stage0_laws.specs.Lists.{All}
 use Rattle.stage0_laws.specs.Order.{lt-or-le}
-use Rattle.stage1_sheet.specs.Field.{Reading, stop, got, between}
+use Rattle.stage0_laws.specs.Truth.{and-true-second}
+use Rattle.stage1_sheet.specs.Field.{stop, got, between}
 use Rattle.stage4_lexer.specs.Positions.{Position}
 use Rattle.stage4_lexer_columns.specs.Held.{held-position, held-from, held-positions}
 use Rattle.stage4_lexer_columns.specs.declared.PositionColumns.{PositionColumns}
 use Rattle.stage5_image.specs.ImageReading.{image-field, read-flag, read-position}
-use Rattle.stage5_image_reader.specs.Answers.{with-flag, with-position, no-positions}
+use Rattle.stage5_image_reader.specs.Answers.{positions-in, with-position, no-positions}
 use Rattle.stage5_image_reader.specs.Tables.{listed, FlagsOf}
-use Rattle.stage5_image_reader.proofs.Fields.{field-same, field-below, below-limit, flag-reads, flag-stops}
+use Rattle.stage5_image_reader.proofs.Fields.{field-got, field-same, field-below, below-limit, flag-reads, flag-stops}
+use Rattle.stage5_image_reader.proofs.Turns.{then-got, many-all}
 use Rattle.stage5_image_reader.proofs.Flags.{flags-none, flags-more, snoc-below, snoc-last, listed-is}
 
 -- ---- reading a position
@@ -67,6 +70,30 @@ module _ (bytes : List ℕ) (rules count least at : ℕ) where
           unfolding read-position
           position-reads l e₅ =
               rw (e, e₂, sym (field-rule bytes least rules at-rule h) ∙ e₃, flag-reads bytes at-last e₄, sym (field-set bytes count at-follow l) ∙ e₅)
+
+-- A position that was read has a rule below the number of rules, and so have all that were read.
+position-below : (bytes : List ℕ) (rules count least at : ℕ) {p : Position} {next : ℕ} → read-position bytes rules count least at ≡ got p next
+    → p .rule < rules
+unfolding read-position
+position-below bytes rules count least at {p} {next} e =
+    let low = then-got (image-field (between 0 255) bytes at) _ e in
+    let high = then-got (image-field (between (low .0) 255) bytes (low .1)) _ (low .3) in
+    let rule = then-got (image-field (λ v. leb least v && ltb v rules) bytes (high .1)) _ (high .3) in
+    let last = then-got (read-flag bytes (rule .1)) _ (rule .3) in
+    let follow = then-got (image-field (λ v. ltb v (2 ^ count)) bytes (last .1)) _ (last .3) in
+    let g = field-got (λ v. leb least v && ltb v rules) bytes (high .1) (rule .2) in
+    let b : rule .0 < rules = ltb-true (rule .0) rules (and-true-second (leb least (rule .0)) (ltb (rule .0) rules) (g .allowed)) in
+    let h : rule .0 ≡ p .rule = got-rule (follow .3) in
+    omega arith
+  where
+    got-rule : {q : Position} {n : ℕ} → got q n ≡ got p next → q .rule ≡ p .rule
+    got-rule {q} {n} f = let g : q ≡ p = cc in ap (λ (x : Position). x .rule) g
+
+pub positions-below : (bytes : List ℕ) (rules count at : ℕ) {ps : List Position} {next : ℕ} → positions-in bytes rules count at ≡ got ps next
+    → All (λ p. p .rule < rules) ps
+positions-below bytes rules count at e =
+    many-all (read-position bytes rules count) (λ least p. p .rule) (λ p. p .rule < rules)
+    (λ least at p next. position-below bytes rules count least at) 0 count at e
 
 -- ---- columns
 

@@ -1,17 +1,17 @@
 -- Laws of productions: one law for each way through the reading of a production, and the table with one entry more.
 use mathlib.Core.Path.{_≡_, refl, sym, ap, subst, _∙_}
 use mathlib.Core.Bool.{Bool, true, false, not, _&&_}
-use mathlib.Core.Logic.{_⊎_, inl, inr, ⊎-elim}
+use mathlib.Core.Logic.{⊎-elim}
 use mathlib.Core.List.{List, [], _∷_, _++_}
 use mathlib.Core.Option.{Option, none, some}
-use Prim.Native.Nat.{ℕ, zero, suc, _+_, _-_, _*_, _^_, _%_, _≤_, _<_}
+use Prim.Native.Nat.{ℕ, _+_, _-_, _*_, _^_, _%_, _≤_, _<_}
 use native.Mathlib.Omega.{arith}
 use native.Mathlib.Nat.{zero-add}
 use lib.ListN.{length, getD, set, length-set}
 use lib.Seq.{getD-set-same, getD-set-other}
 use lib.Bits.{bitAnd}
 use lib.Dec.{eqb, leb, ltb}
-use borrow.Author.Tests.{eq-eqb, ne-eqb, eqb-true, eqb-false, le-leb, lt-ltb}
+use borrow.Author.Tests.{eq-eqb, ne-eqb, le-leb, lt-ltb}
 use Rattle.stage0_laws.specs.Bits.{bit}
 use Rattle.stage0_laws.specs.BitLaws.{and-test, shl-one}
 use Rattle.stage0_laws.specs.Order.{compare-cases}
@@ -20,21 +20,39 @@ use Rattle.stage3_normal_form.specs.Productions.{Production}
 use Rattle.stage5_image.specs.Fusion.{production-of}
 use Rattle.stage5_image.specs.ImageReading.{image-field, read-list, read-production}
 use Rattle.stage5_image_reader.specs.Answers.{ProductionHeld, ProductionAnswers}
-use Rattle.stage5_image_reader.specs.declared.ProductionRead.{ProductionRead}
 use Rattle.stage5_image_reader.specs.declared.ProductionRead.the-variants as production
 use Rattle.stage5_image_reader.specs.Tables.{held-flags, TailAt, Members, EntryIs, EntriesOf, Room, SameBelow}
-use Rattle.stage5_image_reader.proofs.Fields.{field-passes, field-fails, field-stricter, field-range, field-one-byte, between-most, below-limit}
+use Rattle.stage5_image_reader.proofs.Fields.{field-passes, field-fails, field-stricter, field-range, field-one-byte, below-limit}
 use Rattle.stage5_image_reader.proofs.Flags.{length-listed, getD-listed}
 
 -- ---- answers
 
-pub production-answers : (bytes : List ℕ) (n least : ℕ) {r : ProductionRead} {x : Reading Production} {rule place next : ℕ} → r ≡ production.Production rule place next
-    → ProductionAnswers bytes n least r x → (p : Production) × (x ≡ got p next) × ProductionHeld bytes n least rule place p
-production-answers bytes n least {r} {x} h a = subst (λ (r : ProductionRead). ProductionAnswers bytes n least r x) h a
+value-refused : {X : Type 0} {rule place next p : ℕ} → production.Production rule place next ≡ production.Refused p → X
+value-refused {X} {rule} {place} {next} {p} e = let z : _≡_ {A = ℕ} 0 1 = cc in absurd (omega arith)
 
-pub production-refused : (bytes : List ℕ) (n least : ℕ) {r : ProductionRead} {x : Reading Production} {place : ℕ} → r ≡ production.Refused place
-    → ProductionAnswers bytes n least r x → x ≡ stop 13 place
-production-refused bytes n least {r} {x} h a = subst (λ (r : ProductionRead). ProductionAnswers bytes n least r x) h a
+module _ {bytes : List ℕ} {n least : ℕ} {x : Reading Production} where
+  pub production-value : {rule place next : ℕ} (p : Production) → x ≡ got p next → ProductionHeld bytes n least rule place p
+      → ProductionAnswers bytes n least (production.Production rule place next) x
+  production-value {rule} {place} {next} p h k = record {
+    value = λ e. (p, h ∙ ap (got p) (same-next e), same-held e);
+    refusal = λ e. value-refused e;
+  }
+    where
+      same-held : {r l m : ℕ} → production.Production rule place next ≡ production.Production r l m → ProductionHeld bytes n least r l p
+      same-held {r} {l} {m} e =
+          let same-rule : rule ≡ r = cc in
+          let same-place : place ≡ l = cc in
+          subst (λ (y : ℕ). ProductionHeld bytes n least y l p) same-rule
+          (subst (λ (y : ℕ). ProductionHeld bytes n least rule y p) same-place k)
+
+      same-next : {r l m : ℕ} → production.Production rule place next ≡ production.Production r l m → next ≡ m
+      same-next {r} {l} {m} e = cc
+
+  pub production-refusal : {p : ℕ} → x ≡ stop 13 p → ProductionAnswers bytes n least (production.Refused p) x
+  production-refusal {p} h = record { value = λ e. value-refused (sym e); refusal = λ e. h ∙ ap (stop 13) (refused-at e) }
+    where
+      refused-at : {q : ℕ} → production.Refused p ≡ production.Refused q → p ≡ q
+      refused-at {q} e = cc
 
 -- ---- the rule of a production
 

@@ -1,17 +1,17 @@
 -- Laws of rows: one law for each way through the reading of a row, and the tables with one row more.
 use mathlib.Core.Path.{_≡_, refl, sym, ap, subst, _∙_}
-use mathlib.Core.Bool.{Bool, false}
-use mathlib.Core.Logic.{_⊎_, inl, inr, ⊎-elim}
+use mathlib.Core.Bool.{Bool}
+use mathlib.Core.Logic.{⊎-elim}
 use mathlib.Core.List.{List, [], _∷_, _++_}
-use Prim.Native.Nat.{ℕ, zero, suc, _+_, _-_, _*_, _≤_, _<_}
+use Prim.Native.Nat.{ℕ, suc, _+_, _*_, _<_}
 use native.Mathlib.Omega.{arith}
 use lib.ListN.{length, getD, length-append}
 use lib.Dec.{eqb}
 use Rattle.stage0_laws.specs.Order.{lt-or-le}
-use Rattle.stage1_sheet.specs.Field.{Reading, stop, got, between, read-many}
+use Rattle.stage1_sheet.specs.Field.{stop, got, between, read-many}
 use Rattle.stage3_normal_form.specs.Productions.{Production, Row, row-of, no-productions}
 use Rattle.stage5_image.specs.Fusion.{production-of}
-use Rattle.stage5_image.specs.ImageReading.{image-field, read-flag, read-production, read-row}
+use Rattle.stage5_image.specs.ImageReading.{image-field, read-production, read-row}
 use Rattle.stage5_image_reader.specs.Answers.{with-flag}
 use Rattle.stage5_image_reader.specs.Tables.{FlagsOf, EntryIs, EntriesOf, RowHeld, RowsHeld, Room, SameBelow}
 use Rattle.stage5_image_reader.proofs.Fields.{flag-reads, flag-stops}

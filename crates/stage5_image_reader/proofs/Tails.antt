@@ -1,14 +1,13 @@
 -- Laws of a tail: its members are read one byte each, and stand where they were read.
 use mathlib.Core.Path.{_≡_, refl, sym, ap, _∙_}
 use mathlib.Core.List.{List, [], _∷_, _++_}
-use Prim.Native.Nat.{ℕ, zero, suc, _+_, _-_, _≤_, _<_}
+use Prim.Native.Nat.{ℕ, _+_, _-_, _≤_, _<_}
 use native.Mathlib.Omega.{arith}
 use native.Mathlib.Numerals.{add-one}
 use lib.ListN.{length, getD, take, drop, length-append, length-drop}
 use lib.Seq.{take-suc, getD-drop}
-use lib.Dec.{ltb}
 use Rattle.stage0_laws.specs.Lists.{All}
-use Rattle.stage1_sheet.specs.Field.{Reading, stop, got, between}
+use Rattle.stage1_sheet.specs.Field.{got, between}
 use Rattle.stage5_image.specs.ImageReading.{image-field}
 use Rattle.stage5_image_reader.proofs.Fields.{field-range, field-one-byte}
 use Rattle.stage5_image_reader.specs.Tables.{Members}

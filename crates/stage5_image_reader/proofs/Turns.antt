@@ -5,6 +5,7 @@ use mathlib.Core.Bool.{Bool, true}
 use Prim.Native.Nat.{ℕ, zero, suc, _+_, _-_, _≤_, _<_}
 use native.Mathlib.Omega.{arith}
 use lib.ListN.{length, length-append}
+use Rattle.stage0_laws.specs.Lists.{All}
 use Rattle.stage1_sheet.specs.Field.{Reading, stop, got, and-then, read-many}
 use Rattle.stage5_image.specs.ImageReading.{read-list}
 
@@ -88,3 +89,27 @@ module _ {A : Type 0} (one : ℕ → Reading A) (n at₀ : ℕ) where
     pub listing-end : n ≤ i → read-list one n at₀ ≡ got done at
     unfolding read-list
     listing-end h = turns-end (λ (s : Bool) at. one at) (λ s a. s) true n at₀ t h
+
+-- ---- what holds of everything that was read
+
+got-list : {A : Type 0} (P : A → Type 0) {l m : List A} {n e : ℕ} → got l n ≡ got m e → All P l → All P m
+got-list P {l} {m} {n} {e} h a = let f : l ≡ m = cc in subst (All P) f a
+
+stop-got : {A X : Type 0} {q p n : ℕ} {a : A} → _≡_ {A = Reading A} (stop q p) (got a n) → X
+stop-got {A} {X} {q} {p} {n} {a} e = let z : _≡_ {A = ℕ} 0 1 = cc in absurd (omega arith)
+
+-- Both parts of a reading in two parts.
+pub then-got : {A B : Type 0} (r : Reading A) (f : A → ℕ → Reading B) {b : B} {end : ℕ} → and-then r f ≡ got b end
+    → (a : A) × (next : ℕ) × (r ≡ got a next) × (f a next ≡ got b end)
+then-got (stop q p) f e = stop-got e
+then-got (got a next) f e = (a, next, refl, e)
+
+pub many-all : {S A : Type 0} (one : S → ℕ → Reading A) (update : S → A → S) (P : A → Type 0)
+    → ((s : S) (at : ℕ) (a : A) (next : ℕ) → one s at ≡ got a next → P a)
+    → (s : S) (n at : ℕ) {l : List A} {end : ℕ} → read-many one update s n at ≡ got l end → All P l
+unfolding read-many
+many-all one update P h s zero at e = got-list P e tt
+many-all one update P h s (suc n) at e =
+    let r = then-got (one s at) (λ a next. and-then (read-many one update (update s a) n next) (λ l end. got (a ∷ l) end)) e in
+    let q = then-got (read-many one update (update s (r .0)) n (r .1)) (λ l end. got (r .0 ∷ l) end) (r .3) in
+    got-list P (q .3) (h s at (r .0) (r .1) (r .2), many-all one update P h (update s (r .0)) n (r .1) (q .2))

@@ -1,34 +1,46 @@
 -- Laws of a whole image: one law for each way through the reading of its parts, one after the other.
 use mathlib.Core.Path.{_≡_, refl, sym, ap, subst, _∙_}
 use mathlib.Core.Bool.{Bool, false}
-use mathlib.Core.List.{List, [], _∷_}
-use Prim.Native.Nat.{ℕ, zero, suc, _-_, _^_, _≤_, _<_}
+use mathlib.Core.List.{List}
+use Prim.Native.Nat.{ℕ, zero, suc, _-_, _^_}
 use native.Mathlib.Omega.{arith}
 use lib.ListN.{length, getD, replicate, length-replicate}
-use lib.Dec.{eqb, ltb}
 use borrow.Author.Tests.{eq-eqb, ne-eqb}
-use Rattle.stage1_sheet.specs.Field.{Reading, stop, got, between, read-many}
+use Rattle.stage1_sheet.specs.Field.{Reading, stop, got, between}
 use Rattle.stage3_normal_form.specs.Productions.{Row}
 use Rattle.stage4_lexer.specs.Positions.{Position}
 use Rattle.stage5_image.specs.Image.{Image}
-use Rattle.stage5_image.specs.ImageReading.{image-field, read-flag, read-list, read-position, read-row, image-end, read-image}
+use Rattle.stage5_image.specs.ImageReading.{image-field, read-flag, read-list, read-row, image-end, read-image}
+use Rattle.stage5_image_reader.specs.Answers.{positions-in}
 use Rattle.stage5_image_reader.specs.Tables.{held-flags, FlagsOf, FlagsHeld, Room}
-use Rattle.stage5_image_reader.specs.Decoded.{no-tables, refused-image, ImageAnswers, read-grammar, read-lexer}
+use Rattle.stage5_image_reader.specs.Decoded.{Decoded, refused-image, ImageAnswers, read-grammar, read-lexer}
 use Rattle.stage5_image_reader.specs.declared.ImageTables.{ImageTables}
 use Rattle.stage5_image_reader.specs.declared.ImageRead.{ImageRead}
-use Rattle.stage5_image_reader.specs.declared.Outcome.{Outcome}
+use Rattle.stage5_image_reader.specs.declared.Outcome.the-variants.{Readable, Refused}
 use Rattle.stage5_image_reader.proofs.Positions.{field-set}
 
 -- ---- answers
 
-pub refused-answers : (bytes : List ℕ) (r : ImageRead) (x : Reading Image) {place : ℕ} → r ≡ refused-image place → x ≡ stop 13 place
-    → ImageAnswers bytes (r .outcome) (r .tables) x
-unfolding refused-image
-refused-answers bytes r x h e = subst (λ (r : ImageRead). ImageAnswers bytes (r .outcome) (r .tables) x) (sym h) (e, refl)
+readable-refused : {X : Type 0} {p : ℕ} → Readable ≡ Refused p → X
+readable-refused {X} {p} e = let z : _≡_ {A = ℕ} 0 1 = cc in absurd (omega arith)
 
-pub answers-same : (bytes : List ℕ) (o : Outcome) (t : ImageTables) (x : Reading Image) {y : Reading Image} → x ≡ y
-    → ImageAnswers bytes o t y → ImageAnswers bytes o t x
-answers-same bytes o t x e a = subst (λ (z : Reading Image). ImageAnswers bytes o t z) (sym e) a
+pub image-readable : {bytes : List ℕ} {t : ImageTables} {x : Reading Image} (i : Image) → x ≡ got i (length bytes) → Decoded bytes t i
+    → ImageAnswers bytes (record { outcome = Readable; tables = t }) x
+image-readable i h d = record { readable = λ e. (i, h, d); refusal = λ e. readable-refused e }
+
+pub image-refused : {bytes : List ℕ} {r : ImageRead} {x : Reading Image} {place : ℕ} → r ≡ refused-image place → x ≡ stop 13 place
+    → ImageAnswers bytes r x
+unfolding refused-image
+image-refused {bytes} {r} {x} {place} h e = record {
+  readable = λ f. readable-refused (sym f ∙ ap (λ (r : ImageRead). r .outcome) h);
+  refusal = λ f. (e ∙ ap (stop 13) (refused-at (sym (ap (λ (r : ImageRead). r .outcome) h) ∙ f)), ap (λ (r : ImageRead). r .tables) h);
+}
+  where
+    refused-at : {q : ℕ} → Refused place ≡ Refused q → place ≡ q
+    refused-at {q} e = cc
+
+pub image-same : {bytes : List ℕ} {r : ImageRead} {x y : Reading Image} → x ≡ y → ImageAnswers bytes r y → ImageAnswers bytes r x
+image-same {bytes} {r} e a = subst (λ (z : Reading Image). ImageAnswers bytes r z) (sym e) a
 
 -- ---- the table before any row
 
@@ -70,13 +82,13 @@ module _ (bytes : List ℕ) (rules : ℕ) (skips : List Bool) (at : ℕ) where
   count-stops e = rw e
 
   module _ {count at-positions : ℕ} (e : image-field (between 1 64) bytes at ≡ got count at-positions) where
-    pub positions-stop : {p : ℕ} → read-many (read-position bytes rules count) (λ least p. p .rule) 0 count at-positions ≡ stop 13 p
+    pub positions-stop : {p : ℕ} → positions-in bytes rules count at-positions ≡ stop 13 p
         → read-lexer bytes rules skips at ≡ stop 13 p
     unfolding read-lexer
     positions-stop e₂ = rw (e, e₂)
 
     module _ {ps : List Position} {at-first : ℕ}
-        (e₂ : read-many (read-position bytes rules count) (λ least p. p .rule) 0 count at-positions ≡ got ps at-first)
+        (e₂ : positions-in bytes rules count at-positions ≡ got ps at-first)
         {m : ℕ} (l : m ≡ 2 ^ count - 1) where
       pub first-stops : {p : ℕ} → image-field (between 0 m) bytes at-first ≡ stop 13 p → read-lexer bytes rules skips at ≡ stop 13 p
       unfolding read-lexer

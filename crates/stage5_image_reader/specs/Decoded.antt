@@ -1,22 +1,23 @@
--- What reading an image answers: the outcome is the definition's own answer to question 13, and tables of a readable image
+-- What reading an image answers: the outcome is the definition's own answer to question 13, and the tables of a readable image
 -- hold it. The parts of the definition that functions answer one after the other are named here.
 use mathlib.Core.Path.{_≡_}
 use mathlib.Core.Bool.{Bool, false}
 use mathlib.Core.List.{List}
-use Prim.Native.Nat.{ℕ, _^_, _≤_}
-use lib.ListN.{length, replicate}
+use Prim.Native.Nat.{ℕ, _^_, _≤_, _<_}
 use lib.Dec.{ltb}
+use lib.ListN.{length, replicate}
+use Rattle.stage0_laws.specs.Lists.{All}
 use Rattle.stage1_sheet.specs.Limits.{most-classes, most-expression-nodes}
-use Rattle.stage1_sheet.specs.Field.{Reading, stop, got, and-then, between, read-many}
+use Rattle.stage1_sheet.specs.Field.{Reading, stop, got, and-then, between}
 use Rattle.stage4_lexer.specs.Positions.{Position}
 use Rattle.stage4_lexer_columns.specs.Held.{held-positions}
+use Rattle.stage4_lexer_columns.specs.declared.PositionColumns.{PositionColumns}
 use Rattle.stage5_image.specs.Image.{Image}
-use Rattle.stage5_image.specs.ImageReading.{image-field, read-list, read-position, read-row, image-end}
-use Rattle.stage5_image_reader.specs.Answers.{no-positions}
-use Rattle.stage5_image_reader.specs.Tables.{FlagsOf, RowsHeld}
+use Rattle.stage5_image.specs.ImageReading.{image-field, read-list, read-row, image-end}
+use Rattle.stage5_image_reader.specs.Answers.{positions-in, no-positions}
+use Rattle.stage5_image_reader.specs.Tables.{held-flags, FlagsOf, RowsHeld}
 use Rattle.stage5_image_reader.specs.declared.ImageTables.{ImageTables}
 use Rattle.stage5_image_reader.specs.declared.ImageRead.{ImageRead}
-use Rattle.stage5_image_reader.specs.declared.Outcome.{Outcome}
 use Rattle.stage5_image_reader.specs.declared.Outcome.the-variants.{Readable, Refused}
 
 -- The tables hold an image that stands in these bytes.
@@ -26,6 +27,7 @@ pub record Decoded (bytes : List ℕ) (t : ImageTables) (i : Image) : Type 0 whe
   pub skips : FlagsOf (λ b. b) false (t .skips) (i .skips)
   pub positions : held-positions (t .positions) ≡ i .positions
   pub most-positions : t .positions .count ≤ 64
+  pub positions-below : All (λ p. p .rule < t .rules) (i .positions)
   pub first : t .positions .first ≡ i .first
   pub some-nonterminals : 1 ≤ t .nonterminals
   pub most-nonterminals : t .nonterminals ≤ 64
@@ -45,11 +47,25 @@ no-tables = record {
 unfoldable pub refused-image : ℕ → ImageRead
 refused-image place = record { outcome = Refused place; tables = no-tables }
 
--- The answer to the reading of an image: 13 at its place, and tables that hold nothing; or all bytes were read, and the tables
--- hold the image.
-abbrev pub ImageAnswers : List ℕ → Outcome → ImageTables → Reading Image → Type 0
-ImageAnswers bytes Readable t x = (i : Image) × (x ≡ got i (length bytes)) × Decoded bytes t i
-ImageAnswers bytes (Refused place) t x = (x ≡ stop 13 place) × (t ≡ no-tables)
+-- The answer to the reading of an image: all bytes were read, and the tables hold the image; or 13 at its place, and the tables
+-- hold nothing.
+pub record ImageAnswers (bytes : List ℕ) (r : ImageRead) (x : Reading Image) : Type 0 where
+  pub readable : r .outcome ≡ Readable → (i : Image) × (x ≡ got i (length bytes)) × Decoded bytes (r .tables) i
+  pub refusal : {place : ℕ} → r .outcome ≡ Refused place → (x ≡ stop 13 place) × (r .tables ≡ no-tables)
+
+-- ---- the parts
+
+-- What is known after the flags: so many rules, and the set of those that skip.
+pub record RulesRead (rules skips : ℕ) : Type 0 where
+  pub some : 1 ≤ rules
+  pub most : rules ≤ 32
+  pub flags : FlagsOf (λ b. b) false skips (held-flags skips rules)
+
+-- What is known after the first set.
+pub record LexerRead (rules skips : ℕ) (c : PositionColumns) : Type 0 where
+  pub rules-read : RulesRead rules skips
+  pub most : c .count ≤ 64
+  pub below : All (λ p. p .rule < rules) (held-positions c)
 
 -- From the nonterminal count on.
 unfoldable pub read-grammar : List ℕ → List Bool → List Position → ℕ → ℕ → Reading Image
@@ -62,6 +78,6 @@ read-grammar bytes skips ps first at =
 unfoldable pub read-lexer : List ℕ → ℕ → List Bool → ℕ → Reading Image
 read-lexer bytes rules skips at =
     and-then (image-field (between 1 most-classes) bytes at)
-    (λ count at-positions. and-then (read-many (read-position bytes rules count) (λ before p. p .rule) 0 count at-positions)
+    (λ count at-positions. and-then (positions-in bytes rules count at-positions)
     (λ ps at-first. and-then (image-field (λ v. ltb v (2 ^ count)) bytes at-first)
     (λ first at-nonterminals. read-grammar bytes skips ps first at-nonterminals)))

@@ -1,9 +1,11 @@
 -- What the tables hold of an image. The tables are made once, before the text; the machine reads them and the image's bytes.
+-- How they are read from bytes is not said here.
 use mathlib.Core.Path.{_≡_}
-use mathlib.Core.Bool.{Bool, true, false, cond}
+use mathlib.Core.Bool.{Bool, false}
 use mathlib.Core.List.{List, [], _∷_}
 use mathlib.Core.Option.{Option, none, some}
 use Prim.Native.Nat.{ℕ, zero, suc, _+_, _*_, _≤_, _<_}
+use lib.Dec.{eqb}
 use lib.ListN.{length, getD, take, drop}
 use Rattle.stage0_laws.specs.Bits.{bit}
 use Rattle.stage0_laws.specs.Lists.{All}
@@ -12,8 +14,8 @@ use Rattle.stage4_lexer.specs.Positions.{Position}
 use Rattle.stage4_lexer_columns.specs.Held.{held-positions}
 use Rattle.stage4_lexer_columns.specs.declared.PositionColumns.{PositionColumns}
 use Rattle.stage5_image.specs.Fusion.{production-of}
-use Rattle.stage5_image_reader.specs.declared.Bounds.{Bounds}
-use lib.Dec.{eqb}
+
+-- ---- sets of flags
 
 -- What a function gives for so many numbers, from i on.
 unfoldable pub listed : {A : Type 0} → (ℕ → A) → ℕ → ℕ → List A
@@ -28,11 +30,32 @@ held-flags s n = listed (bit s) 0 n
 abbrev pub FlagsOf : {A : Type 0} → (A → Bool) → A → ℕ → List A → Type 0
 FlagsOf f d s l = (k : ℕ) → bit s k ≡ f (getD l k d)
 
+-- So many flags as a set.
+pub record FlagsHeld (count s : ℕ) (l : List Bool) : Type 0 where
+  pub size : length l ≡ count
+  pub bits : FlagsOf (λ b. b) false s l
+  pub list : l ≡ held-flags s count
+
+-- ---- positions
+
+-- So many positions in columns. The value that stands for them says nothing.
+pub record PositionsHeld (rules count : ℕ) (c : PositionColumns) (v : ℕ) (ps : List Position) : Type 0 where
+  pub size : c .count ≡ count
+  pub list : ps ≡ held-positions c
+  pub below : All (λ p. p .rule < rules) ps
+
+-- ---- productions
+
 -- These numbers stand in the image's bytes from a place on, one byte each, and each is below n.
 pub record Members (bytes : List ℕ) (at n : ℕ) (l : List ℕ) : Type 0 where
   pub inside : at + length l ≤ length bytes
   pub there : take (length l) (drop at bytes) ≡ l
   pub below : All (λ m. m < n) l
+
+-- So many of them. The value that stands for them says nothing.
+pub record MembersHeld (bytes : List ℕ) (at n size v : ℕ) (l : List ℕ) : Type 0 where
+  pub count : length l ≡ size
+  pub members : Members bytes at n l
 
 -- A tail in the image's bytes: its length, and then its members.
 pub record TailAt (bytes : List ℕ) (n place : ℕ) (tail : List ℕ) : Type 0 where
@@ -49,6 +72,23 @@ EntryIs bytes n entry (some p) = (place : ℕ) × (entry ≡ place + 1) × TailA
 abbrev pub EntriesOf : List ℕ → ℕ → List ℕ → ℕ → List Production → Type 0
 EntriesOf bytes n table base ps = (r : ℕ) → r < 32 → EntryIs bytes n (getD table (base + r) 0) (production-of r ps)
 
+-- The same, where a value that says nothing stands for them.
+pub record EntriesHeld (bytes : List ℕ) (n : ℕ) (table : List ℕ) (base v : ℕ) (ps : List Production) : Type 0 where
+  pub entries : EntriesOf bytes n table base ps
+
+-- ---- rows
+
+-- A row in the table from a base on; v is its ε flag as a number.
+pub record RowHeld (bytes : List ℕ) (n : ℕ) (table : List ℕ) (base v : ℕ) (row : Row) : Type 0 where
+  pub empty : eqb v 1 ≡ row .empty
+  pub entries : EntriesOf bytes n table base (row .productions)
+
+-- All rows in the table; s is the set of those with ε.
+pub record RowsHeld (bytes : List ℕ) (n : ℕ) (table : List ℕ) (s : ℕ) (rows : List Row) : Type 0 where
+  pub size : length rows ≡ n
+  pub empty : FlagsOf (λ row. row .empty) no-productions s rows
+  pub entries : (m : ℕ) → m < n → EntriesOf bytes n table (m * 32) ((row-of rows m) .productions)
+
 -- The table is whole, and its entries from a place on are zero: rows from there on can be entered.
 pub record Room (table : List ℕ) (at : ℕ) : Type 0 where
   pub size : length table ≡ 2048
@@ -57,32 +97,3 @@ pub record Room (table : List ℕ) (at : ℕ) : Type 0 where
 -- Two tables are alike below a place.
 abbrev pub SameBelow : ℕ → List ℕ → List ℕ → Type 0
 SameBelow at table table' = (k : ℕ) → k < at → getD table' k 0 ≡ getD table k 0
-
--- So many flags, read as a set.
-pub record FlagsHeld (count s : ℕ) (l : List Bool) : Type 0 where
-  pub size : length l ≡ count
-  pub bits : FlagsOf (λ b. b) false s l
-  pub list : l ≡ held-flags s count
-
--- So many positions, read into columns.
-pub record PositionsHeld (count : ℕ) (c : PositionColumns) (ps : List Position) : Type 0 where
-  pub size : c .count ≡ count
-  pub list : ps ≡ held-positions c
-
--- The bounds that an image's first numbers set.
-pub record InBounds (b : Bounds) : Type 0 where
-  pub rules : 1 ≤ b .rules
-  pub most-rules : b .rules ≤ 32
-  pub nonterminals : 1 ≤ b .nonterminals
-  pub most-nonterminals : b .nonterminals ≤ 64
-
--- A row, read into the table from a base on; v is its ε flag as a number.
-pub record RowHeld (bytes : List ℕ) (n : ℕ) (table : List ℕ) (base v : ℕ) (row : Row) : Type 0 where
-  pub empty : eqb v 1 ≡ row .empty
-  pub entries : EntriesOf bytes n table base (row .productions)
-
--- All rows, read into the table; s is the set of those with ε.
-pub record RowsHeld (bytes : List ℕ) (n : ℕ) (table : List ℕ) (s : ℕ) (rows : List Row) : Type 0 where
-  pub size : length rows ≡ n
-  pub empty : FlagsOf (λ row. row .empty) no-productions s rows
-  pub entries : (m : ℕ) → m < n → EntriesOf bytes n table (m * 32) ((row-of rows m) .productions)

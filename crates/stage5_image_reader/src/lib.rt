@@ -1,20 +1,17 @@
 // The image reader: an image's bytes are read once, before the text, into tables for the machine. Question 13 is answered here,
 // and no other: the text is not looked at.
 ghost use mathlib.Core.Path.{_≡_};
-ghost use mathlib.Core.List.{List};
-ghost use mathlib.Core.Bool.{Bool, false};
-ghost use Prim.Native.Nat.{ℕ, suc, _+_, _-_, _*_, _^_, _≤_, _<_};
-ghost use lib.ListN.{length};
+ghost use Prim.Native.Nat.{_+_, _-_, _^_, _≤_, _<_};
 ghost use lib.Dec.{eqb, ltb};
-ghost use Rattle.stage1_sheet.specs.Field.{between, read-many};
-ghost use Rattle.stage5_image.specs.ImageReading.{image-field, read-flag, read-list, read-position, read-production, read-row};
-ghost use Rattle.stage5_image_reader.specs.Answers.{field-reading, place-of, position-reading, Answers, ProductionAnswers, with-flag, with-position, no-positions};
+ghost use lib.ListN.{length};
+ghost use Rattle.stage1_sheet.specs.Field.{between};
 ghost use Rattle.stage4_lexer_columns.specs.Held.{held-positions};
-ghost use Rattle.stage5_image.specs.ImageReading.{read-image};
-ghost use Rattle.stage5_image_reader.specs.Decoded.{ImageAnswers, no-tables, refused-image, read-grammar, read-lexer};
-ghost use Rattle.stage3_normal_form.specs.Productions.{Production, Row};
-ghost use Rattle.stage4_lexer.specs.Positions.{Position};
-ghost use Rattle.stage5_image_reader.specs.Tables.{held-flags, FlagsOf, FlagsHeld, PositionsHeld, Members, InBounds, EntriesOf, RowHeld, RowsHeld, Room, SameBelow};
+ghost use Rattle.stage5_image.specs.ImageReading.{image-field, read-flag, read-list, read-position, read-image};
+ghost use Rattle.stage5_image_reader.specs.Tables.{held-flags, FlagsHeld, PositionsHeld, MembersHeld, RowsHeld, Room};
+ghost use Rattle.stage5_image_reader.specs.Answers.{field-reading, place-of, Answers, with-flag};
+ghost use Rattle.stage5_image_reader.specs.Answers.{position-reading, positions-in, no-positions, with-position};
+ghost use Rattle.stage5_image_reader.specs.Answers.{InBounds, production-in, row-in, ProductionAnswers, ProductionsEntered, RowEntered};
+ghost use Rattle.stage5_image_reader.specs.Decoded.{ImageAnswers, no-tables, refused-image, RulesRead, LexerRead, read-grammar, read-lexer};
 use stage4_lexer_columns::PositionColumns;
 
 // What a field gives: a value and the place after it, or the place of question 13.
@@ -149,7 +146,10 @@ fn read_flags(bytes: &[u8], at: usize, count: u64) -> Field
 // So many nonterminals of a tail. A nonterminal is below 64 and so one byte: the tail is later read from the image's bytes.
 fn read_tail(bytes: &[u8], at: usize, size: u64, nonterminals: u64) -> Field
     requires { ⌜ (1 ≤ nonterminals) × (nonterminals ≤ 64) × (at ≤ length (now bytes)) ⌝ }
-    ensures { λ r. ⌜ Answers (λ v l. (length l ≡ size) × Members (now (bytes .entry)) at nonterminals l) r (read-list (image-field (λ v. ltb v nonterminals) (now (bytes .entry))) size at) ⌝ }
+    ensures { λ r. ⌜ Answers
+        (MembersHeld (now (bytes .entry)) at nonterminals size)
+        r
+        (read-list (image-field (λ v. ltb v nonterminals) (now (bytes .entry))) size at) ⌝ }
 {
     let mut next = at;
     let mut i: u64 = 0;
@@ -240,7 +240,10 @@ fn with_position(
 // So many positions.
 fn read_positions(bytes: &[u8], at: usize, rules: u64, count: u64) -> PositionsRead
     requires { ⌜ (1 ≤ rules) × (rules ≤ 32) × (count ≤ 64) ⌝ }
-    ensures { λ r. ⌜ Answers (λ v ps. PositionsHeld count (r .columns) ps) (r .end) (read-many (read-position (now (bytes .entry)) rules count) (λ least p. p .rule) 0 count at) ⌝ }
+    ensures { λ r. ⌜ Answers
+        (PositionsHeld rules count (r .columns))
+        (r .end)
+        (positions-in (now (bytes .entry)) rules count at) ⌝ }
 {
     let mut columns = no_positions();
     let mut next = at;
@@ -279,7 +282,12 @@ fn read_positions(bytes: &[u8], at: usize, rules: u64, count: u64) -> PositionsR
 // A production. Its rule is `least` or above and does not skip.
 fn read_production(bytes: &[u8], at: usize, bounds: Bounds, least: u64) -> ProductionRead
     requires { ⌜ InBounds bounds ⌝ }
-    ensures { λ r. ⌜ ProductionAnswers (now (bytes .entry)) (bounds .nonterminals) least r (read-production (now (bytes .entry)) (held-flags (bounds .skips) (bounds .rules)) (bounds .nonterminals) least at) ⌝ }
+    ensures { λ r. ⌜ ProductionAnswers
+        (now (bytes .entry))
+        (bounds .nonterminals)
+        least
+        r
+        (production-in (now (bytes .entry)) bounds least at) ⌝ }
 {
     let rule = read_between(bytes, at, least, bounds.rules - 1);
     let Field::Value(rule_number, at_length) = rule else {
@@ -313,7 +321,7 @@ fn read_productions(
     table: &mut [usize; 2048],
 ) -> Field
     requires { ⌜ InBounds bounds × (base + 32 ≤ 2048) × Room (now table) base ⌝ }
-    ensures { λ r. ⌜ Answers (λ v ps. EntriesOf (now (bytes .entry)) (bounds .nonterminals) (now (table .exit)) base ps) r (read-many (read-production (now (bytes .entry)) (held-flags (bounds .skips) (bounds .rules)) (bounds .nonterminals)) (λ least p. suc (p .head)) 0 count at) × SameBelow base (now (table .entry)) (now (table .exit)) × Room (now (table .exit)) (base + 32) ⌝ }
+    ensures { λ r. ⌜ ProductionsEntered (now (bytes .entry)) bounds count at base (now (table .entry)) (now (table .exit)) r ⌝ }
 {
     let mut next = at;
     let mut least: u64 = 0;
@@ -346,7 +354,7 @@ fn read_row(
     table: &mut [usize; 2048],
 ) -> Field
     requires { ⌜ InBounds bounds × (base + 32 ≤ 2048) × Room (now table) base ⌝ }
-    ensures { λ r. ⌜ Answers (λ v row. RowHeld (now (bytes .entry)) (bounds .nonterminals) (now (table .exit)) base v row) r (read-row (now (bytes .entry)) (held-flags (bounds .skips) (bounds .rules)) (bounds .nonterminals) at) × SameBelow base (now (table .entry)) (now (table .exit)) × Room (now (table .exit)) (base + 32) ⌝ }
+    ensures { λ r. ⌜ RowEntered (now (bytes .entry)) bounds at base (now (table .entry)) (now (table .exit)) r ⌝ }
 {
     let empty = read_between(bytes, at, 0, 1);
     let Field::Value(flag, at_count) = empty else {
@@ -366,7 +374,10 @@ fn read_row(
 // The rows of all nonterminals: the set of those with ε is the value.
 fn read_rows(bytes: &[u8], at: usize, bounds: Bounds, table: &mut [usize; 2048]) -> Field
     requires { ⌜ InBounds bounds × Room (now table) 0 ⌝ }
-    ensures { λ r. ⌜ Answers (λ s rows. RowsHeld (now (bytes .entry)) (bounds .nonterminals) (now (table .exit)) s rows) r (read-list (read-row (now (bytes .entry)) (held-flags (bounds .skips) (bounds .rules)) (bounds .nonterminals)) (bounds .nonterminals) at) ⌝ }
+    ensures { λ r. ⌜ Answers
+        (RowsHeld (now (bytes .entry)) (bounds .nonterminals) (now (table .exit)))
+        r
+        (read-list (row-in (now (bytes .entry)) bounds) (bounds .nonterminals) at) ⌝ }
 {
     let count = bounds.nonterminals;
     let mut empty: u64 = 0;
@@ -418,8 +429,11 @@ fn read_grammar(
     skips: u64,
     positions: PositionColumns,
 ) -> ImageRead
-    requires { ⌜ (1 ≤ rules) × (rules ≤ 32) × (positions .count ≤ 64) × FlagsOf (λ b. b) false skips (held-flags skips rules) ⌝ }
-    ensures { λ r. ⌜ ImageAnswers (now (bytes .entry)) (r .outcome) (r .tables) (read-grammar (now (bytes .entry)) (held-flags skips rules) (held-positions positions) (positions .first) at) ⌝ }
+    requires { ⌜ LexerRead rules skips positions ⌝ }
+    ensures { λ r. ⌜ ImageAnswers
+        (now (bytes .entry))
+        r
+        (read-grammar (now (bytes .entry)) (held-flags skips rules) (held-positions positions) (positions .first) at) ⌝ }
 {
     let count = read_between(bytes, at, 1, 64);
     let Field::Value(nonterminals, at_rows) = count else {
@@ -453,8 +467,8 @@ fn read_grammar(
 
 // The image from its position count on.
 fn read_lexer(bytes: &[u8], at: usize, rules: u64, skips: u64) -> ImageRead
-    requires { ⌜ (1 ≤ rules) × (rules ≤ 32) × FlagsOf (λ b. b) false skips (held-flags skips rules) ⌝ }
-    ensures { λ r. ⌜ ImageAnswers (now (bytes .entry)) (r .outcome) (r .tables) (read-lexer (now (bytes .entry)) rules (held-flags skips rules) at) ⌝ }
+    requires { ⌜ RulesRead rules skips ⌝ }
+    ensures { λ r. ⌜ ImageAnswers (now (bytes .entry)) r (read-lexer (now (bytes .entry)) rules (held-flags skips rules) at) ⌝ }
 {
     let size = read_between(bytes, at, 1, 64);
     let Field::Value(count, at_positions) = size else {
@@ -476,7 +490,7 @@ fn read_lexer(bytes: &[u8], at: usize, rules: u64, skips: u64) -> ImageRead
 
 // Reads an image: question 13, and the tables for the machine.
 pub fn read_image(bytes: &[u8]) -> ImageRead
-    ensures { λ r. ⌜ ImageAnswers (now (bytes .entry)) (r .outcome) (r .tables) (read-image (now (bytes .entry))) ⌝ }
+    ensures { λ r. ⌜ ImageAnswers (now (bytes .entry)) r (read-image (now (bytes .entry))) ⌝ }
 {
     let version = read_between(bytes, 0, 1, 1);
     let Field::Value(_, at_rules) = version else {

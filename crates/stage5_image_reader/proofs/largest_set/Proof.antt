@@ -1,29 +1,24 @@
+-- `largest_set` meets its contract.
 use borrow.Author.Needs.{needs}
 use native.Mathlib.Omega.{arith}
-use mathlib.Core.Path.{_≡_, sym, ap}
+use mathlib.Core.Path.{sym, ap}
 use Prim.Native.Nat.{ℕ, _-_, _^_, _<_}
 use lib.Pow.{pow-pos}
 use Rattle.stage0_laws.specs.BitLaws.{shl-one}
 use Rattle.stage5_image_reader.proofs.largest_set.Statement.{statement}
 use Rattle.stage5_image_reader.proofs.largest_set.Tie as tie
-use Rattle.stage5_image_reader.proofs.largest_set.Reads as reads
-use Rattle.stage5_image_reader.proofs.largest_set.Lts as lts
 
--- src/lib.rt:77:9
 returns : tie.Need-returns
 returns c = sym (ap (λ (n : ℕ). 2 ^ n - 1) (c .if1 .taken))
 
--- src/lib.rt:79:6
 shl-result : tie.Need-shl-result
 shl-result c = search needs
 
--- src/lib.rt:79:5
 sub-result : tie.Need-sub-result
 sub-result c =
     let h : c .before .args .count < 64 = omega (arith, c .before .pre, c .if1 .left) in
     rw (shl-one (c .before .args .count) h) (omega (arith, pow-pos (c .before .args .count)))
 
--- src/lib.rt:72:1
 returns-2 : tie.Need-returns-2
 returns-2 c =
     let h : c .before .args .count < 64 = omega (arith, c .before .pre, c .if1 .left) in

@@ -1,49 +1,39 @@
+-- `read_between` meets its contract.
 use borrow.Author.Needs.{needs}
 use native.Mathlib.Omega.{arith}
-use mathlib.Core.Path.{_≡_, sym, _∙_}
+use mathlib.Core.Path.{sym, _∙_}
 use Rattle.stage0_number.specs.Laws.{decode-within}
 use Rattle.stage5_image_reader.proofs.Fields.{field-missing, field-allowed, field-forbidden, between-in, between-low, between-high}
 use Rattle.stage5_image_reader.proofs.read_between.Statement.{statement}
 use Rattle.stage5_image_reader.proofs.read_between.Tie as tie
-use Rattle.stage5_image_reader.proofs.read_between.Reads as reads
-use Rattle.stage5_image_reader.proofs.read_between.Lts as lts
-use Rattle.stage0_number.proofs.read_number.Reads as read-number-reads
 
--- src/lib.rt:47:9
 read-number-requires : tie.Need-read-number-requires
 read-number-requires c κs = search needs
 
--- src/lib.rt:48:37
 enum-known-number : tie.Need-enum-known-number
 enum-known-number c = search needs
 
--- src/lib.rt:49:9
 enum-told : tie.Need-enum-told
 enum-told c = search needs
 
--- src/lib.rt:49:9
 returns : tie.Need-returns
 returns c = sym (field-missing _ _ _ (sym (c .before .before .read-number .ensures) ∙ c .enum-told .given .1))
 
--- src/lib.rt:52:9
 returns-2 : tie.Need-returns-2
 returns-2 c =
     let e = sym (c .before .before .before .before .read-number .ensures) ∙ c .before .before .number .given .1 in
     sym (field-forbidden _ _ _ e (between-low _ _ _ (c .if1 .taken)))
 
--- src/lib.rt:55:9
 returns-3 : tie.Need-returns-3
 returns-3 c =
     let e = sym (c .before .before .before .before .before .read-number .ensures) ∙ c .before .before .before .number .given .1 in
     sym (field-forbidden _ _ _ e (between-high _ _ _ (c .if2 .taken)))
 
--- src/lib.rt:57:25
 add-t9 : tie.Need-add-t9
 add-t9 c =
     let e = sym (c .before .before .before .before .before .read-number .ensures) ∙ c .before .before .before .number .given .1 in
     omega (arith, decode-within _ _ e .inside)
 
--- src/lib.rt:44:1
 returns-4 : tie.Need-returns-4
 returns-4 c =
     let e = sym (c .before .before .before .before .before .read-number .ensures) ∙ c .before .before .before .number .given .1 in

@@ -1,129 +1,141 @@
 -- `read_lexer` meets its contract: one law of `Whole` for each answer.
 use borrow.Author.Needs.{needs}
 use native.Mathlib.Omega.{arith}
-use mathlib.Core.Path.{_≡_, refl, sym, ap, subst, _∙_}
-use denote.Ref.{now}
+use mathlib.Core.Path.{subst}
+use mathlib.Core.List.{List}
+use Prim.Native.Nat.{_<_}
+use Rattle.stage0_laws.specs.Lists.{All}
+use Rattle.stage4_lexer.specs.Positions.{Position}
 use Rattle.stage4_lexer_columns.specs.Held.{held-positions}
-use Rattle.stage5_image_reader.specs.Tables.{held-flags, PositionsHeld}
-use Rattle.stage5_image_reader.proofs.Fields.{value-reads, refusal-reads, value-answers, refusal-answers, field-range}
-use Rattle.stage5_image_reader.proofs.Whole.{refused-answers, answers-same, count-stops, positions-stop, first-stops, lexer-reads}
+use Rattle.stage5_image_reader.specs.Tables.{held-flags}
+use Rattle.stage5_image_reader.proofs.Fields.{value-reads, refusal-reads, refusal-answers, field-range}
+use Rattle.stage5_image_reader.proofs.Whole.{image-refused, image-same, count-stops, positions-stop, first-stops, lexer-reads}
 use Rattle.stage5_image_reader.proofs.read_lexer.Statement.{statement}
 use Rattle.stage5_image_reader.proofs.read_lexer.Tie as tie
-use Rattle.stage5_image_reader.proofs.read_lexer.Reads as reads
-use Rattle.stage5_image_reader.proofs.read_lexer.Lts as lts
-use Rattle.stage5_image_reader.proofs.largest_set.Reads as largest-set-reads
-use Rattle.stage5_image_reader.proofs.place_of.Reads as place-of-reads
-use Rattle.stage5_image_reader.proofs.read_between.Reads as read-between-reads
-use Rattle.stage5_image_reader.proofs.read_grammar.Reads as read-grammar-reads
-use Rattle.stage5_image_reader.proofs.read_positions.Reads as read-positions-reads
-use Rattle.stage5_image_reader.proofs.refused.Reads as refused-reads
 
--- src/lib.rt:458:9
 read-between-requires : tie.Need-read-between-requires
 read-between-requires c κs = search needs
 
--- src/lib.rt:459:22
 enum-known-size : tie.Need-enum-known-size
 enum-known-size c = search needs
 
--- src/lib.rt:460:24
 enum-told : tie.Need-enum-told
 enum-told c = search needs
 
--- src/lib.rt:460:24
 place-of-requires : tie.Need-place-of-requires
 place-of-requires c κs = search needs
 
--- src/lib.rt:460:9
 refused-requires : tie.Need-refused-requires
 refused-requires c κs = search needs
 
--- src/lib.rt:460:9
 returns : tie.Need-returns
 returns c =
-    refused-answers _ _ _ (c .refused .ensures)
-    (count-stops _ _ _ _ (refusal-reads (c .before .before .enum-told .given .1) (c .before .place-of .ensures) (c .before .before .before .before .read-between .ensures)))
+    let placed = c .before in
+    let size-known = placed .before in
+    let size-read = size-known .before .before in
+    let stops = refusal-reads (size-known .enum-told .given .1) (placed .place-of .ensures) (size-read .read-between .ensures) in
+    image-refused (c .refused .ensures) (count-stops _ _ _ _ stops)
 
--- src/lib.rt:462:9
 read-positions-requires : tie.Need-read-positions-requires
 read-positions-requires c κs =
-    let e = value-reads (c .before .size .given .1) (c .before .before .before .read-between .ensures) in
-    (c .before .before .before .before .before .pre .0, c .before .before .before .before .before .pre .1, field-range 1 64 _ _ e .1)
+    let size-known = c .before in
+    let size-read = size-known .before .before in
+    let start = size-read .before .before in
+    let e = value-reads (size-known .size .given .1) (size-read .read-between .ensures) in
+    (start .pre .some, start .pre .most, field-range 1 64 _ _ e .1)
 
--- src/lib.rt:464:25
 enum-known-end : tie.Need-enum-known-end
 enum-known-end c = search needs
 
--- src/lib.rt:465:24
 enum-told-2 : tie.Need-enum-told-2
 enum-told-2 c = search needs
 
--- src/lib.rt:465:24
 place-of-requires-2 : tie.Need-place-of-requires-2
 place-of-requires-2 c κs = search needs
 
--- src/lib.rt:465:9
 refused-requires-2 : tie.Need-refused-requires-2
 refused-requires-2 c κs = search needs
 
--- src/lib.rt:465:9
 returns-2 : tie.Need-returns-2
 returns-2 c =
-    let e = value-reads (c .before .before .before .before .before .before .size .given .1) (c .before .before .before .before .before .before .before .before .read-between .ensures) in
-    refused-answers _ _ _ (c .refused2 .ensures)
-    (positions-stop _ _ _ _ e (refusal-answers (λ v ps. PositionsHeld (c .before .before .before .before .before .before .size .given .0 .0) (c .before .before .before .before .read-positions .result .columns) ps) (c .before .before .enum-told2 .given .1) (c .before .place-of2 .ensures) (c .before .before .before .before .read-positions .ensures)))
+    let placed = c .before in
+    let known = placed .before in
+    let read = known .before .before in
+    let size-known = read .before .before in
+    let size-read = size-known .before .before in
+    let e = value-reads (size-known .size .given .1) (size-read .read-between .ensures) in
+    let stops = refusal-answers (read .read-positions .ensures) (known .enum-told2 .given .1) (placed .place-of2 .ensures) in
+    image-refused (c .refused2 .ensures) (positions-stop _ _ _ _ e stops)
 
--- src/lib.rt:467:50
 largest-set-requires : tie.Need-largest-set-requires
 largest-set-requires c κs =
-    let e = value-reads (c .before .before .before .before .before .size .given .1) (c .before .before .before .before .before .before .before .read-between .ensures) in
+    let size-known = c .before .before .before .before .before in
+    let size-read = size-known .before .before in
+    let e = value-reads (size-known .size .given .1) (size-read .read-between .ensures) in
     field-range 1 64 _ _ e .1
 
--- src/lib.rt:467:9
 read-between-requires-2 : tie.Need-read-between-requires-2
 read-between-requires-2 c κs = search needs
 
--- src/lib.rt:468:22
 enum-known-first : tie.Need-enum-known-first
 enum-known-first c = search needs
 
--- src/lib.rt:469:24
 enum-told-3 : tie.Need-enum-told-3
 enum-told-3 c = search needs
 
--- src/lib.rt:469:24
 place-of-requires-3 : tie.Need-place-of-requires-3
 place-of-requires-3 c κs = search needs
 
--- src/lib.rt:469:9
 refused-requires-3 : tie.Need-refused-requires-3
 refused-requires-3 c κs = search needs
 
--- src/lib.rt:469:9
 returns-3 : tie.Need-returns-3
 returns-3 c =
-    let e = value-reads (c .before .before .before .before .before .before .before .before .before .before .before .size .given .1) (c .before .before .before .before .before .before .before .before .before .before .before .before .before .read-between .ensures) in
-    let t = value-answers (λ v ps. PositionsHeld (c .before .before .before .before .before .before .before .before .before .before .before .size .given .0 .0) (c .before .before .before .before .before .before .before .before .before .read-positions .result .columns) ps) (c .before .before .before .before .before .before .before .end .given .1) (c .before .before .before .before .before .before .before .before .before .read-positions .ensures) in
-    refused-answers _ _ _ (c .refused3 .ensures)
-    (first-stops _ _ _ _ e (t .1) (c .before .before .before .before .before .largest-set .ensures) (refusal-reads (c .before .before .enum-told3 .given .1) (c .before .place-of3 .ensures) (c .before .before .before .before .read-between2 .ensures)))
+    let placed = c .before in
+    let first-known = placed .before in
+    let first-read = first-known .before .before in
+    let largest = first-read .before in
+    let known = largest .before .before in
+    let read = known .before .before in
+    let size-known = read .before .before in
+    let size-read = size-known .before .before in
+    let e = value-reads (size-known .size .given .1) (size-read .read-between .ensures) in
+    let t = read .read-positions .ensures .value (known .end .given .1) in
+    let stops = refusal-reads (first-known .enum-told3 .given .1) (placed .place-of3 .ensures) (first-read .read-between2 .ensures) in
+    image-refused (c .refused3 .ensures) (first-stops _ _ _ _ e (t .1) (largest .largest-set .ensures) stops)
 
--- src/lib.rt:473:5
 read-grammar-requires : tie.Need-read-grammar-requires
+unfolding held-positions
 read-grammar-requires c κs =
-    let e = value-reads (c .before .before .before .before .before .before .before .before .before .before .before .size .given .1) (c .before .before .before .before .before .before .before .before .before .before .before .before .before .read-between .ensures) in
-    let t = value-answers (λ v ps. PositionsHeld (c .before .before .before .before .before .before .before .before .before .before .before .size .given .0 .0) (c .before .before .before .before .before .before .before .before .before .read-positions .result .columns) ps) (c .before .before .before .before .before .before .before .end .given .1) (c .before .before .before .before .before .before .before .before .before .read-positions .ensures) in
-    (c .before .before .before .before .before .before .before .before .before .before .before .before .before .before .before .pre .0, c .before .before .before .before .before .before .before .before .before .before .before .before .before .before .before .pre .1, omega (arith, t .2 .size, field-range 1 64 _ _ e .1), c .before .before .before .before .before .before .before .before .before .before .before .before .before .before .before .pre .2)
+    let known = c .before .before .before .before .before .before .before in
+    let read = known .before .before in
+    let size-known = read .before .before in
+    let size-read = size-known .before .before in
+    let start = size-read .before .before in
+    let e = value-reads (size-known .size .given .1) (size-read .read-between .ensures) in
+    let t = read .read-positions .ensures .value (known .end .given .1) in
+    record {
+      rules-read = start .pre;
+      most = omega (arith, t .2 .size, field-range 1 64 _ _ e .1);
+      below = subst (λ (ps : List Position). All (λ p. p .rule < start .args .rules) ps) (t .2 .list) (t .2 .below);
+    }
 
--- src/lib.rt:454:1
 returns-4 : tie.Need-returns-4
 unfolding held-positions
 returns-4 c =
-    let e = value-reads (c .before .before .before .before .before .before .before .before .before .before .before .before .size .given .1) (c .before .before .before .before .before .before .before .before .before .before .before .before .before .before .read-between .ensures) in
-    let t = value-answers (λ v ps. PositionsHeld (c .before .before .before .before .before .before .before .before .before .before .before .before .size .given .0 .0) (c .before .before .before .before .before .before .before .before .before .before .read-positions .result .columns) ps) (c .before .before .before .before .before .before .before .before .end .given .1) (c .before .before .before .before .before .before .before .before .before .before .read-positions .ensures) in
-    let z = c .before .before .before .before .before .before .before .before .before .before .before .before .before .before .before .before in
-    answers-same (now (z .args .bytes)) (c .read-grammar .result .outcome) (c .read-grammar .result .tables) _
-    (lexer-reads _ _ (held-flags (z .args .skips) (z .args .rules)) _ e (t .1) (c .before .before .before .before .before .before .largest-set .ensures) (t .2 .list) (value-reads (c .before .before .before .first .given .1) (c .before .before .before .before .before .read-between2 .ensures)))
-    (c .read-grammar .ensures)
+    let first-known = c .before .before .before in
+    let first-read = first-known .before .before in
+    let largest = first-read .before in
+    let known = largest .before .before in
+    let read = known .before .before in
+    let size-known = read .before .before in
+    let size-read = size-known .before .before in
+    let start = size-read .before .before in
+    let e = value-reads (size-known .size .given .1) (size-read .read-between .ensures) in
+    let t = read .read-positions .ensures .value (known .end .given .1) in
+    let e₂ = value-reads (first-known .first .given .1) (first-read .read-between2 .ensures) in
+    let flags = held-flags (start .args .skips) (start .args .rules) in
+    image-same (lexer-reads _ _ flags _ e (t .1) (largest .largest-set .ensures) (t .2 .list) e₂) (c .read-grammar .ensures)
 
 pub read-lexer-spec : {M : Type 1} → statement M
 read-lexer-spec =

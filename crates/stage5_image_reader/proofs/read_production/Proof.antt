@@ -1,127 +1,138 @@
 -- `read_production` meets its contract: one law of `Productions` for each answer.
 use borrow.Author.Needs.{needs}
 use native.Mathlib.Omega.{arith}
-use mathlib.Core.Path.{_≡_, refl, sym, ap, subst, _∙_}
-use Prim.Native.Nat.{ℕ, _<_, _≤_}
-use lib.ListN.{length}
-use denote.Ref.{now}
-use Rattle.stage5_image_reader.specs.Tables.{Members, held-flags}
-use Rattle.stage5_image_reader.proofs.Fields.{value-reads, refusal-reads, value-answers, refusal-answers, field-range, field-inside}
-use Rattle.stage5_image_reader.proofs.Productions.{rule-refused, rule-skips, rule-passes, skip-set, skip-clear}
+use mathlib.Core.Path.{refl}
+use Prim.Native.Nat.{_<_}
+use Rattle.stage5_image_reader.proofs.Fields.{value-reads, refusal-reads, refusal-answers, field-range, field-inside}
+use Rattle.stage5_image_reader.proofs.Productions.{production-value, production-refusal, rule-refused, rule-skips, rule-passes, skip-set, skip-clear}
 use Rattle.stage5_image_reader.proofs.Productions.{rule-stops, size-stops, tail-stops, production-reads, tail-at}
 use Rattle.stage5_image_reader.proofs.read_production.Statement.{statement}
 use Rattle.stage5_image_reader.proofs.read_production.Tie as tie
-use Rattle.stage5_image_reader.proofs.read_production.Reads as reads
-use Rattle.stage5_image_reader.proofs.read_production.Lts as lts
-use Rattle.stage5_image_reader.proofs.place_of.Reads as place-of-reads
-use Rattle.stage5_image_reader.proofs.read_between.Reads as read-between-reads
-use Rattle.stage5_image_reader.proofs.read_tail.Reads as read-tail-reads
 
--- src/lib.rt:286:47
 sub-read-between : tie.Need-sub-read-between
-sub-read-between c = c .before .before .pre .rules
+sub-read-between c =
+    let start = c .before .before in
+    start .pre .rules
 
--- src/lib.rt:286:9
 read-between-requires : tie.Need-read-between-requires
 read-between-requires c κs = search needs
 
--- src/lib.rt:287:22
 enum-known-rule : tie.Need-enum-known-rule
 enum-known-rule c = search needs
 
--- src/lib.rt:288:40
 enum-told : tie.Need-enum-told
 enum-told c = search needs
 
--- src/lib.rt:288:40
 place-of-requires : tie.Need-place-of-requires
 place-of-requires c κs = search needs
 
--- src/lib.rt:288:9
 returns : tie.Need-returns
-returns c = rule-stops _ _ _ _ _ (rule-refused _ _ _ (c .before .before .before .before .before .before .pre .rules) _ _ (refusal-reads (c .before .enum-told .given .1) (c .place-of .ensures) (c .before .before .before .read-between .ensures)))
+returns c =
+    let rule-known = c .before in
+    let rule-read = rule-known .before .before in
+    let start = rule-read .before .before .before in
+    let stops = refusal-reads (rule-known .enum-told .given .1) (c .place-of .ensures) (rule-read .read-between .ensures) in
+    production-refusal (rule-stops _ _ _ _ _ (rule-refused _ _ _ (start .pre .rules) _ _ stops))
 
--- src/lib.rt:290:24
 shl-if1 : tie.Need-shl-if1
 shl-if1 c =
-    let e = value-reads (c .before .rule .given .1) (c .before .before .before .read-between .ensures) in
-    omega (arith, field-range _ _ _ _ e, c .before .before .before .before .before .before .pre .most-rules)
+    let rule-known = c .before in
+    let rule-read = rule-known .before .before in
+    let start = rule-read .before .before .before in
+    let e = value-reads (rule-known .rule .given .1) (rule-read .read-between .ensures) in
+    omega (arith, field-range _ _ _ _ e, start .pre .most-rules)
 
--- src/lib.rt:291:9
 returns-2 : tie.Need-returns-2
 returns-2 c =
-    let e = value-reads (c .before .before .before .rule .given .1) (c .before .before .before .before .before .read-between .ensures) in
-    let r : c .before .before .before .rule .given .0 .0 < 64 = omega (arith, field-range _ _ _ _ e, c .before .before .before .before .before .before .before .before .pre .most-rules) in
-    rule-stops _ _ _ _ _ (rule-skips _ _ _ (c .before .before .before .before .before .before .before .before .pre .rules) _ _ e (skip-set _ _ r (c .if1 .taken)))
+    let rule-known = c .before .before .before in
+    let rule-read = rule-known .before .before in
+    let start = rule-read .before .before .before in
+    let e = value-reads (rule-known .rule .given .1) (rule-read .read-between .ensures) in
+    let small : rule-known .rule .given .0 .0 < 64 = omega (arith, field-range _ _ _ _ e, start .pre .most-rules) in
+    production-refusal (rule-stops _ _ _ _ _ (rule-skips _ _ _ (start .pre .rules) _ _ e (skip-set _ _ small (c .if1 .taken))))
 
--- src/lib.rt:293:9
 read-between-requires-2 : tie.Need-read-between-requires-2
 read-between-requires-2 c κs = search needs
 
--- src/lib.rt:294:22
 enum-known-size : tie.Need-enum-known-size
 enum-known-size c = search needs
 
--- src/lib.rt:295:40
 enum-told-2 : tie.Need-enum-told-2
 enum-told-2 c = search needs
 
--- src/lib.rt:295:40
 place-of-requires-2 : tie.Need-place-of-requires-2
 place-of-requires-2 c κs = search needs
 
--- src/lib.rt:295:9
 returns-3 : tie.Need-returns-3
 returns-3 c =
-    let e = value-reads (c .before .before .before .before .before .before .before .rule .given .1) (c .before .before .before .before .before .before .before .before .before .read-between .ensures) in
-    let r : c .before .before .before .before .before .before .before .rule .given .0 .0 < 64 = omega (arith, field-range _ _ _ _ e, c .before .before .before .before .before .before .before .before .before .before .before .before .pre .most-rules) in
-    let p = rule-passes _ _ _ (c .before .before .before .before .before .before .before .before .before .before .before .before .pre .rules) _ _ e (skip-clear _ _ r (c .before .before .before .before .if1 .left)) in
-    size-stops _ _ _ _ _ p (refusal-reads (c .before .enum-told2 .given .1) (c .place-of2 .ensures) (c .before .before .before .read-between2 .ensures))
+    let size-known = c .before in
+    let size-read = size-known .before .before in
+    let tested = size-read .before in
+    let rule-known = tested .before .before .before in
+    let rule-read = rule-known .before .before in
+    let start = rule-read .before .before .before in
+    let e = value-reads (rule-known .rule .given .1) (rule-read .read-between .ensures) in
+    let small : rule-known .rule .given .0 .0 < 64 = omega (arith, field-range _ _ _ _ e, start .pre .most-rules) in
+    let p = rule-passes _ _ _ (start .pre .rules) _ _ e (skip-clear _ _ small (tested .if1 .left)) in
+    let stops = refusal-reads (size-known .enum-told2 .given .1) (c .place-of2 .ensures) (size-read .read-between2 .ensures) in
+    production-refusal (size-stops _ _ _ _ _ p stops)
 
--- src/lib.rt:297:9
 read-tail-requires : tie.Need-read-tail-requires
 read-tail-requires c κs =
-    let e₂ = value-reads (c .before .size .given .1) (c .before .before .before .read-between2 .ensures) in
-    (c .before .before .before .before .before .before .before .before .before .before .before .before .pre .nonterminals, c .before .before .before .before .before .before .before .before .before .before .before .before .pre .most-nonterminals, field-inside _ _ _ e₂)
+    let size-known = c .before in
+    let size-read = size-known .before .before in
+    let start = size-read .before .before .before .before .before .before .before .before .before in
+    let e₂ = value-reads (size-known .size .given .1) (size-read .read-between2 .ensures) in
+    (start .pre .nonterminals, start .pre .most-nonterminals, field-inside _ _ _ e₂)
 
--- src/lib.rt:298:25
 enum-known-tail : tie.Need-enum-known-tail
 enum-known-tail c = search needs
 
--- src/lib.rt:299:40
 enum-told-3 : tie.Need-enum-told-3
 enum-told-3 c = search needs
 
--- src/lib.rt:299:40
 place-of-requires-3 : tie.Need-place-of-requires-3
 place-of-requires-3 c κs = search needs
 
--- src/lib.rt:299:9
 returns-4 : tie.Need-returns-4
 returns-4 c =
-    let e = value-reads (c .before .before .before .before .before .before .before .before .before .before .before .rule .given .1) (c .before .before .before .before .before .before .before .before .before .before .before .before .before .read-between .ensures) in
-    let r : c .before .before .before .before .before .before .before .before .before .before .before .rule .given .0 .0 < 64 = omega (arith, field-range _ _ _ _ e, c .before .before .before .before .before .before .before .before .before .before .before .before .before .before .before .before .pre .most-rules) in
-    let p = rule-passes _ _ _ (c .before .before .before .before .before .before .before .before .before .before .before .before .before .before .before .before .pre .rules) _ _ e (skip-clear _ _ r (c .before .before .before .before .before .before .before .before .if1 .left)) in
-    let e₂ = value-reads (c .before .before .before .before .before .size .given .1) (c .before .before .before .before .before .before .before .read-between2 .ensures) in
-    tail-stops _ _ _ _ _ p e₂ (refusal-answers (λ v l. (length l ≡ c .before .before .before .before .before .size .given .0 .0) × Members (now (c .before .before .before .before .before .before .before .before .before .before .before .before .before .before .before .before .args .bytes)) (c .before .before .before .before .before .size .given .0 .1 .0) (c .before .before .before .before .before .before .before .before .before .before .before .before .before .before .before .before .args .bounds .nonterminals) l) (c .before .enum-told3 .given .1) (c .place-of3 .ensures) (c .before .before .before .read-tail .ensures))
+    let tail-known = c .before in
+    let tail-read = tail-known .before .before in
+    let size-known = tail-read .before .before in
+    let size-read = size-known .before .before in
+    let tested = size-read .before in
+    let rule-known = tested .before .before .before in
+    let rule-read = rule-known .before .before in
+    let start = rule-read .before .before .before in
+    let e = value-reads (rule-known .rule .given .1) (rule-read .read-between .ensures) in
+    let small : rule-known .rule .given .0 .0 < 64 = omega (arith, field-range _ _ _ _ e, start .pre .most-rules) in
+    let p = rule-passes _ _ _ (start .pre .rules) _ _ e (skip-clear _ _ small (tested .if1 .left)) in
+    let e₂ = value-reads (size-known .size .given .1) (size-read .read-between2 .ensures) in
+    let stops = refusal-answers (tail-read .read-tail .ensures) (tail-known .enum-told3 .given .1) (c .place-of3 .ensures) in
+    production-refusal (tail-stops _ _ _ _ _ p e₂ stops)
 
--- src/lib.rt:282:1
 returns-5 : tie.Need-returns-5
 returns-5 c =
-    let e = value-reads (c .before .before .before .before .before .before .before .before .before .before .before .rule .given .1) (c .before .before .before .before .before .before .before .before .before .before .before .before .before .read-between .ensures) in
-    let r : c .before .before .before .before .before .before .before .before .before .before .before .rule .given .0 .0 < 64 = omega (arith, field-range _ _ _ _ e, c .before .before .before .before .before .before .before .before .before .before .before .before .before .before .before .before .pre .most-rules) in
-    let p = rule-passes _ _ _ (c .before .before .before .before .before .before .before .before .before .before .before .before .before .before .before .before .pre .rules) _ _ e (skip-clear _ _ r (c .before .before .before .before .before .before .before .before .if1 .left)) in
-    let e₂ = value-reads (c .before .before .before .before .before .size .given .1) (c .before .before .before .before .before .before .before .read-between2 .ensures) in
-    let t = value-answers (λ v l. (length l ≡ c .before .before .before .before .before .size .given .0 .0) × Members (now (c .before .before .before .before .before .before .before .before .before .before .before .before .before .before .before .before .args .bytes)) (c .before .before .before .before .before .size .given .0 .1 .0) (c .before .before .before .before .before .before .before .before .before .before .before .before .before .before .before .before .args .bounds .nonterminals) l) (c .before .tail .given .1) (c .before .before .before .read-tail .ensures) in (
-      _,
-      production-reads _ _ _ _ _ p e₂ (t .1),
-      record {
-        head = refl;
-        at-least = field-range _ _ _ _ e .0;
-        below = omega (arith, field-range _ _ _ _ e .1, c .before .before .before .before .before .before .before .before .before .before .before .before .before .before .before .before .pre .rules, c .before .before .before .before .before .before .before .before .before .before .before .before .before .before .before .before .pre .most-rules);
-        tail = tail-at _ _ _ _ _ _ (λ i. omega (arith, c .before .before .before .before .before .before .before .before .before .before .before .before .before .before .before .shared-slice-known .given i)) e₂ (t .2 .0) (t .2 .1);
-      },
-    )
+    let tail-known = c .before in
+    let tail-read = tail-known .before .before in
+    let size-known = tail-read .before .before in
+    let size-read = size-known .before .before in
+    let tested = size-read .before in
+    let rule-known = tested .before .before .before in
+    let rule-read = rule-known .before .before in
+    let entry = rule-read .before .before in
+    let start = entry .before in
+    let e = value-reads (rule-known .rule .given .1) (rule-read .read-between .ensures) in
+    let small : rule-known .rule .given .0 .0 < 64 = omega (arith, field-range _ _ _ _ e, start .pre .most-rules) in
+    let p = rule-passes _ _ _ (start .pre .rules) _ _ e (skip-clear _ _ small (tested .if1 .left)) in
+    let e₂ = value-reads (size-known .size .given .1) (size-read .read-between2 .ensures) in
+    let t = tail-read .read-tail .ensures .value (tail-known .tail .given .1) in
+    production-value _ (production-reads _ _ _ _ _ p e₂ (t .1)) (record {
+      head = refl;
+      at-least = field-range _ _ _ _ e .0;
+      below = omega (arith, field-range _ _ _ _ e .1, start .pre .rules, start .pre .most-rules);
+      tail = tail-at _ _ _ _ _ _ (λ i. omega (arith, entry .shared-slice-known .given i)) e₂ (t .2 .count) (t .2 .members);
+    })
 
 pub read-production-spec : {M : Type 1} → statement M
 read-production-spec =
