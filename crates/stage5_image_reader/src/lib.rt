@@ -10,8 +10,10 @@ ghost use Rattle.stage5_image.specs.ImageReading.{image-field, read-flag, read-
 ghost use Rattle.stage5_image_reader.specs.Tables.{held-flags, FlagsHeld, PositionsHeld, MembersHeld, RowsHeld, Room};
 ghost use Rattle.stage5_image_reader.specs.Answers.{field-reading, place-of, Answers, with-flag};
 ghost use Rattle.stage5_image_reader.specs.Answers.{position-reading, positions-in, no-positions, with-position};
-ghost use Rattle.stage5_image_reader.specs.Answers.{InBounds, production-in, row-in, ProductionAnswers, ProductionsEntered, RowEntered};
-ghost use Rattle.stage5_image_reader.specs.Decoded.{ImageAnswers, no-tables, refused-image, RulesRead, LexerRead, read-grammar, read-lexer};
+ghost use Rattle.stage5_image_reader.specs.Answers.{InBounds, production-in, row-in, ProductionAnswers};
+ghost use Rattle.stage5_image_reader.specs.Answers.{ProductionsEntered, RowEntered};
+ghost use Rattle.stage5_image_reader.specs.Decoded.{ImageAnswers, no-tables, refused-image, RulesRead};
+ghost use Rattle.stage5_image_reader.specs.Decoded.{LexerRead, read-grammar, read-lexer};
 use stage4_lexer_columns::PositionColumns;
 
 // What a field gives: a value and the place after it, or the place of question 13.
