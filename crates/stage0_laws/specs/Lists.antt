@@ -1,4 +1,5 @@
--- Lists: what holds of every member, and the first answer of two. The laws of lists themselves are the library's.
+-- Lists: what holds of every member, and sums over the members; the first answer of two; and a step that is taken until nothing
+-- changes. The laws of lists themselves are the library's.
 use mathlib.Core.Bool.{Bool, true, false, _&&_}
 use mathlib.Core.List.{List, [], _∷_}
 use mathlib.Core.Option.{Option, none, some}

@@ -2,13 +2,14 @@
 -- inside so many open fixed points. Bytes are not named here.
 use mathlib.Core.Path.{_≡_, refl, sym, ap, ap₂, _∙_}
 use mathlib.Core.List.{List, [], _∷_, _++_, append-assoc, append-nil, flatMap}
-use Prim.Native.Nat.{ℕ, zero, suc, _+_, _<_}
+use Prim.Native.Nat.{ℕ, suc, _<_}
 use native.Mathlib.Omega.{arith}
 use lib.ListN.{length, length-append}
 use Rattle.stage1_sheet.specs.Expression.{Expression, epsilon, bottom, token, sequence, alternative, fixed-point, variable, size}
 use Rattle.stage1_sheet.specs.Spelling.{expression-numbers}
 use Rattle.stage1_sheet.specs.WellFormed.{Closed}
-use Rattle.stage1_sheet.specs.Items.{ExpressionItem, epsilon-item, bottom-item, token-item, sequence-item, alternative-item, fixed-point-item, variable-item, part-depths, expression-before, expressions}
+use Rattle.stage1_sheet.specs.Items.{ExpressionItem, epsilon-item, bottom-item, token-item, sequence-item, alternative-item}
+use Rattle.stage1_sheet.specs.Items.{fixed-point-item, variable-item, part-depths, expression-before, expressions}
 use Rattle.stage1_sheet.specs.ListLaws.{flatMap-append}
 
 -- ---- definitions
@@ -78,10 +79,12 @@ expression-items-numbers bottom = refl
 expression-items-numbers (token k) = refl
 expression-items-numbers (sequence g h) =
     ap (λ (l : List ℕ). 3 ∷ l)
-    (flatMap-append expression-item-numbers (expression-items-of g) (expression-items-of h) ∙ ap₂ _++_ (expression-items-numbers g) (expression-items-numbers h))
+    (flatMap-append expression-item-numbers (expression-items-of g) (expression-items-of h)
+    ∙ ap₂ _++_ (expression-items-numbers g) (expression-items-numbers h))
 expression-items-numbers (alternative g h) =
     ap (λ (l : List ℕ). 4 ∷ l)
-    (flatMap-append expression-item-numbers (expression-items-of g) (expression-items-of h) ∙ ap₂ _++_ (expression-items-numbers g) (expression-items-numbers h))
+    (flatMap-append expression-item-numbers (expression-items-of g) (expression-items-of h)
+    ∙ ap₂ _++_ (expression-items-numbers g) (expression-items-numbers h))
 expression-items-numbers (fixed-point g) = ap (λ (l : List ℕ). 5 ∷ l) (expression-items-numbers g)
 expression-items-numbers (variable n) = refl
 
@@ -106,9 +109,11 @@ expressions-items epsilon is = refl
 expressions-items bottom is = refl
 expressions-items (token k) is = refl
 expressions-items (sequence g h) is =
-    rw (append-assoc (expression-items-of g) (expression-items-of h) is, expressions-items g (expression-items-of h ++ is), expressions-items h is)
+    let a = append-assoc (expression-items-of g) (expression-items-of h) is in
+    rw (a, expressions-items g (expression-items-of h ++ is), expressions-items h is)
 expressions-items (alternative g h) is =
-    rw (append-assoc (expression-items-of g) (expression-items-of h) is, expressions-items g (expression-items-of h ++ is), expressions-items h is)
+    let a = append-assoc (expression-items-of g) (expression-items-of h) is in
+    rw (a, expressions-items g (expression-items-of h ++ is), expressions-items h is)
 expressions-items (fixed-point g) is = rw (expressions-items g is)
 expressions-items (variable n) is = refl
 
@@ -120,11 +125,13 @@ makes-expression tokens epsilon opened due is c h = (tt, h)
 makes-expression tokens bottom opened due is c h = (tt, h)
 makes-expression tokens (token k) opened due is c h = (c, h)
 makes-expression tokens (sequence g k) opened due is c h =
+    let rest = makes-expression tokens k opened due is (c .1) h in
     rw (append-assoc (expression-items-of g) (expression-items-of k) is)
-    (tt, makes-expression tokens g opened (opened ∷ due) (expression-items-of k ++ is) (c .0) (makes-expression tokens k opened due is (c .1) h))
+    (tt, makes-expression tokens g opened (opened ∷ due) (expression-items-of k ++ is) (c .0) rest)
 makes-expression tokens (alternative g k) opened due is c h =
+    let rest = makes-expression tokens k opened due is (c .1) h in
     rw (append-assoc (expression-items-of g) (expression-items-of k) is)
-    (tt, makes-expression tokens g opened (opened ∷ due) (expression-items-of k ++ is) (c .0) (makes-expression tokens k opened due is (c .1) h))
+    (tt, makes-expression tokens g opened (opened ∷ due) (expression-items-of k ++ is) (c .0) rest)
 makes-expression tokens (fixed-point g) opened due is c h = (tt, makes-expression tokens g (suc opened) due is c h)
 makes-expression tokens (variable n) opened due is c h = (c, h)
 
@@ -135,25 +142,34 @@ pub record MadeExpressions (tokens : ℕ) (due : List ℕ) (is : List Expression
 
 -- An item before the expressions that follow it. What is due after it fixes how many those are.
 module _ (tokens opened : ℕ) (due : List ℕ) (is : List ExpressionItem) where
+  leaf-made : (i : ExpressionItem) (g : Expression) → expression-items-of g ≡ i ∷ [] → Closed tokens opened g → (gs : List Expression)
+      → MadeExpressions tokens due is gs → MadeExpressions tokens (opened ∷ due) (i ∷ is) (g ∷ gs)
+  unfolding flatMap
+  leaf-made i g items c gs m = record {
+    closed-all = (c, m .closed-all);
+    same-items = ap (λ l. l ++ flatMap expression-items-of gs) items ∙ ap (λ l. i ∷ l) (m .same-items);
+  }
+
   two-made : (i : ExpressionItem) (make : Expression → Expression → Expression)
       → ((g h : Expression) → expression-items-of (make g h) ≡ i ∷ (expression-items-of g ++ expression-items-of h))
       → ((g h : Expression) (gs : List Expression) → expression-before i (g ∷ h ∷ gs) ≡ make g h ∷ gs)
       → ((g h : Expression) → Closed tokens opened g → Closed tokens opened h → Closed tokens opened (make g h)) → (gs : List Expression)
-      → ClosedAll tokens (opened ∷ opened ∷ due) gs → flatMap expression-items-of gs ≡ is → MadeExpressions tokens (opened ∷ due) (i ∷ is) (expression-before i gs)
+      → ClosedAll tokens (opened ∷ opened ∷ due) gs → flatMap expression-items-of gs ≡ is
+      → MadeExpressions tokens (opened ∷ due) (i ∷ is) (expression-before i gs)
   unfolding flatMap
   two-made i make items before both (g ∷ []) c e = absurd (c .1)
   two-made i make items before both (g ∷ h ∷ gs) c e = rw (before g h gs) record {
     closed-all = (both g h (c .0) (c .1 .0), c .1 .1);
     same-items = ap (λ l. l ++ flatMap expression-items-of gs) (items g h)
-      ∙ ap (λ l. i ∷ l) (append-assoc (expression-items-of g) (expression-items-of h) (flatMap expression-items-of gs) ∙ e);
+        ∙ ap (λ l. i ∷ l) (append-assoc (expression-items-of g) (expression-items-of h) (flatMap expression-items-of gs) ∙ e);
   }
 
   expression-item-made : (i : ExpressionItem) (gs : List Expression) → ItemAllowed tokens opened i
       → MadeExpressions tokens (part-depths i opened ++ due) is gs → MadeExpressions tokens (opened ∷ due) (i ∷ is) (expression-before i gs)
   unfolding part-depths expression-before expression-items-of flatMap
-  expression-item-made epsilon-item gs a m = record { closed-all = (tt, m .closed-all); same-items = ap (λ l. epsilon-item ∷ l) (m .same-items) }
-  expression-item-made bottom-item gs a m = record { closed-all = (tt, m .closed-all); same-items = ap (λ l. bottom-item ∷ l) (m .same-items) }
-  expression-item-made (token-item k) gs a m = record { closed-all = (a, m .closed-all); same-items = ap (λ l. token-item k ∷ l) (m .same-items) }
+  expression-item-made epsilon-item gs a m = leaf-made epsilon-item epsilon refl tt gs m
+  expression-item-made bottom-item gs a m = leaf-made bottom-item bottom refl tt gs m
+  expression-item-made (token-item k) gs a m = leaf-made (token-item k) (token k) refl a gs m
   expression-item-made sequence-item gs a m =
       two-made sequence-item sequence (λ g h. refl) (λ g h rest. refl) (λ g h p q. (p, q)) gs (m .closed-all) (m .same-items)
   expression-item-made alternative-item gs a m =
@@ -163,7 +179,7 @@ module _ (tokens opened : ℕ) (due : List ℕ) (is : List ExpressionItem) where
       go : (rest : List Expression) → ClosedAll tokens (suc opened ∷ due) rest → flatMap expression-items-of rest ≡ is
           → MadeExpressions tokens (opened ∷ due) (fixed-point-item ∷ is) (expression-before fixed-point-item rest)
       go (g ∷ rest) c e = record { closed-all = c; same-items = ap (λ l. fixed-point-item ∷ l) e }
-  expression-item-made (variable-item n) gs a m = record { closed-all = (a, m .closed-all); same-items = ap (λ l. variable-item n ∷ l) (m .same-items) }
+  expression-item-made (variable-item n) gs a m = leaf-made (variable-item n) (variable n) refl a gs m
 
 pub expressions-made : (tokens : ℕ) (is : List ExpressionItem) (due : List ℕ) → MakesExpressions tokens due is
     → MadeExpressions tokens due is (expressions is)
@@ -181,7 +197,9 @@ pub record OneExpression (tokens opened : ℕ) (is : List ExpressionItem) (g : E
 pub one-expression : (tokens opened : ℕ) (is : List ExpressionItem) → MakesExpressions tokens (opened ∷ []) is
     → (g : Expression) × OneExpression tokens opened is g
 unfolding flatMap
-one-expression tokens opened is h = let m = expressions-made tokens is (opened ∷ []) h in go (expressions is) refl (m .closed-all) (m .same-items)
+one-expression tokens opened is h =
+    let m = expressions-made tokens is (opened ∷ []) h in
+    go (expressions is) refl (m .closed-all) (m .same-items)
   where
     go : (gs : List Expression) → expressions is ≡ gs → ClosedAll tokens (opened ∷ []) gs → flatMap expression-items-of gs ≡ is
         → (g : Expression) × OneExpression tokens opened is g

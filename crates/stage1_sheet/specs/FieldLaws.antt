@@ -4,14 +4,14 @@ use mathlib.Core.Path.{_≡_, refl, sym, ap, ap₂, subst, _∙_}
 use mathlib.Core.Bool.{Bool, true, false, cond, _&&_}
 use mathlib.Core.List.{List, [], _∷_, _++_, append-assoc, append-nil}
 use mathlib.Core.Logic.{_↔_}
-use Prim.Native.Nat.{ℕ, zero, suc, _+_, _-_, _^_, _≤_, _<_}
+use Prim.Native.Nat.{ℕ, zero, suc, _+_, _^_, _≤_, _<_}
 use native.Mathlib.Omega.{arith}
-use lib.Dec.{leb, leb→le, le→leb}
-use lib.ListN.{length, getD, take, drop, length-append, length-drop, take-append-drop}
+use lib.Dec.{T, leb, ltb, leb→le, le→leb, ltb→lt, lit<}
+use lib.ListN.{length, getD, take, drop, length-append, take-append-drop}
 use lib.Seq.{drop-length, drop-append-seam, take-append-seam, drop-drop}
-use Rattle.stage0_laws.specs.Truth.{holds-true, true-holds, and-both, and-true-first, and-true-second}
+use Rattle.stage0_laws.specs.Truth.{holds-true, true-holds, and-both, and-first, and-second, and-true-first, and-true-second}
 use Rattle.stage0_number.specs.Number.{encode, decode}
-use Rattle.stage0_number.specs.Laws.{Within, decode-within, decode-there, decode-bytes, decode-width, encode-there}
+use Rattle.stage0_number.specs.Laws.{decode-within, decode-there, decode-bytes, decode-width, encode-there}
 use Rattle.stage0_number.specs.declared.Number.{Number}
 use Rattle.stage0_number.specs.declared.Number.the-variants.{Read, Refused}
 use Rattle.stage1_sheet.specs.Spelling.{spell}
@@ -22,6 +22,16 @@ use Rattle.stage1_sheet.specs.Field.{Reading, stop, got, and-then, betwe
 -- Every byte is below 256.
 abbrev pub Bytes : List ℕ → Type 0
 Bytes bytes = (i : ℕ) → getD bytes i 0 < 256
+
+-- The same as a test, for bytes that are written out.
+abbrev pub all-bytes : List ℕ → Bool
+all-bytes [] = true
+all-bytes (b ∷ l) = ltb b 256 && all-bytes l
+
+pub tested-bytes : (l : List ℕ) → T (all-bytes l) → Bytes l
+tested-bytes [] t i = lit< tt
+tested-bytes (b ∷ l) t zero = ltb→lt b 256 (and-first (ltb b 256) (all-bytes l) t)
+tested-bytes (b ∷ l) t (suc i) = tested-bytes l (and-second (ltb b 256) (all-bytes l) t) i
 
 -- The place after some numbers that stand from a place on.
 abbrev pub after : ℕ → List ℕ → ℕ
@@ -49,21 +59,24 @@ pub stands-none : (bytes : List ℕ) (at : ℕ) → at ≤ length bytes → Stan
 unfolding spell
 stands-none bytes at h = record { there = refl; until = omega arith; inside = h }
 
-pub stands-append : {bytes ms ns : List ℕ} {at mid end : ℕ} → Stands bytes at ms mid → Stands bytes mid ns end → Stands bytes at (ms ++ ns) end
+pub stands-append : {bytes ms ns : List ℕ} {at mid end : ℕ} → Stands bytes at ms mid → Stands bytes mid ns end
+    → Stands bytes at (ms ++ ns) end
 stands-append {bytes} {ms} {ns} {at} {mid} {end} a b =
     let e = after-append at ms ns in record {
       there = a .there ∙ ap (λ (l : List ℕ). spell ms ++ l) (b .there) ∙ sym (append-assoc (spell ms) (spell ns) (drop end bytes))
-        ∙ ap (λ (l : List ℕ). l ++ drop end bytes) (sym (spell-append ms ns));
+          ∙ ap (λ (l : List ℕ). l ++ drop end bytes) (sym (spell-append ms ns));
       until = omega (arith, a .until, b .until);
       inside = b .inside;
     }
 
 module _ (bytes : List ℕ) (at : ℕ) (ms ns : List ℕ) (end : ℕ) (s : Stands bytes at (ms ++ ns) end) where
+  parted : drop at bytes ≡ spell ms ++ (spell ns ++ drop end bytes)
+  parted = s .there ∙ ap (λ (l : List ℕ). l ++ drop end bytes) (spell-append ms ns) ∙ append-assoc (spell ms) (spell ns) (drop end bytes)
+
   -- The bytes after the first numbers are those of the others.
   beyond : drop (after at ms) bytes ≡ spell ns ++ drop end bytes
   beyond =
-      sym (drop-drop (length (spell ms)) at bytes)
-      ∙ ap (drop (length (spell ms))) (s .there ∙ ap (λ (l : List ℕ). l ++ drop end bytes) (spell-append ms ns) ∙ append-assoc (spell ms) (spell ns) (drop end bytes))
+      sym (drop-drop (length (spell ms)) at bytes) ∙ ap (drop (length (spell ms))) parted
       ∙ drop-append-seam (spell ms) (spell ns ++ drop end bytes)
 
   pub stands-rest : Stands bytes (after at ms) ns end
@@ -71,8 +84,7 @@ module _ (bytes : List ℕ) (at : ℕ) (ms ns : List ℕ) (end : ℕ) (s : Stand
 
   pub stands-first : Stands bytes at ms (after at ms)
   stands-first = record {
-    there = s .there ∙ ap (λ (l : List ℕ). l ++ drop end bytes) (spell-append ms ns) ∙ append-assoc (spell ms) (spell ns) (drop end bytes)
-      ∙ ap (λ (l : List ℕ). spell ms ++ l) (sym beyond);
+    there = parted ∙ ap (λ (l : List ℕ). spell ms ++ l) (sym beyond);
     until = refl;
     inside = omega (arith, s .until, s .inside, after-append at ms ns);
   }
@@ -85,27 +97,39 @@ stands-whole bytes ns = (
     there = e ∙ sym (append-nil (spell ns)) ∙ ap (λ (l : List ℕ). spell ns ++ l) (sym (drop-length bytes));
     until = omega (arith, ap length e);
     inside = omega arith;
-  }
+  },
 )
 
 -- ---- outcomes
 
 -- What holds of a refusal, by its number and place, or of what was read and its next place.
-abbrev pub Outcome : {A : Type 0} → (ℕ → ℕ → Type 0) → (A → ℕ → Type 0) → Reading A → Type 0
-Outcome R Q (stop question place) = R question place
-Outcome R Q (got a end) = Q a end
+pub data Outcome {A : Type 0} (R : ℕ → ℕ → Type 0) (Q : A → ℕ → Type 0) : Reading A → Type 0 where
+  refused : (question place : ℕ) → R question place → Outcome R Q (stop question place)
+  accepted : (a : A) (end : ℕ) → Q a end → Outcome R Q (got a end)
 
-pub then-outcome : {A B : Type 0} (R : ℕ → ℕ → Type 0) (P : A → ℕ → Type 0) (Q : B → ℕ → Type 0) (r : Reading A) (next : A → ℕ → Reading B)
+pub then-outcome : {A B : Type 0} {R : ℕ → ℕ → Type 0} {P : A → ℕ → Type 0} {Q : B → ℕ → Type 0} {r : Reading A} {next : A → ℕ → Reading B}
     → Outcome R P r → ((a : A) (place : ℕ) → P a place → Outcome R Q (next a place)) → Outcome R Q (and-then r next)
-then-outcome R P Q (stop question place) next h k = h
-then-outcome R P Q (got a place) next h k = k a place h
+then-outcome (refused question place h) k = refused question place h
+then-outcome (accepted a end h) k = k a end h
 
-pub outcome-got : {A : Type 0} (R : ℕ → ℕ → Type 0) (Q : A → ℕ → Type 0) {r : Reading A} {a : A} {end : ℕ} → Outcome R Q r → r ≡ got a end → Q a end
-outcome-got R Q {r} {a} {end} h e = subst (Outcome R Q) e h
+pub outcome-imply : {A : Type 0} {R : ℕ → ℕ → Type 0} {P Q : A → ℕ → Type 0} {r : Reading A} → ((a : A) (end : ℕ) → P a end → Q a end)
+    → Outcome R P r → Outcome R Q r
+outcome-imply f (refused question place h) = refused question place h
+outcome-imply f (accepted a end h) = accepted a end (f a end h)
 
-pub outcome-stop : {A : Type 0} (R : ℕ → ℕ → Type 0) (Q : A → ℕ → Type 0) {r : Reading A} {question place : ℕ} → Outcome R Q r
+pub outcome-got : {A : Type 0} {R : ℕ → ℕ → Type 0} {Q : A → ℕ → Type 0} {r : Reading A} {a : A} {end : ℕ} → Outcome R Q r
+    → r ≡ got a end → Q a end
+outcome-got {A} {R} {Q} {r} {a} {end} h e = go (subst (Outcome R Q) e h)
+  where
+    go : Outcome R Q (got a end) → Q a end
+    go (accepted b last q) = q
+
+pub outcome-stop : {A : Type 0} {R : ℕ → ℕ → Type 0} {Q : A → ℕ → Type 0} {r : Reading A} {question place : ℕ} → Outcome R Q r
     → r ≡ stop question place → R question place
-outcome-stop R Q {r} {question} {place} h e = subst (Outcome R Q) e h
+outcome-stop {A} {R} {Q} {r} {question} {place} h e = go (subst (Outcome R Q) e h)
+  where
+    go : Outcome R Q (stop question place) → R question place
+    go (refused q p x) = x
 
 -- ---- one field
 
@@ -117,7 +141,7 @@ pub true-between : (least most v : ℕ) → between least most v ≡ true → (l
 unfolding between
 true-between least most v e = (
   leb→le least v (true-holds (leb least v) (and-true-first (leb least v) (leb v most) e)),
-  leb→le v most (true-holds (leb v most) (and-true-second (leb least v) (leb v most) e))
+  leb→le v most (true-holds (leb v most) (and-true-second (leb least v) (leb v most) e)),
 )
 
 -- What a field that was read is: its number stands there, and its value is allowed.
@@ -145,11 +169,11 @@ module _ (unreadable forbidden : ℕ) (allowed : ℕ → Bool) (bytes : List ℕ
     where
       chosen : (v used : ℕ) → decode bytes at ≡ Read v used → (c : Bool) → allowed v ≡ c
           → Outcome R (FieldRead allowed bytes at) (cond c (got v (at + used)) (stop forbidden at))
-      chosen v used e true h = record { holds = h; stands = number-stands b v used e }
-      chosen v used e false h = f
+      chosen v used e true h = accepted v (at + used) (record { holds = h; stands = number-stands b v used e })
+      chosen v used e false h = refused forbidden at f
 
       go : (n : Number) → decode bytes at ≡ n → Outcome R (FieldRead allowed bytes at) (field-of unreadable forbidden allowed at n)
-      go Refused e = u
+      go Refused e = refused unreadable at u
       go (Read v used) e = chosen v used e (allowed v) refl
 
   -- Where an allowed number stands, the field gives it.
@@ -158,7 +182,8 @@ module _ (unreadable forbidden : ℕ) (allowed : ℕ → Bool) (bytes : List ℕ
   unfolding read-field field-of spell
   field-got v ns end small h s =
       let front : take (length (encode v)) (drop at bytes) ≡ encode v =
-      ap (take (length (encode v))) (s .there ∙ append-assoc (encode v) (spell ns) (drop end bytes)) ∙ take-append-seam (encode v) (spell ns ++ drop end bytes) in
+      ap (take (length (encode v))) (s .there ∙ append-assoc (encode v) (spell ns) (drop end bytes))
+      ∙ take-append-seam (encode v) (spell ns ++ drop end bytes) in
       let width : after at (v ∷ []) ≡ at + length (encode v) = ap (λ (l : List ℕ). at + length l) (append-nil (encode v)) in
       rw (decode-there bytes at v small front, h, width)
 
@@ -175,12 +200,11 @@ module _ {S A : Type 0} (R : ℕ → ℕ → Type 0) (I : ℕ → Type 0) (Q : S
   pub many-outcome : (n : ℕ) (s : S) (at : ℕ) → I at
       → Outcome R (λ l end. (length l ≡ n) × Row Q update s at l end × I end) (read-many one update s n at)
   unfolding read-many
-  many-outcome zero s at i = (refl, refl, i)
+  many-outcome zero s at i = accepted [] at (refl, refl, i)
   many-outcome (suc n) s at i =
-      then-outcome R (λ a end. Q s at a end × I end) (λ l end. (length l ≡ suc n) × Row Q update s at l end × I end) (one s at) _ (step s at i)
-      (λ a mid q. then-outcome R (λ l end. (length l ≡ n) × Row Q update (update s a) mid l end × I end)
-      (λ l end. (length l ≡ suc n) × Row Q update s at l end × I end) (read-many one update (update s a) n mid) _
-      (many-outcome n (update s a) mid (q .1)) (λ l end r. (ap suc (r .0), (mid, q .0, r .1), r .2)))
+      then-outcome (step s at i)
+      (λ a mid q. then-outcome (many-outcome n (update s a) mid (q .1))
+      (λ l end r. accepted (a ∷ l) end (ap suc (r .0), (mid, q .0, r .1), r .2)))
 
 pub many-got : {S A : Type 0} (one : S → ℕ → Reading A) (update : S → A → S) (l : List A) (s : S) (at end : ℕ)
     → Row (λ t from a mid. one t from ≡ got a mid) update s at l end → read-many one update s (length l) at ≡ got l end

@@ -1,6 +1,6 @@
 -- Prefix order: a regex and an expression as the items that stand in a sheet, one a node, from the left; and the trees that
 -- a list of items makes. Whether a list has the items of whole trees is the reader's to see, not said here.
-use mathlib.Core.List.{List, [], _∷_, _++_}
+use mathlib.Core.List.{List, [], _∷_}
 use Prim.Native.Nat.{ℕ, suc}
 use Rattle.stage1_sheet.specs.Regex.{Regex, empty, class, concat, union, star}
 use Rattle.stage1_sheet.specs.Expression.{Expression, epsilon, bottom, token, sequence, alternative, fixed-point, variable}

@@ -1,5 +1,5 @@
--- The limits that document 01 sets, each named once. A limit counts what is still allowed.
-use Prim.Native.Nat.{ℕ, _+_, _*_}
+-- The limits that document 01 sets on a sheet, each named once. A limit is the largest number that is allowed.
+use Prim.Native.Nat.{ℕ}
 
 -- "The sheet": token count 1 to 24, rule count 1 to 32.
 abbrev pub most-tokens : ℕ

@@ -1,7 +1,7 @@
 -- Laws of lists that the library lacks: joined lists, sums and "every member" over lists put together.
 use mathlib.Core.Path.{_≡_, refl, sym, ap, _∙_}
 use mathlib.Core.List.{List, [], _∷_, _++_, append-assoc, flatMap}
-use Prim.Native.Nat.{ℕ, zero, suc, _+_}
+use Prim.Native.Nat.{ℕ, _+_}
 use native.Mathlib.Omega.{arith}
 use Rattle.stage0_laws.specs.Lists.{All, sum}
 

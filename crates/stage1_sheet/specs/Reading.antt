@@ -7,11 +7,13 @@ use lib.ListN.{length, getD}
 use lib.Dec.{eqb, ltb}
 use Rattle.stage0_laws.specs.Lists.{sum}
 use Rattle.stage1_sheet.specs.Limits.{most-tokens, most-rules, most-classes, most-regex-nodes, most-expression-nodes, most-byte}
-use Rattle.stage1_sheet.specs.Regex.{Regex, empty}
-use Rattle.stage1_sheet.specs.Expression.{Expression, bottom}
-use Rattle.stage1_sheet.specs.Sheet.{Rule, Sheet}
+use Rattle.stage1_sheet.specs.Regex.{empty}
+use Rattle.stage1_sheet.specs.Expression.{bottom}
+use Rattle.stage1_sheet.specs.Sheet.{Sheet}
 use Rattle.stage1_sheet.specs.Field.{Reading, stop, got, and-then, between, read-field, read-many}
-use Rattle.stage1_sheet.specs.Items.{RegexItem, empty-item, class-item, concat-item, union-item, star-item, regex-parts, item-classes, regexes, ExpressionItem, epsilon-item, bottom-item, token-item, sequence-item, alternative-item, fixed-point-item, variable-item, part-depths, expressions}
+use Rattle.stage1_sheet.specs.Items.{RegexItem, empty-item, class-item, concat-item, union-item, star-item}
+use Rattle.stage1_sheet.specs.Items.{regex-parts, item-classes, regexes, part-depths, expressions}
+use Rattle.stage1_sheet.specs.Items.{ExpressionItem, epsilon-item, bottom-item, token-item, sequence-item, alternative-item, fixed-point-item, variable-item}
 
 -- A number of a sheet: 3 where it is not readable, 4 where its value is not allowed.
 unfoldable pub sheet-field : (ℕ → Bool) → List ℕ → ℕ → Reading ℕ

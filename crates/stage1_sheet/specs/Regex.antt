@@ -14,7 +14,7 @@ pub data Regex : Type 0 where
   -- 4: star
   star : Regex → Regex
 
--- How many nodes a regex has: "at most 256 regex nodes over all rules".
+-- How many nodes a regex has: "At most 64 byte classes and 256 regex nodes over all rules".
 unfoldable pub regex-nodes : Regex → ℕ
 regex-nodes empty = 1
 regex-nodes (class low high) = 1

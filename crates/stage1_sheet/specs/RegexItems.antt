@@ -10,7 +10,8 @@ use Rattle.stage1_sheet.specs.Limits.{most-byte}
 use Rattle.stage1_sheet.specs.Regex.{Regex, empty, class, concat, union, star, regex-nodes, class-count}
 use Rattle.stage1_sheet.specs.Spelling.{regex-numbers}
 use Rattle.stage1_sheet.specs.WellFormed.{BytesInRange}
-use Rattle.stage1_sheet.specs.Items.{RegexItem, empty-item, class-item, concat-item, union-item, star-item, regex-parts, item-classes, regex-before, regexes}
+use Rattle.stage1_sheet.specs.Items.{RegexItem, empty-item, class-item, concat-item, union-item, star-item, regex-parts}
+use Rattle.stage1_sheet.specs.Items.{item-classes, regex-before, regexes}
 use Rattle.stage1_sheet.specs.ListLaws.{flatMap-append, sum-append}
 
 -- ---- definitions
@@ -63,9 +64,11 @@ unfolding regex-items-of regex-numbers regex-tag class-bytes flatMap
 items-numbers empty = refl
 items-numbers (class low high) = refl
 items-numbers (concat r s) =
-    ap (λ (l : List ℕ). 2 ∷ l) (flatMap-append regex-item-numbers (regex-items-of r) (regex-items-of s) ∙ ap₂ _++_ (items-numbers r) (items-numbers s))
+    ap (λ (l : List ℕ). 2 ∷ l)
+    (flatMap-append regex-item-numbers (regex-items-of r) (regex-items-of s) ∙ ap₂ _++_ (items-numbers r) (items-numbers s))
 items-numbers (union r s) =
-    ap (λ (l : List ℕ). 3 ∷ l) (flatMap-append regex-item-numbers (regex-items-of r) (regex-items-of s) ∙ ap₂ _++_ (items-numbers r) (items-numbers s))
+    ap (λ (l : List ℕ). 3 ∷ l)
+    (flatMap-append regex-item-numbers (regex-items-of r) (regex-items-of s) ∙ ap₂ _++_ (items-numbers r) (items-numbers s))
 items-numbers (star r) = ap (λ (l : List ℕ). 4 ∷ l) (items-numbers r)
 
 pub items-length : (r : Regex) → length (regex-items-of r) ≡ regex-nodes r
@@ -102,19 +105,22 @@ regexes-items (star r) is = rw (regexes-items r is)
 makes-as : (is : List RegexItem) {m n : ℕ} → m ≡ n → MakesRegexes m is → MakesRegexes n is
 makes-as is e h = subst (λ (k : ℕ). MakesRegexes k is) e h
 
+-- Two regexes' items, one after the other.
+makes-two : (r s : Regex) (due : ℕ) (is : List RegexItem) → MakesRegexes (suc (suc due)) (regex-items-of r ++ (regex-items-of s ++ is))
+    → MakesRegexes (2 + due) ((regex-items-of r ++ regex-items-of s) ++ is)
+makes-two r s due is h =
+    rw (append-assoc (regex-items-of r) (regex-items-of s) is) (makes-as (regex-items-of r ++ (regex-items-of s ++ is)) (omega arith) h)
+
 -- A regex's items, before items that make the others due, make one more.
-pub makes-regex : (r : Regex) (due : ℕ) (is : List RegexItem) → BytesInRange r → MakesRegexes due is → MakesRegexes (suc due) (regex-items-of r ++ is)
+pub makes-regex : (r : Regex) (due : ℕ) (is : List RegexItem) → BytesInRange r → MakesRegexes due is
+    → MakesRegexes (suc due) (regex-items-of r ++ is)
 unfolding regex-items-of regex-parts
 makes-regex empty due is b h = (tt, makes-as is (omega arith) h)
 makes-regex (class low high) due is b h = (b, makes-as is (omega arith) h)
 makes-regex (concat r s) due is b h =
-    rw (append-assoc (regex-items-of r) (regex-items-of s) is)
-    (tt, makes-as (regex-items-of r ++ (regex-items-of s ++ is)) (omega arith)
-    (makes-regex r (suc due) (regex-items-of s ++ is) (b .0) (makes-regex s due is (b .1) h)))
+    (tt, makes-two r s due is (makes-regex r (suc due) (regex-items-of s ++ is) (b .0) (makes-regex s due is (b .1) h)))
 makes-regex (union r s) due is b h =
-    rw (append-assoc (regex-items-of r) (regex-items-of s) is)
-    (tt, makes-as (regex-items-of r ++ (regex-items-of s ++ is)) (omega arith)
-    (makes-regex r (suc due) (regex-items-of s ++ is) (b .0) (makes-regex s due is (b .1) h)))
+    (tt, makes-two r s due is (makes-regex r (suc due) (regex-items-of s ++ is) (b .0) (makes-regex s due is (b .1) h)))
 makes-regex (star r) due is b h = (tt, makes-as (regex-items-of r ++ is) (omega arith) (makes-regex r due is b h))
 
 -- The regexes that items make: as many as were due, in range, and with just these items.
@@ -123,27 +129,38 @@ pub record MadeRegexes (due : ℕ) (is : List RegexItem) (rs : List Regex) : Typ
   pub in-range : All BytesInRange rs
   pub same-items : flatMap regex-items-of rs ≡ is
 
--- An item before the regexes that follow it.
+-- An item before the regexes that follow it: one without parts, and one with two.
+leaf-made : (i : RegexItem) (r : Regex) (due : ℕ) (is : List RegexItem) (rs : List Regex) → regex-items-of r ≡ i ∷ [] → BytesInRange r
+    → MadeRegexes (0 + due) is rs → MadeRegexes (suc due) (i ∷ is) (r ∷ rs)
+unfolding flatMap
+leaf-made i r due is rs items b m = record {
+  many = omega (arith, m .many);
+  in-range = (b, m .in-range);
+  same-items = ap (λ l. l ++ flatMap regex-items-of rs) items ∙ ap (λ l. i ∷ l) (m .same-items);
+}
+
+two-made : (i : RegexItem) (make : Regex → Regex → Regex) (due : ℕ) (is : List RegexItem)
+    → ((r s : Regex) → regex-items-of (make r s) ≡ i ∷ (regex-items-of r ++ regex-items-of s))
+    → ((r s : Regex) (rs : List Regex) → regex-before i (r ∷ s ∷ rs) ≡ make r s ∷ rs)
+    → ((r s : Regex) → BytesInRange r → BytesInRange s → BytesInRange (make r s))
+    → (rs : List Regex) → MadeRegexes (2 + due) is rs → MadeRegexes (suc due) (i ∷ is) (regex-before i rs)
+unfolding flatMap
+two-made i make due is items before both [] m = absurd (omega (arith, m .many))
+two-made i make due is items before both (r ∷ []) m = absurd (omega (arith, m .many))
+two-made i make due is items before both (r ∷ s ∷ rs) m = rw (before r s rs) (record {
+  many = omega (arith, m .many);
+  in-range = (both r s (m .in-range .0) (m .in-range .1 .0), m .in-range .1 .1);
+  same-items = ap (λ l. l ++ flatMap regex-items-of rs) (items r s)
+      ∙ ap (λ l. i ∷ l) (append-assoc (regex-items-of r) (regex-items-of s) (flatMap regex-items-of rs) ∙ m .same-items);
+})
+
 item-made : (i : RegexItem) (due : ℕ) (is : List RegexItem) (rs : List Regex) → ItemInRange i → MadeRegexes (regex-parts i + due) is rs
     → MadeRegexes (suc due) (i ∷ is) (regex-before i rs)
 unfolding regex-parts regex-before regex-items-of flatMap
-item-made empty-item due is rs b m = record { many = omega (arith, m .many); in-range = (tt, m .in-range); same-items = ap (λ l. empty-item ∷ l) (m .same-items) }
-item-made (class-item low high) due is rs b m =
-    record { many = omega (arith, m .many); in-range = (b, m .in-range); same-items = ap (λ l. class-item low high ∷ l) (m .same-items) }
-item-made concat-item due is [] b m = absurd (omega (arith, m .many))
-item-made concat-item due is (r ∷ []) b m = absurd (omega (arith, m .many))
-item-made concat-item due is (r ∷ s ∷ rs) b m = record {
-  many = omega (arith, m .many);
-  in-range = ((m .in-range .0, m .in-range .1 .0), m .in-range .1 .1);
-  same-items = ap (λ l. concat-item ∷ l) (append-assoc (regex-items-of r) (regex-items-of s) (flatMap regex-items-of rs) ∙ m .same-items);
-}
-item-made union-item due is [] b m = absurd (omega (arith, m .many))
-item-made union-item due is (r ∷ []) b m = absurd (omega (arith, m .many))
-item-made union-item due is (r ∷ s ∷ rs) b m = record {
-  many = omega (arith, m .many);
-  in-range = ((m .in-range .0, m .in-range .1 .0), m .in-range .1 .1);
-  same-items = ap (λ l. union-item ∷ l) (append-assoc (regex-items-of r) (regex-items-of s) (flatMap regex-items-of rs) ∙ m .same-items);
-}
+item-made empty-item due is rs b m = leaf-made empty-item empty due is rs refl tt m
+item-made (class-item low high) due is rs b m = leaf-made (class-item low high) (class low high) due is rs refl b m
+item-made concat-item due is rs b m = two-made concat-item concat due is (λ r s. refl) (λ r s l. refl) (λ r s x y. (x, y)) rs m
+item-made union-item due is rs b m = two-made union-item union due is (λ r s. refl) (λ r s l. refl) (λ r s x y. (x, y)) rs m
 item-made star-item due is [] b m = absurd (omega (arith, m .many))
 item-made star-item due is (r ∷ rs) b m =
     record { many = omega (arith, m .many); in-range = m .in-range; same-items = ap (λ l. star-item ∷ l) (m .same-items) }

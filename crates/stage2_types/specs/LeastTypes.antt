@@ -37,7 +37,8 @@ same-types [] (b ∷ ys) = false
 same-types (a ∷ xs) [] = false
 same-types (a ∷ xs) (b ∷ ys) = same-type a b && same-types xs ys
 
--- A node's type can grow 49 times: once to nullable, and by each of 24 tokens in each set. So this many rounds are enough.
+-- A sheet has at most 24 tokens, so that a node's type can grow 49 times: once to nullable, and by each token in each set. So
+-- this many rounds are enough.
 unfoldable pub type-rounds : List Node → ℕ
 type-rounds ns = 49 * length ns
 

@@ -1,7 +1,23 @@
--- What an expression denotes, Figure 2's types, the least types of all nodes, and questions 8 to 10.
+-- What an expression denotes, Figure 2's types, the least types of all nodes, and questions 8 to 10: first the definitions,
+-- then the laws.
 pub mod Denotation
 pub mod Types
 pub mod Nodes
 pub mod LeastTypes
 pub mod Questions
 pub mod Computing
+pub mod DenotationLaws
+pub mod Soundness
+pub mod SetOrder
+pub mod TypeLaws
+pub mod TypeWeight
+pub mod Settling
+pub mod LeastTypeLaws
+pub mod EachFrom
+pub mod QuestionLaws
+pub mod NodeLaws
+pub mod Equations
+pub mod TypedAt
+pub mod TypedNodes
+pub mod Typing
+pub mod Examples

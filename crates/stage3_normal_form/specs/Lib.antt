@@ -1,5 +1,22 @@
--- The productions of an expression's nodes, which nodes derive a token sequence, and the productions that stay.
+-- The productions of an expression's nodes, which nodes derive a token sequence, and the productions that stay: first the
+-- definitions, then the laws.
 pub mod Productions
 pub mod Derives
 pub mod NormalForm
 pub mod Computing
+pub mod Places
+pub mod Descent
+pub mod RowEquations
+pub mod NodeLanguages
+pub mod Unfolding
+pub mod Pending
+pub mod Settling
+pub mod DerivesExact
+pub mod DistinctHeads
+pub mod RowFacts
+pub mod NormalFormLaws
+pub mod Tails
+pub mod Examples
+pub mod TypesExact
+pub mod Expansion
+pub mod RightParts

@@ -4,12 +4,12 @@
 use mathlib.Core.Bool.{Bool, true, false, _&&_, cond}
 use mathlib.Core.List.{List, [], _∷_}
 use mathlib.Core.Option.{Option, none, some}
-use Prim.Native.Nat.{ℕ, zero, suc, _^_, min}
+use Prim.Native.Nat.{ℕ, suc, _^_, min}
 use lib.Bits.{bitOr}
 use lib.Dec.{leb}
 use Rattle.stage0_laws.specs.Bits.{bit}
 use Rattle.stage4_lexer.specs.Positions.{Position}
-use Rattle.stage4_lexer.specs.Match.{Match, no-match, matched, longer}
+use Rattle.stage4_lexer.specs.Match.{Match, no-match, longer}
 
 -- Whether a position's class has a byte.
 unfoldable pub has-byte : Position → ℕ → Bool

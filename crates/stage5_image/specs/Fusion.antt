@@ -8,7 +8,7 @@ use lib.Dec.{eqb}
 use Rattle.stage1_sheet.specs.Sheet.{Rule}
 use Rattle.stage3_normal_form.specs.Productions.{Production, Row}
 
--- The production that begins with a symbol. There is at most one in a row of the normal form.
+-- The production that begins with a symbol. A row of an accepted sheet's normal form has at most one.
 unfoldable pub production-of : ℕ → List Production → Option Production
 production-of t [] = none
 production-of t (p ∷ ps) = elim (eqb (p .head) t) [ true ↦ some p | false ↦ production-of t ps ]

@@ -22,7 +22,8 @@ pub record Image : Type 0 where
 unfoldable pub skips-rule : Rule → Bool
 skips-rule r = eqb (r .action) 0
 
--- The one normal form of a sheet: drop, fuse, reach, number, in this order.
+-- The image of a sheet. Its rows are the normal form with dead tails dropped, fused, reached from the start and numbered, in this
+-- order.
 unfoldable pub image-of : Sheet → Image
 image-of s = record {
   skips = map skips-rule (s .rules);

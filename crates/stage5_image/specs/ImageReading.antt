@@ -6,13 +6,23 @@ use mathlib.Core.List.{List, [], _∷_, _++_, map}
 use Prim.Native.Nat.{ℕ, zero, suc, _^_}
 use lib.ListN.{length, getD}
 use lib.Dec.{eqb, ltb, leb}
-use Rattle.stage1_sheet.specs.Limits.{most-rules, most-classes, most-expression-nodes, most-byte}
+use Rattle.stage1_sheet.specs.Limits.{most-rules, most-byte}
 use Rattle.stage1_sheet.specs.Field.{Reading, stop, got, and-then, between, read-field, read-many}
 use Rattle.stage3_normal_form.specs.Productions.{Production, Row}
 use Rattle.stage4_lexer.specs.Positions.{Position}
 use Rattle.stage5_image.specs.Image.{Image}
 
--- "tail length 0 to 31"
+-- The ranges that "The image" gives: "position count P, 1 to 64", "nonterminal count, 1 to 64", "production count (0 to 32)", "tail
+-- length 0 to 31". The rule count's is the sheet's.
+abbrev pub most-positions : ℕ
+most-positions = 64
+
+abbrev pub most-nonterminals : ℕ
+most-nonterminals = 64
+
+abbrev pub most-productions : ℕ
+most-productions = 32
+
 abbrev pub most-tail : ℕ
 most-tail = 31
 
@@ -50,7 +60,7 @@ read-production bytes skips count least at =
 unfoldable pub read-row : List ℕ → List Bool → ℕ → ℕ → Reading Row
 read-row bytes skips count at =
     and-then (read-flag bytes at)
-    (λ empty at-count. and-then (image-field (between 0 most-rules) bytes at-count)
+    (λ empty at-count. and-then (image-field (between 0 most-productions) bytes at-count)
     (λ productions at-first. and-then (read-many (read-production bytes skips count) (λ least p. suc (p .head)) 0 productions at-first)
     (λ ps end. got (record { empty = empty; productions = ps }) end)))
 
@@ -63,9 +73,9 @@ read-image bytes =
     and-then (image-field (between 1 1) bytes 0)
     (λ version at-rules. and-then (image-field (between 1 most-rules) bytes at-rules)
     (λ rules at-skips. and-then (read-list (read-flag bytes) rules at-skips)
-    (λ skips at-count. and-then (image-field (between 1 most-classes) bytes at-count)
+    (λ skips at-count. and-then (image-field (between 1 most-positions) bytes at-count)
     (λ count at-positions. and-then (read-many (read-position bytes rules count) (λ before p. p .rule) 0 count at-positions)
     (λ ps at-first. and-then (image-field (λ v. ltb v (2 ^ count)) bytes at-first)
-    (λ first at-nonterminals. and-then (image-field (between 1 most-expression-nodes) bytes at-nonterminals)
+    (λ first at-nonterminals. and-then (image-field (between 1 most-nonterminals) bytes at-nonterminals)
     (λ nonterminals at-rows. and-then (read-list (read-row bytes skips nonterminals) nonterminals at-rows)
     (λ rows end. image-end bytes (record { skips = skips; positions = ps; first = first; rows = rows }) end))))))))

@@ -13,9 +13,9 @@ use Rattle.stage6_machine.specs.Answer.{Answer, answer}
 abbrev pub Allowed : Sheet → List ℕ → ℕ → Type 0
 Allowed s tokens k = (more : List ℕ) × Denotes (s .expression) (tokens ++ (k ∷ more))
 
--- Rule k of the sheet has the action.
+-- Rule r of the sheet has the action: 0 skips, k + 1 returns token k.
 abbrev pub ActionOf : Sheet → ℕ → ℕ → Type 0
-ActionOf s k action = (r : Rule) × RuleAt (s .rules) k r × (r .action ≡ action)
+ActionOf s r action = (rule : Rule) × RuleAt (s .rules) r rule × (rule .action ≡ action)
 
 -- From a place p and the tokens so far, the answer. "The answer's place is p, its count the number of tokens so far."
 pub data AnswersFrom (s : Sheet) (text : List ℕ) : ℕ → List ℕ → Answer → Type 0 where
@@ -29,16 +29,16 @@ pub data AnswersFrom (s : Sheet) (text : List ℕ) : ℕ → List ℕ → Answer
   no-rule : {p : ℕ} {tokens : List ℕ}
       → p < length text → NoMatch (s .rules) (drop p text) → AnswersFrom s text p tokens (answer 14 p (length tokens))
   -- "That rule skips: p moves past the front."
-  skips : {p : ℕ} {tokens : List ℕ} {a : Answer} (k n : ℕ)
-      → p < length text → LongestMatch (s .rules) (drop p text) k n → ActionOf s k 0
+  skips : {p : ℕ} {tokens : List ℕ} {a : Answer} (r n : ℕ)
+      → p < length text → LongestMatch (s .rules) (drop p text) r n → ActionOf s r 0
       → AnswersFrom s text (p + n) tokens a → AnswersFrom s text p tokens a
   -- "It returns token k: if some denoted sequence begins with the tokens so far and then k, k joins them and p moves past the
   -- front. If none does: 15."
-  takes : {p : ℕ} {tokens : List ℕ} {a : Answer} (k n t : ℕ)
-      → p < length text → LongestMatch (s .rules) (drop p text) k n → ActionOf s k (suc t) → Allowed s tokens t
-      → AnswersFrom s text (p + n) (tokens ++ (t ∷ [])) a → AnswersFrom s text p tokens a
-  refuses : {p : ℕ} {tokens : List ℕ} (k n t : ℕ)
-      → p < length text → LongestMatch (s .rules) (drop p text) k n → ActionOf s k (suc t) → (Allowed s tokens t → ⊥)
+  takes : {p : ℕ} {tokens : List ℕ} {a : Answer} (r n k : ℕ)
+      → p < length text → LongestMatch (s .rules) (drop p text) r n → ActionOf s r (suc k) → Allowed s tokens k
+      → AnswersFrom s text (p + n) (tokens ++ (k ∷ [])) a → AnswersFrom s text p tokens a
+  refuses : {p : ℕ} {tokens : List ℕ} (r n k : ℕ)
+      → p < length text → LongestMatch (s .rules) (drop p text) r n → ActionOf s r (suc k) → (Allowed s tokens k → ⊥)
       → AnswersFrom s text p tokens (answer 15 p (length tokens))
 
 -- "Kept are a place p, at first 0, and the tokens so far, at first none."

@@ -3,7 +3,7 @@
 use mathlib.Core.Bool.{Bool, true, false, _&&_, _||_, cond}
 use mathlib.Core.List.{List, [], _∷_, _++_}
 use mathlib.Core.Option.{Option, none, some}
-use Prim.Native.Nat.{ℕ, zero, suc, _+_}
+use Prim.Native.Nat.{ℕ, zero, suc, _+_, _*_}
 use lib.ListN.{length, drop, getD, replicate}
 use lib.Dec.{ltb, eqb}
 use Rattle.stage1_sheet.specs.Field.{Reading, stop, got}
@@ -70,9 +70,14 @@ unfoldable pub run-reading : Reading Image → ℕ → List ℕ → Answer
 run-reading (stop question place) entries text = answer question place 0
 run-reading (got image end) entries text = run-image image entries text
 
--- Running an image's bytes over a text with a stack of so many entries.
+-- Running an image's bytes over a text with a stack of so many entries. "A stack entry is one byte": a stack has as many entries as
+-- bytes.
 unfoldable pub run : List ℕ → List ℕ → ℕ → Answer
 run image text entries = cond (ltb most-text-bytes (length text)) (answer 12 0 0) (run-reading (read-image image) entries text)
+
+-- "a long enough stack (1 + 30 × the text's length entries)"
+abbrev pub long-enough : List ℕ → ℕ
+long-enough text = 1 + 30 * length text
 
 -- "The stack ends all zero, untouched after 12 and 13."
 unfoldable pub stack-after : Answer → List ℕ → List ℕ

@@ -1,0 +1,2 @@
+-- The laws that the proof of the loop cites.
+pub mod Filling

@@ -1,0 +1,2 @@
+-- Buffers with their front cleared.
+pub mod Cleared

@@ -1,0 +1,51 @@
+-- The expressions of document 01's table, and what questions 8 to 10 answer of each: one table with one theorem.
+use mathlib.Core.Path.{_≡_, refl}
+use mathlib.Core.List.{List, [], _∷_, map}
+use mathlib.Core.Option.{Option, none, some}
+use Prim.Native.Nat.{ℕ}
+use Rattle.stage0_laws.specs.Lists.{settle}
+use Rattle.stage1_sheet.specs.Expression.{Expression, epsilon, bottom, token, sequence, alternative, fixed-point, variable, size}
+use Rattle.stage2_types.specs.Types.{epsilon-type, bottom-type, token-type, sequence-type, alternative-type}
+use Rattle.stage2_types.specs.Nodes.{nodes-from, nodes}
+use Rattle.stage2_types.specs.LeastTypes.{node-type, next-types, same-type, same-types, type-rounds, types-of, least-types}
+use Rattle.stage2_types.specs.Questions.{Fault, separable, apart, unless, node-fault, first-fault, type-fault}
+
+record Row : Type 0 where
+  expression : Expression
+  answer : Option Fault
+
+-- The two tokens of sheet D.
+abbrev N : Expression
+N = token 0
+
+abbrev S : Expression
+S = token 1
+
+abbrev at : ℕ → ℕ → Option Fault
+at number node = some (record { number = number; node = node })
+
+abbrev rows : List Row
+rows =
+    -- D's own, N·μβ.(ε ∨ S·(N·β))
+    record { expression = sequence N (fixed-point (alternative epsilon (sequence S (sequence N (variable 0))))); answer = none }
+    -- N ∨ N
+    ∷ record { expression = alternative N N; answer = at 10 0 }
+    -- (ε ∨ N)·S
+    ∷ record { expression = sequence (alternative epsilon N) S; answer = at 9 0 }
+    -- μα.α
+    ∷ record { expression = fixed-point (variable 0); answer = at 8 1 }
+    -- μα.(α ∨ (N ∨ N)): 10 before 8
+    ∷ record { expression = fixed-point (alternative (variable 0) (alternative N N)); answer = at 10 1 }
+    -- μα.N·α
+    ∷ record { expression = fixed-point (sequence N (variable 0)); answer = none }
+    -- (S·μβ.(ε ∨ N·β))·N, and with S last
+    ∷ record { expression = sequence (sequence S (fixed-point (alternative epsilon (sequence N (variable 0))))) N; answer = at 9 0 }
+    ∷ record { expression = sequence (sequence S (fixed-point (alternative epsilon (sequence N (variable 0))))) S; answer = none }
+    -- N·⊥ ∨ N
+    ∷ record { expression = alternative (sequence N bottom) N; answer = at 10 0 }
+    ∷ []
+
+rows-answered : map (λ row. type-fault (row .expression)) rows ≡ map (λ row. row .answer) rows
+unfolding type-fault first-fault node-fault unless separable apart least-types types-of settle type-rounds next-types node-type same-types same-type
+    nodes nodes-from size epsilon-type bottom-type token-type sequence-type alternative-type
+rows-answered = refl

@@ -1,0 +1,80 @@
+-- Types ordered by inclusion. Figure 2's operations keep the order, and a side condition that holds holds of smaller types too.
+-- Nothing here is about expressions or languages.
+use mathlib.Core.Path.{_≡_}
+use mathlib.Core.Bool.{_&&_, false≢true}
+use mathlib.Core.List.{List}
+use Prim.Native.Nat.{ℕ}
+use lib.Bits.{bitOr, bitAnd}
+use Rattle.stage0_laws.specs.BitLaws.{∈-zero, ∈-disjoint, disjoint-zero}
+use Rattle.stage2_types.specs.Types.{LanguageType, if-null, bottom-type, sequence-type, alternative-type, Separable, Apart}
+use Rattle.stage2_types.specs.LeastTypes.{type-of}
+use Rattle.stage2_types.specs.SetOrder.{_⇒_, implied-both, and-rises, or-rises, false-falls, _⊆_, included-both, union-rises, cond-rises}
+
+-- a ⊑ b: whatever a has, b has.
+infix 30 _⊑_
+pub record _⊑_ (a b : LanguageType) : Type 0 where
+  pub null-rises : a .null ⇒ b .null
+  pub first-rises : a .first ⊆ b .first
+  pub flast-rises : a .flast ⊆ b .flast
+
+pub ⊑-refl : (a : LanguageType) → a ⊑ a
+⊑-refl a = record { null-rises = λ e. e; first-rises = λ i m. m; flast-rises = λ i m. m }
+
+pub ⊑-trans : {a b c : LanguageType} → a ⊑ b → b ⊑ c → a ⊑ c
+⊑-trans p q = record {
+  null-rises = λ e. q .null-rises (p .null-rises e);
+  first-rises = λ i m. q .first-rises i (p .first-rises i m);
+  flast-rises = λ i m. q .flast-rises i (p .flast-rises i m);
+}
+
+pub ⊑-antisym : {a b : LanguageType} → a ⊑ b → b ⊑ a → a ≡ b
+⊑-antisym {a} {b} p q =
+    let n = implied-both (a .null) (b .null) (p .null-rises) (q .null-rises) in
+    let s = included-both (a .first) (b .first) (p .first-rises) (q .first-rises) in
+    let t = included-both (a .flast) (b .flast) (p .flast-rises) (q .flast-rises) in
+    λ i. record { null = n i; first = s i; flast = t i }
+
+pub bottom-least : (a : LanguageType) → bottom-type ⊑ a
+unfolding bottom-type
+bottom-least a = record { null-rises = λ e. absurd (false≢true e); first-rises = λ i m. ∈-zero i m; flast-rises = λ i m. ∈-zero i m }
+
+pub sequence-rises : {a a' b b' : LanguageType} → a ⊑ a' → b ⊑ b' → sequence-type a b ⊑ sequence-type a' b'
+unfolding sequence-type
+sequence-rises {a} {a'} {b} {b'} p q = record {
+  null-rises = and-rises (a .null) (a' .null) (b .null) (b' .null) (p .null-rises) (q .null-rises);
+  first-rises = union-rises (a .first) (a' .first) (if-null (a .null) (b .first)) (if-null (a' .null) (b' .first)) (p .first-rises)
+      (cond-rises (a .null) (a' .null) (b .first) (b' .first) (p .null-rises) (q .first-rises));
+  flast-rises =
+      let inner : bitOr (b .first) (a .flast) ⊆ bitOr (b' .first) (a' .flast)
+      = union-rises (b .first) (b' .first) (a .flast) (a' .flast) (q .first-rises) (p .flast-rises) in
+      union-rises (b .flast) (b' .flast) (if-null (b .null) (bitOr (b .first) (a .flast))) (if-null (b' .null) (bitOr (b' .first) (a' .flast)))
+      (q .flast-rises) (cond-rises (b .null) (b' .null) (bitOr (b .first) (a .flast)) (bitOr (b' .first) (a' .flast)) (q .null-rises) inner);
+}
+
+pub alternative-rises : {a a' b b' : LanguageType} → a ⊑ a' → b ⊑ b' → alternative-type a b ⊑ alternative-type a' b'
+unfolding alternative-type
+alternative-rises {a} {a'} {b} {b'} p q = record {
+  null-rises = or-rises (a .null) (a' .null) (b .null) (b' .null) (p .null-rises) (q .null-rises);
+  first-rises = union-rises (a .first) (a' .first) (b .first) (b' .first) (p .first-rises) (q .first-rises);
+  flast-rises = union-rises (a .flast) (a' .flast) (b .flast) (b' .flast) (p .flast-rises) (q .flast-rises);
+}
+
+disjoint-falls : (s s' t t' : ℕ) → s ⊆ s' → t ⊆ t' → bitAnd s' t' ≡ 0 → bitAnd s t ≡ 0
+disjoint-falls s s' t t' f g e = disjoint-zero s t (λ i x y. ∈-disjoint s' t' i e (f i x) (g i y))
+
+pub separable-falls : {a a' b b' : LanguageType} → a ⊑ a' → b ⊑ b' → Separable a' b' → Separable a b
+separable-falls {a} {a'} {b} {b'} p q k = record {
+  disjoint = disjoint-falls (a .flast) (a' .flast) (b .first) (b' .first) (p .flast-rises) (q .first-rises) (k .disjoint);
+  not-null = false-falls (a .null) (a' .null) (p .null-rises) (k .not-null);
+}
+
+pub apart-falls : {a a' b b' : LanguageType} → a ⊑ a' → b ⊑ b' → Apart a' b' → Apart a b
+apart-falls {a} {a'} {b} {b'} p q k = record {
+  disjoint = disjoint-falls (a .first) (a' .first) (b .first) (b' .first) (p .first-rises) (q .first-rises) (k .disjoint);
+  one-null = false-falls (a .null && b .null) (a' .null && b' .null)
+      (and-rises (a .null) (a' .null) (b .null) (b' .null) (p .null-rises) (q .null-rises)) (k .one-null);
+}
+
+-- Two lists of all nodes' types, compared at every node.
+abbrev pub AllBelow : List LanguageType → List LanguageType → Type 0
+AllBelow types others = (n : ℕ) → type-of types n ⊑ type-of others n

@@ -1,0 +1,121 @@
+-- How much a type holds: a flag and the members of two sets of at most 24 tokens, so at most 49. A type that grows weighs more.
+-- This counts for what the rounds of the least types need, and is no part of a type's meaning.
+use mathlib.Core.Path.{_≡_, refl, ap₂, subst}
+use mathlib.Core.Bool.{Bool}
+use mathlib.Core.List.{List, [], _∷_}
+use mathlib.Core.Logic.{⊎-elim}
+use Prim.Native.Nat.{ℕ, suc, _+_, _*_, _^_, _≤_, _<_}
+use native.Mathlib.Omega.{arith}
+use lib.Bits.{bitOr}
+use lib.ListN.{length}
+use Rattle.stage0_laws.specs.Bits.{_∈_}
+use Rattle.stage0_laws.specs.BitLaws.{∈-zero, ∈-one, ∈-cases, ∈-cond, bit-below, lt-pow-self}
+use Rattle.stage0_laws.specs.Lists.{sum}
+use Rattle.stage1_sheet.specs.Limits.{most-tokens}
+use Rattle.stage2_types.specs.Types.{LanguageType, if-null, epsilon-type, bottom-type, token-type, sequence-type, alternative-type}
+use Rattle.stage2_types.specs.LeastTypes.{type-of}
+use Rattle.stage2_types.specs.SetOrder.{flag, flag-rises, flag-most, flag-implies, count, count-most, count-rises, count-full}
+use Rattle.stage2_types.specs.TypeLaws.{_⊑_, ⊑-antisym, AllBelow}
+
+-- Every member of the set is a token that a sheet may have.
+abbrev pub TokensOnly : ℕ → Type 0
+TokensOnly s = (i : ℕ) → i ∈ s → i < most-tokens
+
+pub record Fits (a : LanguageType) : Type 0 where
+  pub first-fits : TokensOnly (a .first)
+  pub flast-fits : TokensOnly (a .flast)
+
+union-only : (s t : ℕ) → TokensOnly s → TokensOnly t → TokensOnly (bitOr s t)
+union-only s t f g i h = ⊎-elim (f i) (g i) (∈-cases s t i h)
+
+if-null-only : (b : Bool) (s : ℕ) → TokensOnly s → TokensOnly (if-null b s)
+if-null-only b s f i h = f i ((∈-cond b s i h) .1)
+
+pub epsilon-fits : Fits epsilon-type
+unfolding epsilon-type
+epsilon-fits = record { first-fits = λ i h. ∈-zero i h; flast-fits = λ i h. ∈-zero i h }
+
+pub bottom-fits : Fits bottom-type
+unfolding bottom-type
+bottom-fits = record { first-fits = λ i h. ∈-zero i h; flast-fits = λ i h. ∈-zero i h }
+
+pub token-fits : (t : ℕ) → t < most-tokens → Fits (token-type t)
+unfolding token-type
+token-fits t l = record { first-fits = λ i h. subst (λ n. n < most-tokens) (∈-one t i h) l; flast-fits = λ i h. ∈-zero i h }
+
+pub sequence-fits : {a b : LanguageType} → Fits a → Fits b → Fits (sequence-type a b)
+unfolding sequence-type
+sequence-fits {a} {b} p q = record {
+  first-fits = union-only (a .first) (if-null (a .null) (b .first)) (p .first-fits) (if-null-only (a .null) (b .first) (q .first-fits));
+  flast-fits = union-only (b .flast) (if-null (b .null) (bitOr (b .first) (a .flast))) (q .flast-fits)
+      (if-null-only (b .null) (bitOr (b .first) (a .flast)) (union-only (b .first) (a .flast) (q .first-fits) (p .flast-fits)));
+}
+
+pub alternative-fits : {a b : LanguageType} → Fits a → Fits b → Fits (alternative-type a b)
+unfolding alternative-type
+alternative-fits {a} {b} p q = record {
+  first-fits = union-only (a .first) (b .first) (p .first-fits) (q .first-fits);
+  flast-fits = union-only (a .flast) (b .flast) (p .flast-fits) (q .flast-fits);
+}
+
+-- Both sets are then numbers of 24 bits.
+only-small : (s : ℕ) → TokensOnly s → s < 2 ^ most-tokens
+only-small s f = bit-below most-tokens s s (lt-pow-self s) f
+
+pub first-small : {a : LanguageType} → Fits a → a .first < 2 ^ most-tokens
+first-small {a} f = only-small (a .first) (f .first-fits)
+
+pub flast-small : {a : LanguageType} → Fits a → a .flast < 2 ^ most-tokens
+flast-small {a} f = only-small (a .flast) (f .flast-fits)
+
+pub weight : LanguageType → ℕ
+weight a = flag (a .null) + (count most-tokens (a .first) + count most-tokens (a .flast))
+
+weight-most : (a : LanguageType) → weight a ≤ 49
+unfolding weight
+weight-most a = omega (arith, flag-most (a .null), count-most most-tokens (a .first), count-most most-tokens (a .flast))
+
+weight-rises : {a b : LanguageType} → a ⊑ b → weight a ≤ weight b
+unfolding weight
+weight-rises {a} {b} p =
+    let n = flag-rises (a .null) (b .null) (p .null-rises) in
+    let s = count-rises most-tokens (a .first) (b .first) (p .first-rises) in
+    let t = count-rises most-tokens (a .flast) (b .flast) (p .flast-rises) in
+    omega arith
+
+-- A type that is below another and weighs no less is that other.
+weight-full : {a b : LanguageType} → a ⊑ b → Fits b → weight b ≤ weight a → a ≡ b
+unfolding weight
+weight-full {a} {b} p f h =
+    let n = flag-rises (a .null) (b .null) (p .null-rises) in
+    let s = count-rises most-tokens (a .first) (b .first) (p .first-rises) in
+    let t = count-rises most-tokens (a .flast) (b .flast) (p .flast-rises) in
+    let n' : flag (b .null) ≤ flag (a .null) = omega arith in
+    let s' : count most-tokens (b .first) ≤ count most-tokens (a .first) = omega arith in
+    let t' : count most-tokens (b .flast) ≤ count most-tokens (a .flast) = omega arith in
+    ⊑-antisym p (record {
+      null-rises = flag-implies (b .null) (a .null) n';
+      first-rises = λ i m. count-full most-tokens (a .first) (b .first) (p .first-rises) s' i (f .first-fits i m) m;
+      flast-rises = λ i m. count-full most-tokens (a .flast) (b .flast) (p .flast-rises) t' i (f .flast-fits i m) m;
+    })
+
+-- The same for the types of all nodes together.
+pub weights-most : (types : List LanguageType) → sum weight types ≤ 49 * length types
+weights-most [] = omega arith
+weights-most (a ∷ types) = omega (arith, weight-most a, weights-most types)
+
+weights-rise : (xs ys : List LanguageType) → length xs ≡ length ys → AllBelow xs ys → sum weight xs ≤ sum weight ys
+weights-rise [] [] e h = omega arith
+weights-rise [] (b ∷ ys) e h = absurd (omega arith)
+weights-rise (a ∷ xs) [] e h = absurd (omega arith)
+weights-rise (a ∷ xs) (b ∷ ys) e h = omega (arith, weight-rises (h 0), weights-rise xs ys (omega arith) (λ n. h (suc n)))
+
+pub weights-full : (xs ys : List LanguageType) → length xs ≡ length ys → AllBelow xs ys → ((n : ℕ) → Fits (type-of ys n))
+    → sum weight ys ≤ sum weight xs → xs ≡ ys
+weights-full [] [] e h f w = refl
+weights-full [] (b ∷ ys) e h f w = absurd (omega arith)
+weights-full (a ∷ xs) [] e h f w = absurd (omega arith)
+weights-full (a ∷ xs) (b ∷ ys) e h f w =
+    let x = weight-rises (h 0) in
+    let y = weights-rise xs ys (omega arith) (λ n. h (suc n)) in
+    ap₂ _∷_ (weight-full (h 0) (f 0) (omega arith)) (weights-full xs ys (omega arith) (λ n. h (suc n)) (λ n. f (suc n)) (omega arith))

@@ -1,0 +1,205 @@
+-- Tails: their members are nodes of the expression, and at a typed one a tail is no longer than the number of sequence nodes, so at
+-- most 31. Heads are tokens of the sheet.
+use mathlib.Core.Path.{_≡_, refl, sym, ap, subst, _∙_}
+use mathlib.Core.List.{List, [], _∷_, _++_, List·Memᴰ·not-nil, List·Memᴰ·eq-of-singleton, List·Memᴰ·append-cases, Memᴰ·of-map}
+use mathlib.Core.Option.{Option}
+use mathlib.Core.Logic.{⊎-elim}
+use Prim.Native.Nat.{ℕ, zero, suc, _+_, _≤_, _<_}
+use native.Mathlib.Omega.{arith}
+use lib.ListN.{length, length-append, replicate, List·getD-eq-default}
+use Rattle.stage0_laws.specs.Lists.{All}
+use Rattle.stage1_sheet.specs.Expression.{Expression, epsilon, bottom, token, sequence, alternative, fixed-point, variable, size}
+use Rattle.stage1_sheet.specs.Limits.{most-expression-nodes}
+use Rattle.stage1_sheet.specs.WellFormed.{Closed}
+use Rattle.stage2_types.specs.Types.{LanguageType, Context, _⊢_∶_, type-epsilon, type-bottom, type-token, type-variable, type-sequence, type-alternative, type-fixed-point}
+use Rattle.stage2_types.specs.Nodes.{Node, epsilon-node, bottom-node, token-node, sequence-node, alternative-node, fixed-point-node, variable-node, nodes}
+use Rattle.stage3_normal_form.specs.Productions.{Production, Row, no-productions, ended-by, row-of, node-row, rows-after, rows}
+use Rattle.stage3_normal_form.specs.NormalForm.{normal-form}
+use Rattle.stage3_normal_form.specs.Places.{node-at, nodes-count, Placed, nodes-placed, Everywhere, everywhere-all, none-usable}
+use Rattle.stage3_normal_form.specs.Descent.{weight, head-weight, weight-parts, VariablesKeep, keep-in-body, bounded}
+use Rattle.stage3_normal_form.specs.RowEquations.{next-at, row-solves, rows-length}
+use Rattle.stage3_normal_form.specs.Unfolding.{_of_}
+use Rattle.stage3_normal_form.specs.Pending.{TokenStep, GrowsBy, step-grows}
+use Rattle.stage3_normal_form.specs.NormalFormLaws.{kept-production}
+
+-- The sequence nodes of an expression.
+abbrev pub sequence-count : Expression → ℕ
+sequence-count = weight 0
+
+size-positive : (g : Expression) → 1 ≤ size g
+unfolding size
+size-positive epsilon = omega arith
+size-positive bottom = omega arith
+size-positive (token k) = omega arith
+size-positive (sequence g h) = omega arith
+size-positive (alternative g h) = omega arith
+size-positive (fixed-point g) = omega arith
+size-positive (variable n) = omega arith
+
+-- Each sequence node has two parts of its own.
+pub sequence-count-bound : (g : Expression) → sequence-count g + sequence-count g + 1 ≤ size g
+unfolding size
+sequence-count-bound epsilon = omega arith
+sequence-count-bound bottom = omega arith
+sequence-count-bound (token k) = omega arith
+sequence-count-bound (sequence g h) = let a = sequence-count-bound g in let b = sequence-count-bound h in omega arith
+sequence-count-bound (alternative g h) = let a = sequence-count-bound g in let b = sequence-count-bound h in omega arith
+sequence-count-bound (fixed-point g) = let a = sequence-count-bound g in omega arith
+sequence-count-bound (variable n) = omega arith
+
+-- Lengths.
+module _ (table : ℕ → Node) (rs : List Row) (solves : (n : ℕ) → row-of rs n ≡ node-row rs (table n)) where
+  abbrev Short : ℕ → Row → Type 0
+  Short m P = (q : Production) → q of P → length (q .tail) ≤ m
+
+  abbrev ShortAt : ℕ → ℕ → Type 0
+  ShortAt m n = Short m (row-of rs n)
+
+  longer-bound : (m M n : ℕ) → m ≤ M → ShortAt m n → ShortAt M n
+  longer-bound m M n h f q x = let a = f q x in omega arith
+
+  by-node : {x : Node} (m p : ℕ) → table p ≡ x → Short m (node-row rs x) → ShortAt m p
+  by-node m p e f = subst (Short m) (sym (solves p ∙ ap (node-row rs) e)) f
+
+  own-short : {Γ : Context} {g : Expression} {a : LanguageType} → Γ ⊢ g ∶ a → (p : ℕ) (fs : List ℕ) → Placed table g p fs → (m : ℕ)
+      → VariablesKeep ShortAt Γ fs m → ShortAt (m + head-weight 0 g) p
+  unfolding node-row ended-by
+  own-short type-epsilon p fs t m k = by-node (m + 0) p t (λ q x. absurd (List·Memᴰ·not-nil x))
+  own-short type-bottom p fs t m k = by-node (m + 0) p t (λ q x. absurd (List·Memᴰ·not-nil x))
+  own-short (type-token c) p fs t m k = by-node (m + 0) p t
+      (λ q x. rw (ap (λ (z : Production). length (z .tail)) (List·Memᴰ·eq-of-singleton x)) (omega arith))
+  own-short (type-variable {n = n} {a = a} u) p fs t m k = by-node (m + 0) p (t .1) (λ q x. let b = k n a u q x in omega arith)
+  own-short (type-sequence {g = g} d e s) p fs t m k = by-node (m + head-weight 0 (sequence g epsilon)) p (t .0)
+      (λ q x. let o = Memᴰ·of-map (ended-by (suc p + size g)) ((row-of rs (suc p)) .productions) x in
+      let a = own-short d (suc p) fs (t .1) m k (o .0) (o .1) in
+      let b : length (o .0 .tail ++ ((suc p + size g) ∷ [])) ≡ length (q .tail) = ap (λ (z : Production). length (z .tail)) (o .2) in
+      let c = length-append (o .0 .tail) ((suc p + size g) ∷ []) in omega arith)
+  own-short (type-alternative {g = g} {h = h} d e s) p fs t m k = by-node (m + head-weight 0 (alternative g h)) p (t .0)
+      (λ q x. ⊎-elim (λ y. let a = own-short d (suc p) fs (t .1) m k q y in omega arith)
+      (λ y. let a = own-short e (suc p + size g) fs (t .2) m k q y in omega arith)
+      (List·Memᴰ·append-cases ((row-of rs (suc p)) .productions) x))
+  own-short (type-fixed-point {Γ = Γ} {g = g} {a = a} d) p fs t m k = by-node (m + head-weight 0 (fixed-point g)) p (t .0)
+      (λ q x. let b = own-short d (suc p) (p ∷ fs) (t .1) m (keep-in-body ShortAt Γ fs m p a k) q x in omega arith)
+
+-- "A tail is at most as long as the number of sequence nodes"
+pub tails-short : {e : Expression} {a : LanguageType} → [] ⊢ e ∶ a → (n : ℕ) (q : Production) → q of row-of (rows e) n
+    → length (q .tail) ≤ sequence-count e
+tails-short {e} d = everywhere-all (ShortAt (node-at (nodes e)) (rows e) (row-solves d) (sequence-count e)) e
+    (bounded (node-at (nodes e)) 0 (ShortAt (node-at (nodes e)) (rows e) (row-solves d))
+    (longer-bound (node-at (nodes e)) (rows e) (row-solves d))
+    (λ Γ g b. own-short (node-at (nodes e)) (rows e) (row-solves d) {Γ = Γ} {g = g} {a = b})
+    d 0 [] (nodes-placed e) 0 0 (sequence-count e) (λ i b u. none-usable u) (λ i b u. none-usable u)
+    (omega arith) (let w = weight-parts 0 e in omega arith))
+    (λ n h q x. absurd (List·Memᴰ·not-nil (rw (List·getD-eq-default (rows e) no-productions {n = n} (rw (rows-length e) h)) at x)))
+
+-- ".. so at most 31."
+abbrev pub most-tail : ℕ
+most-tail = 31
+
+pub tails-at-most : {e : Expression} {a : LanguageType} → [] ⊢ e ∶ a → size e ≤ most-expression-nodes
+    → (n : ℕ) (q : Production) → q of row-of (normal-form e) n → length (q .tail) ≤ most-tail
+tails-at-most {e} d h n q m =
+    let a = tails-short d n q (kept-production e n q m .0) in let b = sequence-count-bound e in omega arith
+
+-- So a take adds at most 30 pending nodes, and there are never more than 1 + 30 for each taken token.
+abbrev pub most-growth : ℕ
+most-growth = 30
+
+pub pending-grows : {e : Expression} {a : LanguageType} → [] ⊢ e ∶ a → size e ≤ most-expression-nodes
+    → {t : ℕ} {β : List ℕ} {o : Option (List ℕ)} → TokenStep (row-of (normal-form e)) t β o → GrowsBy most-growth β o
+pending-grows {e} d h = step-grows most-growth (row-of (normal-form e)) (tails-at-most d h)
+
+-- What every production has if tokens give it and sequence nodes keep it.
+module _ (ns : List Node) (Q : Production → Type 0)
+    (by-token : (n t : ℕ) → node-at ns n ≡ token-node t → Q (record { head = t; tail = [] }))
+    (by-sequence : (n l r : ℕ) → node-at ns n ≡ sequence-node l r → (q : Production) → Q q → Q (ended-by r q)) where
+  no-row : (m n : ℕ) (q : Production) → q of row-of (replicate m no-productions) n → Q q
+  no-row zero n q x = absurd (List·Memᴰ·not-nil x)
+  no-row (suc m) zero q x = absurd (List·Memᴰ·not-nil x)
+  no-row (suc m) (suc n) q x = no-row m n q x
+
+  next-productions : (rs : List Row) → ((n : ℕ) (q : Production) → q of row-of rs n → Q q)
+      → (n : ℕ) (x : Node) → node-at ns n ≡ x → (q : Production) → q of node-row rs x → Q q
+  unfolding node-row
+  next-productions rs f n epsilon-node e q m = absurd (List·Memᴰ·not-nil m)
+  next-productions rs f n bottom-node e q m = absurd (List·Memᴰ·not-nil m)
+  next-productions rs f n (token-node t) e q m = subst Q (sym (List·Memᴰ·eq-of-singleton m)) (by-token n t e)
+  next-productions rs f n (sequence-node l r) e q m =
+      let o = Memᴰ·of-map (ended-by r) ((row-of rs l) .productions) m in subst Q (o .2) (by-sequence n l r e (o .0) (f l (o .0) (o .1)))
+  next-productions rs f n (alternative-node l r) e q m =
+      ⊎-elim (λ x. f l q x) (λ x. f r q x) (List·Memᴰ·append-cases ((row-of rs l) .productions) m)
+  next-productions rs f n (fixed-point-node b) e q m = f b q m
+  next-productions rs f n (variable-node b guarded) e q m = f b q m
+
+  pub every-production : (k n : ℕ) (q : Production) → q of row-of (rows-after k ns) n → Q q
+  unfolding rows-after
+  every-production zero n q m = no-row (length ns) n q m
+  every-production (suc k) n q m =
+      next-productions (rows-after k ns) (every-production k) n (node-at ns n) refl q (rw (next-at ns (rows-after k ns) n) at m)
+
+-- Each token is below the token count, and each right part is a node.
+abbrev InRange : ℕ → ℕ → Node → Type 0
+InRange tokens count epsilon-node = Unit
+InRange tokens count bottom-node = Unit
+InRange tokens count (token-node t) = t < tokens
+InRange tokens count (sequence-node l r) = r < count
+InRange tokens count (alternative-node l r) = Unit
+InRange tokens count (fixed-point-node b) = Unit
+InRange tokens count (variable-node f guarded) = Unit
+
+module _ (table : ℕ → Node) (tokens count : ℕ) where
+  abbrev InRangeAt : ℕ → Type 0
+  InRangeAt n = InRange tokens count (table n)
+
+  in-range : (g : Expression) (opened p : ℕ) (fs : List ℕ) → Placed table g p fs → Closed tokens opened g → p + size g ≤ count
+      → Everywhere InRangeAt g p
+  unfolding size
+  in-range epsilon opened p fs t c h = rw t tt
+  in-range bottom opened p fs t c h = rw t tt
+  in-range (token k) opened p fs t c h = rw t c
+  in-range (sequence g k) opened p fs t c h = (
+    rw (t .0) (let a = size-positive k in omega arith),
+    in-range g opened (suc p) fs (t .1) (c .0) (omega arith),
+    in-range k opened (suc p + size g) fs (t .2) (c .1) (omega arith),
+  )
+  in-range (alternative g k) opened p fs t c h = (
+    rw (t .0) tt,
+    in-range g opened (suc p) fs (t .1) (c .0) (omega arith),
+    in-range k opened (suc p + size g) fs (t .2) (c .1) (omega arith),
+  )
+  in-range (fixed-point g) opened p fs t c h = (rw (t .0) tt, in-range g (suc opened) (suc p) (p ∷ fs) (t .1) c (omega arith))
+  in-range (variable n) opened p fs t c h = rw (t .1) tt
+
+nodes-in-range : (e : Expression) (tokens : ℕ) → Closed tokens 0 e → (n : ℕ) → InRange tokens (size e) (node-at (nodes e) n)
+nodes-in-range e tokens c = everywhere-all (λ n. InRange tokens (size e) (node-at (nodes e) n)) e
+    (in-range (node-at (nodes e)) tokens (size e) e 0 0 [] (nodes-placed e) c (omega arith))
+    (λ n h. rw (List·getD-eq-default (nodes e) bottom-node {n = n} (rw (nodes-count e) h)) tt)
+
+all-end : (P : ℕ → Type 0) (l : List ℕ) (n : ℕ) → All P l → P n → All P (l ++ (n ∷ []))
+all-end P [] n h x = (x, tt)
+all-end P (m ∷ l) n h x = (h .0, all-end P l n (h .1) x)
+
+-- A production's head is a token of the sheet, and its tail's members are nodes.
+pub record ProductionInRange (tokens count : ℕ) (q : Production) : Type 0 where
+  pub head-below : q .head < tokens
+  pub tail-below : All (λ n. n < count) (q .tail)
+
+pub productions-in-range : (e : Expression) (tokens : ℕ) → Closed tokens 0 e
+    → (n : ℕ) (q : Production) → q of row-of (rows e) n → ProductionInRange tokens (size e) q
+unfolding rows
+productions-in-range e tokens c = every-production (nodes e) (ProductionInRange tokens (size e)) by-token by-sequence (length (nodes e))
+  where
+    by-token : (n t : ℕ) → node-at (nodes e) n ≡ token-node t → ProductionInRange tokens (size e) (record { head = t; tail = [] })
+    by-token n t h = record { head-below = rw h at (nodes-in-range e tokens c n); tail-below = tt }
+
+    by-sequence : (n l r : ℕ) → node-at (nodes e) n ≡ sequence-node l r → (q : Production) → ProductionInRange tokens (size e) q
+        → ProductionInRange tokens (size e) (ended-by r q)
+    by-sequence n l r h q x = unfold ended-by in
+        record {
+          head-below = x .head-below;
+          tail-below = all-end (λ i. i < size e) (q .tail) r (x .tail-below) (rw h at (nodes-in-range e tokens c n));
+        }
+
+pub normal-form-in-range : (e : Expression) (tokens : ℕ) → Closed tokens 0 e
+    → (n : ℕ) (q : Production) → q of row-of (normal-form e) n → ProductionInRange tokens (size e) q
+normal-form-in-range e tokens c n q m = productions-in-range e tokens c n q (kept-production e n q m .0)

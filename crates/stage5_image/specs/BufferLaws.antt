@@ -1,0 +1,58 @@
+-- What the lent buffers hold after compiling, said of their parts: "A refused compile leaves the image buffer untouched; success
+-- leaves the bytes past the image. The first 65,536 work bytes end as zero, except after 1, when none changes; the rest never
+-- change."
+use mathlib.Core.Path.{_≡_, refl, sym, ap, _∙_}
+use mathlib.Core.Bool.{Bool, cond}
+use mathlib.Core.List.{List, [], _++_}
+use Prim.Native.Nat.{ℕ, _≤_, _<_}
+use native.Mathlib.Omega.{arith}
+use lib.ListN.{length, take, drop, replicate, length-replicate, drop-of-length-le}
+use lib.Seq.{take-at, drop-at}
+use lib.Dec.{ltb}
+use borrow.Author.Tests.{lt-ltb, le-ltb}
+use Rattle.stage0_laws.specs.Order.{lt-or-le}
+use mathlib.Core.Logic.{⊎-elim}
+use Rattle.stage5_image.specs.Compile.{work-bytes, Compiled, refused, too-long, compiled, CompileAnswer, compile-answer, image-after, written-part, work-after}
+
+-- Refused: nothing is written, nothing is handed back.
+pub refused-untouched : (question place : ℕ) (buffer : List ℕ)
+    → (image-after (refused question place) buffer ≡ buffer) × (written-part (refused question place) ≡ [])
+unfolding image-after written-part
+refused-untouched question place buffer = (refl, refl)
+
+pub too-long-untouched : (needed : ℕ) (buffer : List ℕ) → (image-after (too-long needed) buffer ≡ buffer) × (written-part (too-long needed) ≡ [])
+unfolding image-after written-part
+too-long-untouched needed buffer = (refl, refl)
+
+-- Success: the image, which is what is handed back, and then what was there.
+pub image-written : (image buffer : List ℕ) → take (length image) (image-after (compiled image) buffer) ≡ written-part (compiled image)
+unfolding image-after written-part
+image-written image buffer = take-at image (drop (length image) buffer) (length image) refl
+
+pub image-rest : (image buffer : List ℕ) → drop (length image) (image-after (compiled image) buffer) ≡ drop (length image) buffer
+unfolding image-after
+image-rest image buffer = drop-at image (drop (length image) buffer) (length image) refl
+
+-- "0, 0 and bytes written on success; after 11 the bytes needed, otherwise length 0"
+pub answers : (question place needed : ℕ) (image : List ℕ)
+    → (compile-answer (refused question place) ≡ record { number = question; place = place; length = 0 })
+    × (compile-answer (too-long needed) ≡ record { number = 11; place = 0; length = needed })
+    × (compile-answer (compiled image) ≡ record { number = 0; place = 0; length = length (written-part (compiled image)) })
+unfolding compile-answer written-part
+answers question place needed image = (refl, refl, refl)
+
+-- The work area.
+pub work-short : (work : List ℕ) → length work < work-bytes → work-after work ≡ work
+unfolding work-after
+work-short work h = rw (lt-ltb (length work) work-bytes h)
+
+pub work-cleared : (work : List ℕ) → work-bytes ≤ length work → take work-bytes (work-after work) ≡ replicate work-bytes 0
+unfolding work-after
+work-cleared work h = rw (le-ltb (length work) work-bytes h) (take-at (replicate work-bytes 0) (drop work-bytes work) work-bytes (length-replicate {A = ℕ} work-bytes 0))
+
+pub work-rest : (work : List ℕ) → drop work-bytes (work-after work) ≡ drop work-bytes work
+unfolding work-after
+work-rest work =
+    ⊎-elim (λ h. rw (lt-ltb (length work) work-bytes h))
+    (λ h. rw (le-ltb (length work) work-bytes h) (drop-at (replicate work-bytes 0) (drop work-bytes work) work-bytes (length-replicate {A = ℕ} work-bytes 0)))
+    (lt-or-le (length work) work-bytes)

@@ -1,0 +1,121 @@
+-- The image of a typed sheet whose rules match no empty text is faithful to the sheet: it has the four facts from which a run
+-- gives the sheet's own answer.
+use mathlib.Core.Path.{_≡_, refl, sym, ap, subst, _∙_}
+use mathlib.Core.Bool.{Bool, true, false}
+use mathlib.Core.List.{List, [], _∷_, _++_, map, append-nil, append-assoc}
+use mathlib.Core.Option.{Option, none, some}
+use mathlib.Core.Logic.{_↔_}
+use Prim.Native.Nat.{ℕ, zero, suc, _+_, _≤_}
+use native.Mathlib.Omega.{arith}
+use lib.Dec.{eqb}
+use lib.ListN.{length, getD, length-map}
+use Rattle.stage0_laws.specs.Lists.{All}
+use Rattle.stage1_sheet.specs.Expression.{Expression}
+use Rattle.stage1_sheet.specs.Sheet.{Rule, Sheet}
+use Rattle.stage1_sheet.specs.WellFormed.{WithinLimits}
+use Rattle.stage2_types.specs.Denotation.{Language, Denotes}
+use Rattle.stage2_types.specs.Types.{LanguageType, _⊢_∶_}
+use Rattle.stage3_normal_form.specs.Productions.{Row, row-of}
+use Rattle.stage3_normal_form.specs.NormalForm.{normal-form}
+use Rattle.stage3_normal_form.specs.NodeLanguages.{language-of}
+use Rattle.stage3_normal_form.specs.Unfolding.{concatenation}
+use Rattle.stage3_normal_form.specs.Pending.{Ready, TokenStep, StepWords, step-words, end-exact, GrowsBy, ready-one}
+use Rattle.stage3_normal_form.specs.NormalFormLaws.{normal-form-fits, start-words}
+use Rattle.stage3_normal_form.specs.Tails.{pending-grows, most-growth}
+use Rattle.stage4_lexer.specs.Words.{RuleAt, first-rule, later-rule}
+use Rattle.stage4_lexer.specs.Positions.{empty-match}
+use Rattle.stage4_lexer.specs.LongestMatchLaws.{Right, match-right}
+use Rattle.stage5_image.specs.Fusion.{fused}
+use Rattle.stage5_image.specs.Numbering.{reached, number-of, numbered}
+use Rattle.stage5_image.specs.MetNodes.{Met}
+use Rattle.stage5_image.specs.Simulation.{Simulates, image-simulates}
+use Rattle.stage5_image.specs.ImageLaws.{normal-form-inside, normal-form-some}
+use Rattle.stage5_image.specs.Image.{Image, image-of, skips-rule}
+use Rattle.stage5_image.specs.Unfolding.{Returns}
+use Rattle.stage6_machine.specs.Run.{take-rule, all-nullable}
+use Rattle.stage6_machine.specs.OwnAnswer.{Allowed, ActionOf}
+use Rattle.stage6_machine.specs.TakingLaws.{Taken, taken, nullable-same, numbers-of, AllKnown}
+use Rattle.stage6_machine.specs.RunAnswers.{TakenIs, Faithful}
+
+-- The image's flag of a rule says whether it skips.
+skip-flag : {rules : List Rule} {k : ℕ} {r : Rule} → RuleAt rules k r → getD (map skips-rule rules) k false ≡ eqb (r .action) 0
+unfolding skips-rule
+skip-flag first-rule = refl
+skip-flag (later-rule a) = skip-flag a
+
+module _ (s : Sheet) {a : LanguageType} (limits : WithinLimits s) (typed : [] ⊢ s .expression ∶ a) where
+  abbrev e : Expression
+  e = s .expression
+
+  abbrev number : ℕ → ℕ
+  number = number-of (reached (fused (s .rules) (normal-form e)))
+
+  abbrev Known : ℕ → Type 0
+  Known n = Met n (reached (fused (s .rules) (normal-form e)))
+
+  same : Simulates (s .rules) (normal-form e) (numbered (fused (s .rules) (normal-form e))) number Known
+  same = image-simulates (s .rules) (normal-form e) (normal-form-inside e (s .tokens) (limits .closed)) (normal-form-some e)
+
+  -- The pending nonterminals stand for the tokens so far: they are the numbers of known nodes, which are ready, and the words of
+  -- these nodes are just what may follow the tokens in a denoted sequence.
+  pub record Stands (pending tokens : List ℕ) : Type 0 where
+    nodes : List ℕ
+    pending-are : pending ≡ map number nodes
+    known : All Known nodes
+    ready : Ready (language-of e) nodes
+    words : (w : List ℕ) → concatenation (language-of e) nodes w ↔ Denotes e (tokens ++ w)
+
+  -- The start stands for no tokens.
+  pub start-stands : Stands (0 ∷ []) []
+  start-stands = record {
+    nodes = 0 ∷ [];
+    pending-are = ap (λ n. n ∷ []) (sym (same .start-number));
+    known = (same .start-known, tt);
+    ready = ready-one (language-of e) 0;
+    words = start-words e;
+  }
+
+  ends : (pending tokens : List ℕ) → Stands pending tokens
+      → (all-nullable ((image-of s) .rows) pending ≡ true) ↔ Denotes e tokens
+  unfolding image-of
+  ends pending tokens h =
+      let n = nullable-same (s .rules) (normal-form e) (numbered (fused (s .rules) (normal-form e))) number Known same (h .nodes) (h .known) in
+      let x = end-exact (language-of e) (row-of (normal-form e)) (normal-form-fits typed) (h .nodes) in
+      let w : concatenation (language-of e) (h .nodes) [] ↔ Denotes e tokens = rw append-nil at (h .words []) in
+      rw (h .pending-are) (λ y. w .0 (x .0 (n .0 y)), λ y. n .1 (x .1 (w .1 y)))
+
+  -- What the token's step says of the words is what the sheet allows.
+  after-step : (pending tokens : List ℕ) (h : Stands pending tokens) (t : ℕ) (o : Option (List ℕ)) → StepWords (language-of e) t (h .nodes) o
+      → AllKnown Known o → GrowsBy most-growth (h .nodes) o → TakenIs s Stands pending tokens t (numbers-of number o)
+  after-step pending tokens h t none f k g = λ l. f (l .0) (h .words (t ∷ l .0) .1 (l .1))
+  after-step pending tokens h t (some next) f k g = (
+    (f .2 .0, h .words (t ∷ f .2 .0) .0 (f .2 .1)),
+    record {
+      nodes = next;
+      pending-are = refl;
+      known = k;
+      ready = f .0;
+      words = λ w. rw (append-assoc tokens (t ∷ []) w) (λ x. h .words (t ∷ w) .0 (f .1 w .1 x), λ x. f .1 w .0 (h .words (t ∷ w) .1 x));
+    },
+    omega (arith, ap length (h .pending-are), length-map (h .nodes) number, length-map next number),
+  )
+
+  takes-right : (pending tokens : List ℕ) (k t : ℕ) → Stands pending tokens → ActionOf s k (suc t)
+      → TakenIs s Stands pending tokens t (take-rule ((image-of s) .rows) pending k)
+  unfolding image-of
+  takes-right pending tokens k t h act =
+      let r : Returns (s .rules) k t = record { rule = act .0; at = act .1; returns = act .2 } in
+      let x = taken (s .rules) (normal-form e) (numbered (fused (s .rules) (normal-form e))) number Known same t k r (h .nodes) (h .known) in
+      let step = step-words (language-of e) (row-of (normal-form e)) (normal-form-fits typed) (x .token-step) (h .ready) in
+      let o : take-rule (numbered (fused (s .rules) (normal-form e))) pending k ≡ numbers-of number (x .after) =
+      ap (λ (l : List ℕ). take-rule (numbered (fused (s .rules) (normal-form e))) l k) (h .pending-are) ∙ x .numbered in
+      rw o (after-step pending tokens h t (x .after) step (x .known) (pending-grows typed (limits .nodes-most) (x .token-step)))
+
+  pub image-faithful : empty-match (s .rules) 0 ≡ none → Faithful s (image-of s) Stands
+  unfolding image-of
+  image-faithful no-empty = record {
+    matching = match-right (s .rules) no-empty;
+    skipping = λ k r at. skip-flag at;
+    taking = takes-right;
+    ending = ends;
+  }

@@ -1,0 +1,56 @@
+-- The three demands, each as one statement to be held against the page, over the definitions that the code's contracts cite.
+-- The proofs are elsewhere: `Proofs` puts them together.
+use mathlib.Core.Path.{_≡_}
+use mathlib.Core.List.{List}
+use mathlib.Core.Logic.{_↔_}
+use Prim.Native.Nat.{ℕ, _≤_}
+use lib.ListN.{length}
+use Rattle.stage1_sheet.specs.Sheet.{Sheet}
+use Rattle.stage1_sheet.specs.WellFormed.{Spells}
+use Rattle.stage1_sheet.specs.FieldLaws.{Bytes}
+use Rattle.stage1_sheet.specs.Field.{got}
+use Rattle.stage5_image.specs.Image.{image-of, image-bytes}
+use Rattle.stage5_image.specs.ImageReading.{read-image}
+use Rattle.stage5_image.specs.Unfolding.{StartUnfolds, DenotedRules}
+use Rattle.stage5_image.specs.Compile.{work-bytes, compiled, compile, image-after, work-after}
+use Rattle.stage5_image.specs.CompileLaws.{Acceptable}
+use Rattle.stage5_image.specs.CompileQuestions.{Compiles}
+use Rattle.stage6_machine.specs.Answer.{Answer}
+use Rattle.stage6_machine.specs.Run.{most-text-bytes, run, long-enough, stack-after}
+use Rattle.stage6_machine.specs.OwnAnswer.{OwnAnswer}
+use Rattle.stage6_machine.specs.RunNumbers.{RunEnds}
+
+-- Demand 1. "A caller may hand over any sheet, image, text and buffers, of any length and content, and always gets an answer that
+-- document 01 fixes: a result, or the number and place of the first question that fails, and what every lent buffer then holds."
+-- Compiling and running are functions of all that is handed over (`compile`, `run`), and so are the buffers at the end
+-- (`image-after`, `work-after`, `stack-after`): the code's contracts are equations with them. Here, that compiling ends at the first
+-- question that fails, in the page's terms; that running ends with one of the page's numbers; and that buffers keep their lengths.
+pub record Demand1 : Type 0 where
+  pub compiling : (sheet : List ℕ) → Bytes sheet → (work room : ℕ) → Compiles sheet work room (compile sheet work room)
+  pub running : (image text : List ℕ) (entries : ℕ) → RunEnds (length text) (length image) (run image text entries)
+  pub image-kept : (sheet : List ℕ) (work : ℕ) (buffer : List ℕ)
+      → length (image-after (compile sheet work (length buffer)) buffer) ≡ length buffer
+  pub work-kept : (work : List ℕ) → length (work-after work) ≡ length work
+  pub stack-kept : (a : Answer) (stack : List ℕ) → length (stack-after a stack) ≡ length stack
+
+-- Demand 2. "Given the work area that document 01 names, a sheet is accepted exactly if it is well formed, no lexer rule matches the
+-- empty text, its expression has a type under the published typing rules, and the image fits. The image is then the one normal
+-- form that document 01 sets out, and its start unfolds to exactly the rule sequences that spell a token sequence which the
+-- expression denotes, each token spelled by any rule that returns it."
+pub record Demand2 : Type 0 where
+  pub accepted-exactly : (sheet : List ℕ) → Bytes sheet → (work room : ℕ) → work-bytes ≤ work
+      → ((image : List ℕ) × (compile sheet work room ≡ compiled image)) ↔ ((s : Sheet) × Acceptable sheet room s)
+  pub normal-form : (sheet : List ℕ) → Bytes sheet → (work room : ℕ) (image : List ℕ) → compile sheet work room ≡ compiled image
+      → (s : Sheet) → Spells sheet s
+      → (image ≡ image-bytes (image-of s)) × (read-image image ≡ got (image-of s) (length image))
+  pub unfolds-exactly : (sheet : List ℕ) → Bytes sheet → (work room : ℕ) (image : List ℕ) → compile sheet work room ≡ compiled image
+      → (s : Sheet) → Spells sheet s → (rules : List ℕ) → StartUnfolds ((image-of s) .rows) rules ↔ DenotedRules s rules
+
+-- Demand 3. "Whatever bytes a text holds, for every sheet that demand 2 accepts, running the image fixed there over the text gives
+-- exactly the sheet's own answer .. Only, the text must be within the limit and the stack have at least 1 + 30 × its length entries."
+pub record Demand3 : Type 0 where
+  pub own-answer : (sheet : List ℕ) → Bytes sheet → (work room : ℕ) (image : List ℕ) → compile sheet work room ≡ compiled image
+      → (s : Sheet) → Spells sheet s
+      → (text : List ℕ) (entries : ℕ) → length text ≤ most-text-bytes → long-enough text ≤ entries
+      → OwnAnswer s text (run image text entries)
+  pub exactly : (s : Sheet) (text : List ℕ) (a b : Answer) → OwnAnswer s text a → OwnAnswer s text b → a ≡ b

@@ -1,0 +1,18 @@
+-- Sheet D's image, byte for byte as document 01 lists it.
+use mathlib.Core.List.{List, [], _∷_, _++_}
+use Prim.Native.Nat.{ℕ}
+
+-- The part of the image that D's rules alone make: version, skips, positions and first set.
+abbrev pub rules-of-image-D : List ℕ
+rules-of-image-D =
+    1 ∷ 3 ∷ 0 ∷ 0 ∷ 1 ∷ 4
+    ∷ 48 ∷ 57 ∷ 0 ∷ 1 ∷ 2
+    ∷ 48 ∷ 57 ∷ 0 ∷ 1 ∷ 2
+    ∷ 47 ∷ 47 ∷ 1 ∷ 1 ∷ 0
+    ∷ 32 ∷ 32 ∷ 2 ∷ 1 ∷ 0
+    ∷ 13 ∷ []
+
+abbrev pub image-D : List ℕ
+image-D =
+    rules-of-image-D
+    ++ (4 ∷ 0 ∷ 1 ∷ 0 ∷ 1 ∷ 1 ∷ 1 ∷ 1 ∷ 1 ∷ 1 ∷ 2 ∷ 0 ∷ 1 ∷ 0 ∷ 1 ∷ 3 ∷ 1 ∷ 1 ∷ 1 ∷ 1 ∷ 2 ∷ [])

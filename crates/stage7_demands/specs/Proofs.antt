@@ -1,0 +1,122 @@
+-- The demands hold: their parts put together.
+use mathlib.Core.Path.{_≡_, refl, sym, ap, subst, _∙_}
+use mathlib.Core.Bool.{Bool, true, false, cond, _||_}
+use mathlib.Core.List.{List, _++_}
+use mathlib.Core.Logic.{_↔_}
+use mathlib.Core.Option.{none}
+use Prim.Native.Nat.{ℕ, _≤_}
+use native.Mathlib.Omega.{arith}
+use lib.ListN.{length, drop, replicate, length-append, length-drop, length-replicate}
+use lib.Dec.{eqb, ltb}
+use borrow.Author.Tests.{le-ltb, ltb-false}
+use Rattle.stage1_sheet.specs.Sheet.{Sheet}
+use Rattle.stage1_sheet.specs.WellFormed.{Spells}
+use Rattle.stage1_sheet.specs.FieldLaws.{Bytes}
+use Rattle.stage1_sheet.specs.Field.{got}
+use Rattle.stage1_sheet.specs.ReadingLaws.{spelled-once}
+use Rattle.stage4_lexer.specs.Positions.{empty-match}
+use Rattle.stage4_lexer.specs.EmptyWord.{none-empty}
+use Rattle.stage5_image.specs.Image.{image-of, image-bytes}
+use Rattle.stage5_image.specs.ImageReading.{read-image}
+use Rattle.stage5_image.specs.Unfolding.{StartUnfolds, DenotedRules}
+use Rattle.stage5_image.specs.ImageLaws.{image-denotes, image-read-back}
+use Rattle.stage5_image.specs.Compile.{work-bytes, Compiled, refused, too-long, compiled, compile, image-after, work-after}
+use Rattle.stage5_image.specs.CompileLaws.{Acceptable, acceptable-compiles, compiled-acceptable, compiled-fits}
+use Rattle.stage5_image.specs.CompileQuestions.{compile-answers}
+use Rattle.stage6_machine.specs.Answer.{Answer}
+use Rattle.stage6_machine.specs.Run.{most-text-bytes, run, run-reading, long-enough, stack-after}
+use Rattle.stage6_machine.specs.OwnAnswer.{OwnAnswer}
+use Rattle.stage6_machine.specs.OwnAnswerLaws.{own-answer-one}
+use Rattle.stage6_machine.specs.RunNumbers.{run-ends}
+use Rattle.stage6_machine.specs.RunAnswers.{run-image-answers}
+use Rattle.stage6_machine.specs.FaithfulImage.{Stands, start-stands, image-faithful}
+use Rattle.stage7_demands.specs.Demands.{Demand1, Demand2, Demand3}
+
+-- ---- demand 1
+
+image-kept : (sheet : List ℕ) (work : ℕ) (buffer : List ℕ) → length (image-after (compile sheet work (length buffer)) buffer) ≡ length buffer
+unfolding image-after
+image-kept sheet work buffer = go (compile sheet work (length buffer)) refl
+  where
+    go : (c : Compiled) → compile sheet work (length buffer) ≡ c → length (image-after c buffer) ≡ length buffer
+    go (refused question place) e = refl
+    go (too-long needed) e = refl
+    go (compiled image) e =
+        let fits = compiled-fits sheet work (length buffer) image e in
+        omega (arith, length-append image (drop (length image) buffer), length-drop (length image) buffer)
+
+work-kept : (work : List ℕ) → length (work-after work) ≡ length work
+unfolding work-after
+work-kept work = go (ltb (length work) work-bytes) refl
+  where
+    go : (b : Bool) → ltb (length work) work-bytes ≡ b → length (cond b work (replicate work-bytes 0 ++ drop work-bytes work)) ≡ length work
+    go true e = refl
+    go false e =
+        let l = ltb-false (length work) work-bytes e in
+        omega (arith, length-append (replicate work-bytes 0) (drop work-bytes work), length-replicate {A = ℕ} work-bytes 0, length-drop work-bytes work)
+
+stack-kept : (a : Answer) (stack : List ℕ) → length (stack-after a stack) ≡ length stack
+unfolding stack-after
+stack-kept a stack = go (eqb (a .number) 12 || eqb (a .number) 13)
+  where
+    go : (b : Bool) → length (cond b stack (replicate (length stack) 0)) ≡ length stack
+    go true = refl
+    go false = length-replicate {A = ℕ} (length stack) 0
+
+pub demand-1 : Demand1
+demand-1 = record { compiling = λ sheet bytes work room. compile-answers sheet work room bytes; running = run-ends; image-kept = image-kept; work-kept = work-kept; stack-kept = stack-kept }
+
+-- ---- demand 2
+
+accepted-exactly : (sheet : List ℕ) → Bytes sheet → (work room : ℕ) → work-bytes ≤ work
+    → ((image : List ℕ) × (compile sheet work room ≡ compiled image)) ↔ ((s : Sheet) × Acceptable sheet room s)
+accepted-exactly sheet bytes work room w = (
+  (λ h. let a = compiled-acceptable sheet bytes work room (h .0) (h .1) in (a .1 .0, a .1 .1)),
+  λ a. (image-bytes (image-of (a .0)), acceptable-compiles sheet work room (a .0) w (a .1)),
+)
+
+-- The sheet that was accepted is the sheet that the bytes spell.
+accepted-sheet : (sheet : List ℕ) → Bytes sheet → (work room : ℕ) (image : List ℕ) → compile sheet work room ≡ compiled image
+    → (s : Sheet) → Spells sheet s → Acceptable sheet room s × (image ≡ image-bytes (image-of s))
+accepted-sheet sheet bytes work room image e s spells =
+    let a = compiled-acceptable sheet bytes work room image e in
+    let same : a .1 .0 ≡ s = spelled-once sheet (a .1 .0) s ((a .1 .1) .well-formed) spells in
+    (subst (Acceptable sheet room) same (a .1 .1), subst (λ t. image ≡ image-bytes (image-of t)) same (a .1 .2))
+
+no-empty : (s : Sheet) (sheet : List ℕ) (room : ℕ) → Acceptable sheet room s → empty-match (s .rules) 0 ≡ none
+no-empty s sheet room a = none-empty (s .rules) .1 (a .no-empty-text)
+
+accepted-normal-form : (sheet : List ℕ) → Bytes sheet → (work room : ℕ) (image : List ℕ) → compile sheet work room ≡ compiled image
+    → (s : Sheet) → Spells sheet s
+    → (image ≡ image-bytes (image-of s)) × (read-image image ≡ got (image-of s) (length image))
+accepted-normal-form sheet bytes work room image e s spells =
+    let a = accepted-sheet sheet bytes work room image e s spells in
+    let r = image-read-back s (spells .limits) (no-empty s sheet room (a .0)) (((a .0) .has-type) .1) in
+    (a .1, subst (λ l. read-image l ≡ got (image-of s) (length l)) (sym (a .1)) r)
+
+unfolds-exactly : (sheet : List ℕ) → Bytes sheet → (work room : ℕ) (image : List ℕ) → compile sheet work room ≡ compiled image
+    → (s : Sheet) → Spells sheet s → (rules : List ℕ) → StartUnfolds ((image-of s) .rows) rules ↔ DenotedRules s rules
+unfolds-exactly sheet bytes work room image e s spells =
+    let a = accepted-sheet sheet bytes work room image e s spells in
+    image-denotes s ((spells .limits) .closed) (((a .0) .has-type) .1)
+
+pub demand-2 : Demand2
+demand-2 = record { accepted-exactly = accepted-exactly; normal-form = accepted-normal-form; unfolds-exactly = unfolds-exactly }
+
+-- ---- demand 3
+
+own-answer : (sheet : List ℕ) → Bytes sheet → (work room : ℕ) (image : List ℕ) → compile sheet work room ≡ compiled image
+    → (s : Sheet) → Spells sheet s
+    → (text : List ℕ) (entries : ℕ) → length text ≤ most-text-bytes → long-enough text ≤ entries
+    → OwnAnswer s text (run image text entries)
+unfolding run run-reading
+own-answer sheet bytes work room image e s spells text entries short room-enough =
+    let a = (accepted-sheet sheet bytes work room image e s spells) .0 in
+    let typed = (a .has-type) .1 in
+    let r = (accepted-normal-form sheet bytes work room image e s spells) .1 in
+    rw (le-ltb most-text-bytes (length text) short, r)
+    (run-image-answers s text (image-of s) entries (Stands s (spells .limits) typed) (image-faithful s (spells .limits) typed (no-empty s sheet room a))
+    room-enough (start-stands s (spells .limits) typed))
+
+pub demand-3 : Demand3
+demand-3 = record { own-answer = own-answer; exactly = λ s text a b. own-answer-one s text }
