@@ -17,13 +17,13 @@ ghost use Rattle.stage5_image_reader.specs.Decoded.{LexerRead, read-gram
 use stage4_lexer_columns::PositionColumns;
 
 // What a field gives: a value and the place after it, or the place of question 13.
-pub enum Field {
+enum Field {
     Value(u64, usize),
     Refused(usize),
 }
 
 // A position that was read: its values and the place after it, or the place of question 13.
-pub enum PositionRead {
+enum PositionRead {
     Position {
         low: u8,
         high: u8,
@@ -36,22 +36,22 @@ pub enum PositionRead {
 }
 
 // Positions, as columns, and the place after them, or the place of question 13.
-pub struct PositionsRead {
-    pub end: Field,
-    pub columns: PositionColumns,
+struct PositionsRead {
+    end: Field,
+    columns: PositionColumns,
 }
 
 // A production that was read: its rule, the place of its tail's length and the place after it, or the place of question 13.
-pub enum ProductionRead {
+enum ProductionRead {
     Production { rule: u64, tail: usize, next: usize },
     Refused(usize),
 }
 
 // What bounds the values of productions: the number of rules, those that skip, and the number of nonterminals.
-pub struct Bounds {
-    pub rules: u64,
-    pub skips: u64,
-    pub nonterminals: u64,
+struct Bounds {
+    rules: u64,
+    skips: u64,
+    nonterminals: u64,
 }
 
 // The tables of an image. The entry of `productions` for a nonterminal n and a rule r stands at n * 32 + r: 0 where n has no
