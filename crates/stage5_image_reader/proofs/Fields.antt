@@ -154,7 +154,8 @@ field-one-byte p bytes at {v} {next} hb e h =
     record {
       after = omega (arith, g .after);
       inside = l;
-      byte = ap (λ (n : ℕ). getD bytes n 0) (omega arith) ∙ sym (getD-drop at bytes 0 0) ∙ sym (getD-take 1 (drop at bytes) 0 0 (omega arith)) ∙ ap (λ (x : List ℕ). getD x 0 0) s;
+      byte = ap (λ (n : ℕ). getD bytes n 0) (omega arith) ∙ sym (getD-drop at bytes 0 0)
+          ∙ sym (getD-take 1 (drop at bytes) 0 0 (omega arith)) ∙ ap (λ (x : List ℕ). getD x 0 0) s;
     }
 
 -- ---- answers
@@ -194,7 +195,8 @@ answers-refusal {A} {P} {x} {p} h = record {
     refused-at : {q : ℕ} → Refused p ≡ Refused q → p ≡ q
     refused-at {q} e = cc
 
-pub refusal-answers : {A : Type 0} {P : ℕ → A → Type 0} {r : Field} {x : Reading A} {p q : ℕ} → Answers P r x → r ≡ Refused p → q ≡ place-of r
+pub refusal-answers : {A : Type 0} {P : ℕ → A → Type 0} {r : Field} {x : Reading A} {p q : ℕ} → Answers P r x → r ≡ Refused p
+    → q ≡ place-of r
     → x ≡ stop 13 q
 refusal-answers a h k = a .refusal h ∙ ap (stop 13) (refusal-place h k)
 
@@ -213,13 +215,16 @@ flag-stops bytes at e = rw e
 -- The largest value of a field is one below its limit.
 pub below-limit : (limit : ℕ) → 1 ≤ limit → (v : ℕ) → leb v (limit - 1) ≡ ltb v limit
 below-limit limit h v =
-    ⊎-elim (λ l. le-leb v (limit - 1) (omega arith) ∙ sym (lt-ltb v limit l)) (λ l. lt-leb v (limit - 1) (omega arith) ∙ sym (le-ltb v limit l))
+    ⊎-elim (λ l. le-leb v (limit - 1) (omega arith) ∙ sym (lt-ltb v limit l))
+    (λ l. lt-leb v (limit - 1) (omega arith) ∙ sym (le-ltb v limit l))
     (lt-or-le v limit)
 
-pub field-below : (bytes : List ℕ) (limit at : ℕ) → 1 ≤ limit → image-field (between 0 (limit - 1)) bytes at ≡ image-field (λ v. ltb v limit) bytes at
+pub field-below : (bytes : List ℕ) (limit at : ℕ) → 1 ≤ limit
+    → image-field (between 0 (limit - 1)) bytes at ≡ image-field (λ v. ltb v limit) bytes at
 unfolding between
 field-below bytes limit at h =
-    field-same (between 0 (limit - 1)) (λ v. ltb v limit) bytes at (λ v. ap (λ (b : Bool). b && leb v (limit - 1)) (le-leb 0 v (omega arith)) ∙ below-limit limit h v)
+    field-same (between 0 (limit - 1)) (λ v. ltb v limit) bytes at
+    (λ v. ap (λ (b : Bool). b && leb v (limit - 1)) (le-leb 0 v (omega arith)) ∙ below-limit limit h v)
 
 -- ---- places
 

@@ -77,7 +77,8 @@ getD-listed f i zero k d h = absurd (omega arith)
 getD-listed f i (suc n) zero d h = ap f (sym (add-zero i))
 getD-listed f i (suc n) (suc k) d h = getD-listed f (suc i) n k d (omega arith) ∙ ap f (omega arith)
 
-pub listed-is : {A : Type 0} (f : ℕ → A) (d : A) (n : ℕ) (l : List A) → length l ≡ n → ((k : ℕ) → k < n → f k ≡ getD l k d) → l ≡ listed f 0 n
+pub listed-is : {A : Type 0} (f : ℕ → A) (d : A) (n : ℕ) (l : List A) → length l ≡ n → ((k : ℕ) → k < n → f k ≡ getD l k d)
+    → l ≡ listed f 0 n
 listed-is f d n l hl h =
     ext-getD d l (listed f 0 n) (hl ∙ sym (length-listed f 0 n))
     (λ k m. sym (h k (omega arith)) ∙ sym (getD-listed f 0 n k d (omega arith) ∙ ap f (zero-add k)))

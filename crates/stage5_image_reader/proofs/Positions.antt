@@ -31,7 +31,8 @@ pub field-rule : (bytes : List ℕ) (least rules at : ℕ) → 1 ≤ rules
     → image-field (between least (rules - 1)) bytes at ≡ image-field (λ v. leb least v && ltb v rules) bytes at
 unfolding between
 field-rule bytes least rules at h =
-    field-same (between least (rules - 1)) (λ v. leb least v && ltb v rules) bytes at (λ v. ap (λ (b : Bool). leb least v && b) (below-limit rules h v))
+    field-same (between least (rules - 1)) (λ v. leb least v && ltb v rules) bytes at
+    (λ v. ap (λ (b : Bool). leb least v && b) (below-limit rules h v))
 
 -- A set of the first positions.
 pub field-set : (bytes : List ℕ) (count at : ℕ) {m : ℕ} → m ≡ 2 ^ count - 1
@@ -45,34 +46,42 @@ module _ (bytes : List ℕ) (rules count least at : ℕ) where
   low-stops e = rw e
 
   module _ {low at-high : ℕ} (e : image-field (between 0 255) bytes at ≡ got low at-high) where
-    pub high-stops : {p : ℕ} → image-field (between low 255) bytes at-high ≡ stop 13 p → read-position bytes rules count least at ≡ stop 13 p
+    pub high-stops : {p : ℕ} → image-field (between low 255) bytes at-high ≡ stop 13 p
+        → read-position bytes rules count least at ≡ stop 13 p
     unfolding read-position
     high-stops e₂ = rw (e, e₂)
 
     module _ (h : 1 ≤ rules) {high at-rule : ℕ} (e₂ : image-field (between low 255) bytes at-high ≡ got high at-rule) where
-      pub rule-stops : {p : ℕ} → image-field (between least (rules - 1)) bytes at-rule ≡ stop 13 p → read-position bytes rules count least at ≡ stop 13 p
+      pub rule-stops : {p : ℕ} → image-field (between least (rules - 1)) bytes at-rule ≡ stop 13 p
+          → read-position bytes rules count least at ≡ stop 13 p
       unfolding read-position
       rule-stops e₃ = rw (e, e₂, sym (field-rule bytes least rules at-rule h) ∙ e₃)
 
       module _ {rule at-last : ℕ} (e₃ : image-field (between least (rules - 1)) bytes at-rule ≡ got rule at-last) where
-        pub last-stops : {p : ℕ} → image-field (between 0 1) bytes at-last ≡ stop 13 p → read-position bytes rules count least at ≡ stop 13 p
+        pub last-stops : {p : ℕ} → image-field (between 0 1) bytes at-last ≡ stop 13 p
+            → read-position bytes rules count least at ≡ stop 13 p
         unfolding read-position
         last-stops e₄ = rw (e, e₂, sym (field-rule bytes least rules at-rule h) ∙ e₃, flag-stops bytes at-last e₄)
 
         module _ {last at-follow : ℕ} (e₄ : image-field (between 0 1) bytes at-last ≡ got last at-follow) where
-          pub follow-stops : {m p : ℕ} → m ≡ 2 ^ count - 1 → image-field (between 0 m) bytes at-follow ≡ stop 13 p → read-position bytes rules count least at ≡ stop 13 p
+          pub follow-stops : {m p : ℕ} → m ≡ 2 ^ count - 1 → image-field (between 0 m) bytes at-follow ≡ stop 13 p
+              → read-position bytes rules count least at ≡ stop 13 p
           unfolding read-position
           follow-stops l e₅ =
-              rw (e, e₂, sym (field-rule bytes least rules at-rule h) ∙ e₃, flag-reads bytes at-last e₄, sym (field-set bytes count at-follow l) ∙ e₅)
+              let rule-reads = sym (field-rule bytes least rules at-rule h) ∙ e₃ in
+              rw (e, e₂, rule-reads, flag-reads bytes at-last e₄, sym (field-set bytes count at-follow l) ∙ e₅)
 
           pub position-reads : {m follow next : ℕ} → m ≡ 2 ^ count - 1 → image-field (between 0 m) bytes at-follow ≡ got follow next
-              → read-position bytes rules count least at ≡ got (record { low = low; high = high; rule = rule; last = eqb last 1; follow = follow }) next
+              → read-position bytes rules count least at
+              ≡ got (record { low = low; high = high; rule = rule; last = eqb last 1; follow = follow }) next
           unfolding read-position
           position-reads l e₅ =
-              rw (e, e₂, sym (field-rule bytes least rules at-rule h) ∙ e₃, flag-reads bytes at-last e₄, sym (field-set bytes count at-follow l) ∙ e₅)
+              let rule-reads = sym (field-rule bytes least rules at-rule h) ∙ e₃ in
+              rw (e, e₂, rule-reads, flag-reads bytes at-last e₄, sym (field-set bytes count at-follow l) ∙ e₅)
 
 -- A position that was read has a rule below the number of rules, and so have all that were read.
-position-below : (bytes : List ℕ) (rules count least at : ℕ) {p : Position} {next : ℕ} → read-position bytes rules count least at ≡ got p next
+position-below : (bytes : List ℕ) (rules count least at : ℕ) {p : Position} {next : ℕ}
+    → read-position bytes rules count least at ≡ got p next
     → p .rule < rules
 unfolding read-position
 position-below bytes rules count least at {p} {next} e =
@@ -89,7 +98,8 @@ position-below bytes rules count least at {p} {next} e =
     got-rule : {q : Position} {n : ℕ} → got q n ≡ got p next → q .rule ≡ p .rule
     got-rule {q} {n} f = let g : q ≡ p = cc in ap (λ (x : Position). x .rule) g
 
-pub positions-below : (bytes : List ℕ) (rules count at : ℕ) {ps : List Position} {next : ℕ} → positions-in bytes rules count at ≡ got ps next
+pub positions-below : (bytes : List ℕ) (rules count at : ℕ) {ps : List Position} {next : ℕ}
+    → positions-in bytes rules count at ≡ got ps next
     → All (λ p. p .rule < rules) ps
 positions-below bytes rules count at e =
     many-all (read-position bytes rules count) (λ least p. p .rule) (λ p. p .rule < rules)
@@ -104,7 +114,8 @@ no-position = record { low = 0; high = 0; rule = 0; last = false; follow = 0 }
 abbrev Column : (Position → ℕ) → List ℕ → List Position → Type 0
 Column f col ps = (k : ℕ) → k < length ps → getD col k 0 ≡ f (getD ps k no-position)
 
-column-more : (f : Position → ℕ) (col : List ℕ) (ps : List Position) (p : Position) (i : ℕ) → length ps ≡ i → i < length col → Column f col ps
+column-more : (f : Position → ℕ) (col : List ℕ) (ps : List Position) (p : Position) (i : ℕ) → length ps ≡ i → i < length col
+    → Column f col ps
     → Column f (set col i (f p)) (ps ++ (p ∷ []))
 column-more f col ps p i hl h c k m = ⊎-elim below last (lt-or-le k i)
   where
@@ -115,7 +126,8 @@ column-more f col ps p i hl h c k m = ⊎-elim below last (lt-or-le k i)
     last : i ≤ k → getD (set col i (f p)) k 0 ≡ f (getD (ps ++ (p ∷ [])) k no-position)
     last l =
         let e : k ≡ i = omega (arith, length-append ps (p ∷ [])) in
-        ap (λ (x : ℕ). getD (set col i (f p)) x 0) e ∙ getD-set-same col i (f p) 0 h ∙ ap f (sym (snoc-last ps p no-position k (omega arith)))
+        ap (λ (x : ℕ). getD (set col i (f p)) x 0) e ∙ getD-set-same col i (f p) 0 h
+        ∙ ap f (sym (snoc-last ps p no-position k (omega arith)))
 
 -- Columns that hold these positions.
 pub record Columns (c : PositionColumns) (ps : List Position) : Type 0 where
@@ -169,15 +181,18 @@ pub columns-next : (c c' : PositionColumns) (ps : List Position) (low high rule 
     → c' ≡ with-position c low high rule last follow
     → Columns c' (ps ++ (record { low = low; high = high; rule = rule; last = eqb last 1; follow = follow } ∷ []))
 columns-next c c' ps low high rule last follow h s e =
-    subst (λ (x : PositionColumns). Columns x (ps ++ (record { low = low; high = high; rule = rule; last = eqb last 1; follow = follow } ∷ []))) (sym e)
+    let p : Position = record { low = low; high = high; rule = rule; last = eqb last 1; follow = follow } in
+    subst (λ (x : PositionColumns). Columns x (ps ++ (p ∷ []))) (sym e)
     (columns-more c ps low high rule last follow h s)
 
-pub columns-count : (c c' : PositionColumns) (low high rule last follow : ℕ) → c' ≡ with-position c low high rule last follow → c' .count ≡ c .count + 1
+pub columns-count : (c c' : PositionColumns) (low high rule last follow : ℕ) → c' ≡ with-position c low high rule last follow
+    → c' .count ≡ c .count + 1
 unfolding with-position
 columns-count c c' low high rule last follow e = ap (λ (x : PositionColumns). x .count) e
 
 -- Positions with the same values are one.
-same-position : (p q : Position) → p .low ≡ q .low → p .high ≡ q .high → p .rule ≡ q .rule → p .last ≡ q .last → p .follow ≡ q .follow → p ≡ q
+same-position : (p q : Position) → p .low ≡ q .low → p .high ≡ q .high → p .rule ≡ q .rule → p .last ≡ q .last → p .follow ≡ q .follow
+    → p ≡ q
 same-position p q a b c d e =
     ap (λ (x : ℕ). record { low = x; high = p .high; rule = p .rule; last = p .last; follow = p .follow }) a
     ∙ ap (λ (x : ℕ). record { low = q .low; high = x; rule = p .rule; last = p .last; follow = p .follow }) b
@@ -185,7 +200,8 @@ same-position p q a b c d e =
     ∙ ap (λ (x : Bool). record { low = q .low; high = q .high; rule = q .rule; last = x; follow = p .follow }) d
     ∙ ap (λ (x : ℕ). record { low = q .low; high = q .high; rule = q .rule; last = q .last; follow = x }) e
 
-from-listed : (low high rule follow : List ℕ) (last i n : ℕ) → held-from low high rule follow last i n ≡ listed (held-position low high rule follow last) i n
+from-listed : (low high rule follow : List ℕ) (last i n : ℕ)
+    → held-from low high rule follow last i n ≡ listed (held-position low high rule follow last) i n
 unfolding held-from listed
 from-listed low high rule follow last i zero = refl
 from-listed low high rule follow last i (suc n) =

@@ -105,12 +105,14 @@ module _ (skips rules least : ℕ) (h : 1 ≤ rules) where
 -- ---- reading a production
 
 module _ (bytes : List ℕ) (skips : List Bool) (count least at : ℕ) where
-  pub rule-stops : {p : ℕ} → image-field (rule-test skips least) bytes at ≡ stop 13 p → read-production bytes skips count least at ≡ stop 13 p
+  pub rule-stops : {p : ℕ} → image-field (rule-test skips least) bytes at ≡ stop 13 p
+      → read-production bytes skips count least at ≡ stop 13 p
   unfolding read-production rule-test
   rule-stops e = rw e
 
   module _ {rule at-length : ℕ} (e : image-field (rule-test skips least) bytes at ≡ got rule at-length) where
-    pub size-stops : {p : ℕ} → image-field (between 0 31) bytes at-length ≡ stop 13 p → read-production bytes skips count least at ≡ stop 13 p
+    pub size-stops : {p : ℕ} → image-field (between 0 31) bytes at-length ≡ stop 13 p
+        → read-production bytes skips count least at ≡ stop 13 p
     unfolding read-production rule-test
     size-stops e₂ = rw (e, e₂)
 
@@ -127,7 +129,8 @@ module _ (bytes : List ℕ) (skips : List Bool) (count least at : ℕ) where
 
 -- The tail that was read stands behind its length.
 pub tail-at : (bytes : List ℕ) (n place size at-tail : ℕ) (tail : List ℕ) → ((i : ℕ) → getD bytes i 0 < 256)
-    → image-field (between 0 31) bytes place ≡ got size at-tail → length tail ≡ size → Members bytes at-tail n tail → TailAt bytes n place tail
+    → image-field (between 0 31) bytes place ≡ got size at-tail → length tail ≡ size → Members bytes at-tail n tail
+    → TailAt bytes n place tail
 tail-at bytes n place size at-tail tail hb e l m =
     let r = field-range 0 31 bytes place e in
     let o = field-one-byte (between 0 31) bytes place hb e (omega arith) in
@@ -142,7 +145,8 @@ tail-at bytes n place size at-tail tail hb e l m =
 some-none : {A X : Type 0} {a : A} → some a ≡ none → X
 some-none {A} {X} {a} e = let z : _≡_ {A = ℕ} 0 1 = cc in absurd (omega arith)
 
-production-new : (r : ℕ) (ps : List Production) (p : Production) → production-of r ps ≡ none → p .head ≡ r → production-of r (ps ++ (p ∷ [])) ≡ some p
+production-new : (r : ℕ) (ps : List Production) (p : Production) → production-of r ps ≡ none → p .head ≡ r
+    → production-of r (ps ++ (p ∷ [])) ≡ some p
 unfolding production-of
 production-new r [] p e h = rw (eq-eqb (p .head) r h, production-of)
 production-new r (q ∷ ps) p e h = go (eqb (q .head) r) (λ f. production-new r ps p f h) e
@@ -153,13 +157,15 @@ production-new r (q ∷ ps) p e h = go (eqb (q .head) r) (λ f. production-new r
     go true ih f = some-none f
     go false ih f = ih f
 
-production-other : (r : ℕ) (ps : List Production) (p : Production) → (p .head ≡ r → ⊥) → production-of r (ps ++ (p ∷ [])) ≡ production-of r ps
+production-other : (r : ℕ) (ps : List Production) (p : Production) → (p .head ≡ r → ⊥)
+    → production-of r (ps ++ (p ∷ [])) ≡ production-of r ps
 unfolding production-of
 production-other r [] p h = rw (ne-eqb (p .head) r h, production-of)
 production-other r (q ∷ ps) p h = go (eqb (q .head) r) (production-other r ps p h)
   where
     go : (b : Bool) → production-of r (ps ++ (p ∷ [])) ≡ production-of r ps
-        → _≡_ {A = Option Production} (elim b [ true ↦ some q | false ↦ production-of r (ps ++ (p ∷ [])) ]) (elim b [ true ↦ some q | false ↦ production-of r ps ])
+        → _≡_ {A = Option Production} (elim b [ true ↦ some q | false ↦ production-of r (ps ++ (p ∷ [])) ])
+        (elim b [ true ↦ some q | false ↦ production-of r ps ])
     go true ih = refl
     go false ih = ih
 
@@ -182,10 +188,12 @@ entering-none bytes n base table z = record {
   room = record { size = z .size; zero-from = λ k h. z .zero-from k (omega arith) };
 }
 
-module _ (bytes : List ℕ) (n base : ℕ) (table₀ table : List ℕ) (least : ℕ) (ps : List Production) (s : Entering bytes n base table₀ table least ps)
+module _ (bytes : List ℕ) (n base : ℕ) (table₀ table : List ℕ) (least : ℕ) (ps : List Production)
+    (s : Entering bytes n base table₀ table least ps)
     (rule place : ℕ) (p : Production) (head : p .head ≡ rule) (l : least ≤ rule) (b : rule < 32) (fits : base + 32 ≤ 2048)
     (t : TailAt bytes n place (p .tail)) where
-  entry-new : (r : ℕ) → r ≡ rule → EntryIs bytes n (getD (set table (base + rule) (place + 1)) (base + r) 0) (production-of r (ps ++ (p ∷ [])))
+  entry-new : (r : ℕ) → r ≡ rule
+      → EntryIs bytes n (getD (set table (base + rule) (place + 1)) (base + r) 0) (production-of r (ps ++ (p ∷ [])))
   entry-new r e =
       let o : production-of r (ps ++ (p ∷ [])) ≡ some p = production-new r ps p (s .free r (omega arith)) (head ∙ sym e) in
       let g : getD (set table (base + rule) (place + 1)) (base + r) 0 ≡ place + 1 =
@@ -204,7 +212,8 @@ module _ (bytes : List ℕ) (n base : ℕ) (table₀ table : List ℕ) (least : 
 
   pub entering-more : Entering bytes n base table₀ (set table (base + rule) (place + 1)) (rule + 1) (ps ++ (p ∷ []))
   entering-more = record {
-    entries = λ r h. ⊎-elim (λ m. entry-other r h (λ e. omega arith)) (⊎-elim (λ e. entry-new r e) (λ m. entry-other r h (λ e. omega arith))) (compare-cases r rule);
+    entries = λ r h. ⊎-elim (λ m. entry-other r h (λ e. omega arith))
+        (⊎-elim (λ e. entry-new r e) (λ m. entry-other r h (λ e. omega arith))) (compare-cases r rule);
     free = λ r h. production-other r ps p (λ e. omega (arith, head)) ∙ s .free r (omega arith);
     same = λ k h. getD-set-other table (base + rule) k (place + 1) 0 (λ e. omega arith) ∙ s .same k h;
     room = record {

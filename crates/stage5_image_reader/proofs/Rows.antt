@@ -33,7 +33,8 @@ module _ (bytes : List ℕ) (skips : List Bool) (n at : ℕ) where
       unfolding read-row
       productions-stop e₃ = rw (flag-reads bytes at e, e₂, e₃)
 
-      pub row-reads : {ps : List Production} {next : ℕ} → read-many (read-production bytes skips n) (λ least p. suc (p .head)) 0 size at-first ≡ got ps next
+      pub row-reads : {ps : List Production} {next : ℕ}
+          → read-many (read-production bytes skips n) (λ least p. suc (p .head)) 0 size at-first ≡ got ps next
           → read-row bytes skips n at ≡ got (record { empty = eqb v 1; productions = ps }) next
       unfolding read-row
       row-reads e₃ = rw (flag-reads bytes at e, e₂, e₃)
@@ -59,7 +60,8 @@ filling-none bytes n table z = record {
   room = z;
 }
 
-module _ (bytes : List ℕ) (n : ℕ) (table table' : List ℕ) (s base i v : ℕ) (rows : List Row) (row : Row) (f : Filling bytes n table s base i rows)
+module _ (bytes : List ℕ) (n : ℕ) (table table' : List ℕ) (s base i v : ℕ) (rows : List Row) (row : Row)
+    (f : Filling bytes n table s base i rows)
     (h : RowHeld bytes n table' base v row) (same : SameBelow base table table') (after : Room table' (base + 32)) where
   entries-below : (m : ℕ) → m < i → EntriesOf bytes n table' (m * 32) ((row-of (rows ++ (row ∷ [])) m) .productions)
   entries-below m l r k =

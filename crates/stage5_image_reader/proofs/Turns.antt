@@ -36,13 +36,17 @@ module _ {S A : Type 0} (one : S → ℕ → Reading A) (update : S → A → S)
   many-more s n at {a} {next} done e = rw e (prepend-cons done a (read-many one update (update s a) n next))
 
 -- After i turns of n, `done` was read, and the rest is read from the state s at a place.
-pub record Turns {S A : Type 0} (one : S → ℕ → Reading A) (update : S → A → S) (s₀ : S) (n at₀ i : ℕ) (s : S) (at : ℕ) (done : List A) : Type 0 where
+pub record Turns {S A : Type 0} (one : S → ℕ → Reading A) (update : S → A → S) (s₀ : S) (n at₀ i : ℕ) (s : S) (at : ℕ)
+    (done : List A) : Type 0 where
   pub size : length done ≡ i
   pub rest : read-many one update s₀ n at₀ ≡ prepend done (read-many one update s (n - i) at)
 
 module _ {S A : Type 0} (one : S → ℕ → Reading A) (update : S → A → S) (s₀ : S) (n at₀ : ℕ) where
   pub turns-start : Turns one update s₀ n at₀ 0 s₀ at₀ []
-  turns-start = record { size = refl; rest = prepend-none (read-many one update s₀ n at₀) ∙ ap (λ (x : ℕ). prepend [] (read-many one update s₀ x at₀)) (omega arith) }
+  turns-start = record {
+    size = refl;
+    rest = prepend-none (read-many one update s₀ n at₀) ∙ ap (λ (x : ℕ). prepend [] (read-many one update s₀ x at₀)) (omega arith);
+  }
 
   module _ {i : ℕ} {s : S} {at : ℕ} {done : List A} (t : Turns one update s₀ n at₀ i s at done) where
     pub turns-more : {a : A} {next : ℕ} → i < n → one s at ≡ got a next
@@ -62,7 +66,8 @@ module _ {S A : Type 0} (one : S → ℕ → Reading A) (update : S → A → S)
     unfolding prepend
     turns-stop {p} h e =
         let m : n - i ≡ suc (n - (i + 1)) = omega arith in
-        t .rest ∙ ap (λ (x : ℕ). prepend done (read-many one update s x at)) m ∙ ap (prepend done) (many-stop one update s (n - (i + 1)) at e)
+        t .rest ∙ ap (λ (x : ℕ). prepend done (read-many one update s x at)) m
+        ∙ ap (prepend done) (many-stop one update s (n - (i + 1)) at e)
 
     pub turns-end : n ≤ i → read-many one update s₀ n at₀ ≡ got done at
     unfolding prepend read-many

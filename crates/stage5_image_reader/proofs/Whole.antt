@@ -117,7 +117,8 @@ module _ (bytes : List ℕ) where
       unfolding read-image
       skips-stop e₃ = rw (e, e₂, e₃)
 
-      pub image-reads : {skips at-count : ℕ} {l : List Bool} → read-list (read-flag bytes) rules at-skips ≡ got l at-count → FlagsHeld rules skips l
+      pub image-reads : {skips at-count : ℕ} {l : List Bool} → read-list (read-flag bytes) rules at-skips ≡ got l at-count
+          → FlagsHeld rules skips l
           → read-image bytes ≡ read-lexer bytes rules (held-flags skips rules) at-count
       unfolding read-image read-lexer read-grammar
       image-reads {skips} {at-count} {l} e₃ h = rw (e, e₂, e₃, h .list)

@@ -74,6 +74,10 @@ read-grammar bytes skips ps first at =
     (λ nonterminals at-rows. and-then (read-list (read-row bytes skips nonterminals) nonterminals at-rows)
     (λ rows end. image-end bytes (record { skips = skips; positions = ps; first = first; rows = rows }) end))
 
+-- The same for the flags and positions that the code holds.
+abbrev pub grammar-in : List ℕ → ℕ → ℕ → PositionColumns → ℕ → Reading Image
+grammar-in bytes rules skips c at = read-grammar bytes (held-flags skips rules) (held-positions c) (c .first) at
+
 -- From the position count on.
 unfoldable pub read-lexer : List ℕ → ℕ → List Bool → ℕ → Reading Image
 read-lexer bytes rules skips at =

@@ -5,23 +5,24 @@ ghost use Prim.Native.Nat.{_+_, _-_, _^_, _≤_, _<_};
 ghost use lib.Dec.{eqb, ltb};
 ghost use lib.ListN.{length};
 ghost use Rattle.stage1_sheet.specs.Field.{between};
-ghost use Rattle.stage4_lexer_columns.specs.Held.{held-positions};
 ghost use Rattle.stage5_image.specs.ImageReading.{image-field, read-flag, read-list, read-position, read-image};
 ghost use Rattle.stage5_image_reader.specs.Tables.{held-flags, FlagsHeld, PositionsHeld, MembersHeld, RowsHeld, Room};
 ghost use Rattle.stage5_image_reader.specs.Answers.{field-reading, place-of, Answers, with-flag};
 ghost use Rattle.stage5_image_reader.specs.Answers.{position-reading, positions-in, no-positions, with-position};
-ghost use Rattle.stage5_image_reader.specs.Answers.{InBounds, production-in, row-in, ProductionAnswers, ProductionsEntered, RowEntered};
-ghost use Rattle.stage5_image_reader.specs.Decoded.{ImageAnswers, no-tables, refused-image, RulesRead, LexerRead, read-grammar, read-lexer};
+ghost use Rattle.stage5_image_reader.specs.Answers.{InBounds, production-in, row-in, ProductionAnswers};
+ghost use Rattle.stage5_image_reader.specs.Answers.{ProductionsEntered, RowEntered};
+ghost use Rattle.stage5_image_reader.specs.Decoded.{ImageAnswers, no-tables, refused-image, RulesRead};
+ghost use Rattle.stage5_image_reader.specs.Decoded.{LexerRead, grammar-in, read-lexer};
 use stage4_lexer_columns::PositionColumns;
 
 // What a field gives: a value and the place after it, or the place of question 13.
-pub enum Field {
+enum Field {
     Value(u64, usize),
     Refused(usize),
 }
 
 // A position that was read: its values and the place after it, or the place of question 13.
-pub enum PositionRead {
+enum PositionRead {
     Position {
         low: u8,
         high: u8,
@@ -34,22 +35,22 @@ pub enum PositionRead {
 }
 
 // Positions, as columns, and the place after them, or the place of question 13.
-pub struct PositionsRead {
-    pub end: Field,
-    pub columns: PositionColumns,
+struct PositionsRead {
+    end: Field,
+    columns: PositionColumns,
 }
 
 // A production that was read: its rule, the place of its tail's length and the place after it, or the place of question 13.
-pub enum ProductionRead {
+enum ProductionRead {
     Production { rule: u64, tail: usize, next: usize },
     Refused(usize),
 }
 
 // What bounds the values of productions: the number of rules, those that skip, and the number of nonterminals.
-pub struct Bounds {
-    pub rules: u64,
-    pub skips: u64,
-    pub nonterminals: u64,
+struct Bounds {
+    rules: u64,
+    skips: u64,
+    nonterminals: u64,
 }
 
 // The tables of an image. The entry of `productions` for a nonterminal n and a rule r stands at n * 32 + r: 0 where n has no
@@ -240,9 +241,7 @@ fn with_position(
 // So many positions.
 fn read_positions(bytes: &[u8], at: usize, rules: u64, count: u64) -> PositionsRead
     requires { ⌜ (1 ≤ rules) × (rules ≤ 32) × (count ≤ 64) ⌝ }
-    ensures { λ r. ⌜ Answers
-        (PositionsHeld rules count (r .columns))
-        (r .end)
+    ensures { λ r. ⌜ Answers (PositionsHeld rules count (r .columns)) (r .end)
         (positions-in (now (bytes .entry)) rules count at) ⌝ }
 {
     let mut columns = no_positions();
@@ -430,10 +429,7 @@ fn read_grammar(
     positions: PositionColumns,
 ) -> ImageRead
     requires { ⌜ LexerRead rules skips positions ⌝ }
-    ensures { λ r. ⌜ ImageAnswers
-        (now (bytes .entry))
-        r
-        (read-grammar (now (bytes .entry)) (held-flags skips rules) (held-positions positions) (positions .first) at) ⌝ }
+    ensures { λ r. ⌜ ImageAnswers (now (bytes .entry)) r (grammar-in (now (bytes .entry)) rules skips positions at) ⌝ }
 {
     let count = read_between(bytes, at, 1, 64);
     let Field::Value(nonterminals, at_rows) = count else {

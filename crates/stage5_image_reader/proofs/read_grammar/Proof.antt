@@ -3,7 +3,8 @@ use borrow.Author.Needs.{needs}
 use mathlib.Core.Path.{refl, sym}
 use Rattle.stage5_image_reader.proofs.Fields.{value-reads, refusal-reads, refusal-answers, field-range}
 use Rattle.stage5_image_reader.proofs.Flags.{length-listed}
-use Rattle.stage5_image_reader.proofs.Whole.{image-readable, image-refused, room-whole, nonterminals-stop, rows-stop, left-over, grammar-reads}
+use Rattle.stage5_image_reader.proofs.Whole.{image-readable, image-refused, room-whole, nonterminals-stop}
+use Rattle.stage5_image_reader.proofs.Whole.{rows-stop, left-over, grammar-reads}
 use Rattle.stage5_image_reader.proofs.read_grammar.Statement.{statement}
 use Rattle.stage5_image_reader.proofs.read_grammar.Tie as tie
 

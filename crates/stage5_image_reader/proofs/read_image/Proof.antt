@@ -2,7 +2,8 @@
 use borrow.Author.Needs.{needs}
 use native.Mathlib.Omega.{arith}
 use Rattle.stage5_image_reader.proofs.Fields.{value-reads, refusal-reads, refusal-answers, field-range}
-use Rattle.stage5_image_reader.proofs.Whole.{image-refused, image-same, version-stops, rules-stop, skips-stop, image-reads, flags-whole}
+use Rattle.stage5_image_reader.proofs.Whole.{image-refused, image-same, version-stops, rules-stop}
+use Rattle.stage5_image_reader.proofs.Whole.{skips-stop, image-reads, flags-whole}
 use Rattle.stage5_image_reader.proofs.read_image.Statement.{statement}
 use Rattle.stage5_image_reader.proofs.read_image.Tie as tie
 

@@ -144,7 +144,8 @@ returns-5 c =
 
 cast-t27 : tie.Need-cast-t27
 cast-t27 c =
-    let low-known = c .before .before .before .before .before .before .before .before .before .before .before .before .before .before .before .before .before .before in
+    let high-known = c .before .before .before .before .before .before .before .before .before .before .before .before .before .before in
+    let low-known = high-known .before .before .before .before in
     let low-read = low-known .before .before in
     let e = value-reads (low-known .low .given .1) (low-read .read-between .ensures) in
     omega (arith, field-range 0 255 _ _ e)

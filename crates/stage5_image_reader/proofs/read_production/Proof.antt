@@ -4,7 +4,8 @@ use native.Mathlib.Omega.{arith}
 use mathlib.Core.Path.{refl}
 use Prim.Native.Nat.{_<_}
 use Rattle.stage5_image_reader.proofs.Fields.{value-reads, refusal-reads, refusal-answers, field-range, field-inside}
-use Rattle.stage5_image_reader.proofs.Productions.{production-value, production-refusal, rule-refused, rule-skips, rule-passes, skip-set, skip-clear}
+use Rattle.stage5_image_reader.proofs.Productions.{production-value, production-refusal, rule-refused, rule-skips}
+use Rattle.stage5_image_reader.proofs.Productions.{rule-passes, skip-set, skip-clear}
 use Rattle.stage5_image_reader.proofs.Productions.{rule-stops, size-stops, tail-stops, production-reads, tail-at}
 use Rattle.stage5_image_reader.proofs.read_production.Statement.{statement}
 use Rattle.stage5_image_reader.proofs.read_production.Tie as tie
