@@ -1,4 +1,15 @@
+-- `vinzagew::image_run` meets its contract: the engine's promise, and three stores.
 use borrow.Author.Needs.{needs}
+use native.Mathlib.Omega.{arith}
+use lib.ListN.{length-set}
+use mathlib.Core.Path.{_≡_, ap, _∙_}
+use mathlib.Core.List.{List}
+use Prim.Native.Nat.{ℕ}
+use Rattle.stage6_machine.specs.Answer.{Answer}
+use Rattle.stage6_machine.specs.Run.{run, stack-after}
+use Rattle.stage6_machine_runner.specs.Steps.{answer-of}
+use Rattle.vinzagew.specs.Out.{run-numbers}
+use Rattle.vinzagew.proofs.Laws.{out-short, out-long, same-short, after-long}
 use Rattle.vinzagew.proofs.image_run.Statement.{statement}
 use Rattle.vinzagew.proofs.image_run.Tie as tie
 use Rattle.vinzagew.proofs.image_run.Reads as reads
@@ -7,7 +18,7 @@ use Rattle.stage6_machine_runner.proofs.run.Reads as run-reads
 
 -- src/lib.rt:17:9
 returns : tie.Need-returns
-returns c = ?
+returns c = let z = c .before .before .before .before .before .args in (out-short (z .out .now) _ (c .if1 .taken), same-short (z .out .now) _ (z .stack .now) (c .if1 .taken))
 
 -- src/lib.rt:19:9
 run-requires : tie.Need-run-requires
@@ -23,7 +34,11 @@ slice-write-out c = search needs
 
 -- src/lib.rt:21:5
 slice-write-out-2 : tie.Need-slice-write-out-2
-slice-write-out-2 c = ?
+slice-write-out-2 c =
+    let z = c .before .before .before .before .before .before .before .before .before .before .args in
+    let long = c .before .before .before .before .before .if1 .left in
+    let k = length-set (z .out .now) 0 (c .before .before .before .run .result .number) in
+    omega (arith, k, long)
 
 -- src/lib.rt:22:5
 slice-write-out-3 : tie.Need-slice-write-out-3
@@ -39,7 +54,13 @@ same-length-2 c = search needs
 
 -- src/lib.rt:10:1
 returns-2 : tie.Need-returns-2
-returns-2 c = ?
+unfolding answer-of run-numbers
+returns-2 c =
+    let z = c .before .before .before .before .before .before .before .before .before .before .args in
+    let long = c .before .before .before .before .before .if1 .left in
+    let e = c .before .before .before .run .ensures in
+    (out-long (z .out .now) _ _ _ (ap run-numbers (e .0)) long,
+    e .1 ∙ ap (λ (a : Answer). stack-after a (z .stack .now)) (e .0) ∙ after-long (z .out .now) _ (z .stack .now) long)
 
 pub image-run-spec : {M : Type 1} → statement M
 image-run-spec =
