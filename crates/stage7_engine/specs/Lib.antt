@@ -1,0 +1,2 @@
+-- What reading a text by a sheet comes to.
+pub mod Reading

@@ -1,0 +1,60 @@
+-- Reading a text by a sheet: compiling the sheet, then running its image over the text; and the line that the program prints.
+-- Demand 3 is stated of it: it gives the sheet's own answer.
+use mathlib.Core.Path.{_≡_}
+use mathlib.Core.Bool.{Bool, true, false, cond}
+use mathlib.Core.List.{List}
+use Prim.Native.Nat.{ℕ, _≤_}
+use lib.Dec.{ltb, eqb}
+use lib.ListN.{length}
+use Rattle.stage1_sheet.specs.Sheet.{Sheet}
+use Rattle.stage5_image.specs.Compile.{work-bytes, Compiled, refused, too-long, compiled}
+use Rattle.stage5_image.specs.CompileLaws.{Acceptable}
+use Rattle.stage6_machine.specs.Answer.{Answer, answer}
+use Rattle.stage6_machine.specs.Run.{most-text-bytes, run, stack-after, long-enough}
+use Rattle.stage6_machine.specs.OwnAnswer.{OwnAnswer}
+use Rattle.stage6_machine_runner.specs.Steps.{answer-of}
+use Rattle.stage7_engine.specs.declared.TextRead.{TextRead}
+use Rattle.stage7_engine.specs.declared.TextRead.the-variants as read
+use Rattle.stage7_engine.specs.declared.Line.{Line}
+use Rattle.stage7_engine.specs.declared.Line.the-variants as printed
+
+-- What is told: a refusal of the sheet, or the text's answer.
+pub data Told : Type 0 where
+  sheet-refused : ℕ → ℕ → Told
+  text-answered : Answer → Told
+
+-- Document 01's numbers for each case of the code's answer.
+abbrev pub told : TextRead → Told
+told (read.Sheet number place) = sheet-refused number place
+told (read.Text a) = text-answered (answer-of a)
+
+-- A text over the limit is 12.
+unfoldable pub answer-within : ℕ → List ℕ → List ℕ → ℕ → Answer
+answer-within limit image text entries = cond (ltb limit (length text)) (answer 12 0 0) (run image text entries)
+
+-- After compiling, with a stack of so many entries.
+unfoldable pub reading : ℕ → Compiled → List ℕ → ℕ → Told
+reading limit (refused number place) text entries = sheet-refused number place
+reading limit (too-long needed) text entries = sheet-refused 11 0
+reading limit (compiled image) text entries = text-answered (answer-within limit image text entries)
+
+-- The stack is untouched unless the image is run.
+unfoldable pub stack-after-reading : ℕ → Compiled → List ℕ → List ℕ → List ℕ
+stack-after-reading limit (refused number place) text stack = stack
+stack-after-reading limit (too-long needed) text stack = stack
+stack-after-reading limit (compiled image) text stack = cond (ltb limit (length text)) stack (stack-after (run image text (length stack)) stack)
+
+-- "running the image fixed there over the text gives exactly the sheet's own answer": for every sheet that demand 2 accepts, a text
+-- within the limits and a long enough stack.
+pub record OwnReading (limit : ℕ) (sheet text : List ℕ) (work room entries : ℕ) (t : Told) : Type 0 where
+  pub own-answer : (s : Sheet) → Acceptable sheet room s → work-bytes ≤ work → length text ≤ limit → length text ≤ most-text-bytes → long-enough text ≤ entries
+      → (a : Answer) × OwnAnswer s text a × (t ≡ text-answered a)
+
+-- "Its lines: `sheet NUMBER PLACE`, `text NUMBER PLACE`, `accepted TOKENS`."
+unfoldable pub text-line : Bool → Answer → Line
+text-line true a = printed.Accepted (a .count)
+text-line false a = printed.Text (a .number) (a .place)
+
+unfoldable pub line-of : Told → Line
+line-of (sheet-refused number place) = printed.Sheet number place
+line-of (text-answered a) = text-line (eqb (a .number) 0) a

@@ -1,0 +1,70 @@
+// The engine as one call: compiles a sheet and runs its image over a text. Its promise is the sheet's own answer.
+use stage5_image_compiler::Compiled;
+use stage6_machine_runner::RunAnswer;
+ghost use mathlib.Core.Path.{_≡_};
+ghost use lib.ListN.{length};
+ghost use Rattle.stage5_image.specs.Compile.{compile, image-after, work-after};
+ghost use Rattle.stage7_engine.specs.Reading.{told, reading, stack-after-reading, OwnReading, line-of};
+
+// How reading a text by a sheet ends: the sheet was refused, with number and place; or the text's answer.
+pub enum TextRead {
+    Sheet(u8, usize),
+    Text(RunAnswer),
+}
+
+// The line that the program prints.
+pub enum Line {
+    Sheet(u8, usize),
+    Text(u8, usize),
+    Accepted(usize),
+}
+
+// Compiles a sheet and runs its image over a text of at most `limit` bytes. A longer text is 12, once the sheet has passed.
+pub fn read_text(
+    sheet: &[u8],
+    text: &[u8],
+    limit: usize,
+    work: &mut [u8],
+    image: &mut [u8],
+    stack: &mut [u8],
+) -> TextRead
+    ensures { λ r.
+        ⌜ (told r ≡ reading limit (compile (now (sheet .entry)) (length (now (work .entry))) (length (now (image .entry)))) (now (text .entry)) (length (now (stack .entry))))
+        × (now (image .exit) ≡ image-after (compile (now (sheet .entry)) (length (now (work .entry))) (length (now (image .entry)))) (now (image .entry)))
+        × (now (work .exit) ≡ work-after (now (work .entry)))
+        × (now (stack .exit) ≡ stack-after-reading limit (compile (now (sheet .entry)) (length (now (work .entry))) (length (now (image .entry)))) (now (text .entry)) (now (stack .entry)))
+        × OwnReading limit (now (sheet .entry)) (now (text .entry)) (length (now (work .entry))) (length (now (image .entry))) (length (now (stack .entry))) (told r) ⌝ }
+{
+    let made = stage5_image_compiler::compile(sheet, work, image);
+    match made {
+        Compiled::Refused(number, place) => TextRead::Sheet(number, place),
+        Compiled::TooLong(_) => TextRead::Sheet(11, 0),
+        Compiled::Done(size) => {
+            if limit < text.len() {
+                return TextRead::Text(RunAnswer {
+                    number: 12,
+                    place: 0,
+                    count: 0,
+                });
+            }
+            let ran = stage6_machine_runner::run(&image[..size], text, stack);
+            TextRead::Text(ran)
+        }
+    }
+}
+
+// The line for what was read.
+pub fn line(read: TextRead) -> Line
+    ensures { λ r. ⌜ r ≡ line-of (told read) ⌝ }
+{
+    match read {
+        TextRead::Sheet(number, place) => Line::Sheet(number, place),
+        TextRead::Text(answer) => {
+            let number = answer.number;
+            if number == 0 {
+                return Line::Accepted(answer.count);
+            }
+            Line::Text(number, answer.place)
+        }
+    }
+}
