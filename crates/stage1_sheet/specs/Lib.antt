@@ -8,8 +8,12 @@ pub mod WellFormed
 pub mod Field
 pub mod Items
 pub mod Reading
-pub mod ListLaws
 pub mod FieldLaws
+pub mod ListLaws
 pub mod RegexItems
 pub mod ExpressionItems
+pub mod SheetFields
+pub mod RegexReading
+pub mod ExpressionReading
+pub mod RuleReading
 pub mod Computing
