@@ -1,0 +1,35 @@
+-- A loop's invariant: whatever answers the rest, from the columns so far, answers the whole.
+use mathlib.Core.Path.{_≡_, refl, sym, ap, subst, _∙_}
+use mathlib.Core.List.{List, [], _∷_}
+use Prim.Native.Nat.{ℕ, _≤_}
+use Rattle.stage1_sheet.specs.Field.{Reading, stop, got, and-then}
+use Rattle.stage1_sheet_reader.specs.Put.{with-all}
+use Rattle.stage1_sheet_reader.specs.Answers.{Answers}
+use Rattle.stage1_sheet_reader.specs.declared.Step.{Step}
+use Rattle.stage1_sheet_reader.specs.declared.Step.the-variants.{Next, Stop}
+
+pub record Leads {A C : Type 0} (put : C → A → C) (most : ℕ) (rest : Reading (List A)) (c : C) (whole : Reading (List A)) (start : C) : Type 0 where
+  pub leads : (s : Step) (d : C) → Answers (with-all put) most rest c s d → Answers (with-all put) most whole start s d
+
+module _ {A C : Type 0} {put : C → A → C} {most : ℕ} where
+  pub leads-start : (m : Reading (List A)) (c : C) → Leads put most m c m c
+  leads-start m c = record { leads = λ s d h. h }
+
+  module _ {m : Reading (List A)} {c : C} {whole : Reading (List A)} {start : C} (l : Leads put most m c whole start) where
+    -- One more was read, and the rest is still to come.
+    pub leads-next : {rest : Reading (List A)} {a : A} {d : C} → m ≡ and-then rest (λ l end. got (a ∷ l) end) → d ≡ put c a → Leads put most rest d whole start
+    unfolding with-all
+    leads-next {rest} {a} {d} e h =
+        record { leads = λ s f k. l .leads s f (subst (λ r. Answers (with-all put) most r c s f) (sym e) (go rest s f (subst (λ x. Answers (with-all put) most rest x s f) h k))) }
+      where
+        go : (r : Reading (List A)) (s : Step) (f : C) → Answers (with-all put) most r (put c a) s f
+            → Answers (with-all put) most (and-then r (λ l end. got (a ∷ l) end)) c s f
+        go (stop q p) s f k = k
+        go (got rest end) s f k = k
+
+    pub leads-stop : {question place : ℕ} {s : Step} (d : C) → m ≡ stop question place → s ≡ Stop question place → Answers (with-all put) most whole start s d
+    leads-stop {s = s} d e h = l .leads s d (subst (λ r. Answers (with-all put) most r c s d) (sym e) h)
+
+    pub leads-end : {at : ℕ} → m ≡ got [] at → at ≤ most → Answers (with-all put) most whole start (Next at) c
+    unfolding with-all
+    leads-end {at} e h = l .leads (Next at) c (subst (λ r. Answers (with-all put) most r c (Next at) c) (sym e) (refl, refl, h))

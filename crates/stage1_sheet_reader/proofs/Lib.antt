@@ -1,0 +1,4 @@
+-- Laws that the functions' proofs cite.
+pub mod Fields
+pub mod Leading
+pub mod RegexTurns

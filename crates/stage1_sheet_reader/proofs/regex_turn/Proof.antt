@@ -1,0 +1,82 @@
+-- `stage1_sheet_reader::regex_turn` meets its contract: each way through it is a way through the definition's turn.
+use borrow.Author.Needs.{needs}
+use native.Mathlib.Omega.{arith}
+use mathlib.Core.Path.{sym, ap, _∙_}
+use denote.Ref.{now}
+use Rattle.stage1_sheet_reader.specs.Turns.{regex-turned}
+use Rattle.stage1_sheet_reader.proofs.Fields.{up-to, field-value, field-unfit}
+use Rattle.stage1_sheet_reader.proofs.RegexTurns.{turn-stops, plain-goes, node-unfit, node-full, node-class, node-empty, node-star, node-two}
+use Rattle.stage1_sheet_reader.proofs.regex_turn.Statement.{statement}
+use Rattle.stage1_sheet_reader.proofs.regex_turn.Tie as tie
+
+read-field-requires : tie.Need-read-field-requires
+read-field-requires c κs = search needs
+
+enum-known-question : tie.Need-enum-known-question
+enum-known-question c = search needs
+
+regex-stop-requires : tie.Need-regex-stop-requires
+regex-stop-requires c κs = search needs
+
+enum-known-tag : tie.Need-enum-known-tag
+enum-known-tag c = search needs
+
+regex-stop-requires-2 : tie.Need-regex-stop-requires-2
+regex-stop-requires-2 c κs = search needs
+
+returns : tie.Need-returns
+returns c = c .regex-stop2 .ensures ∙ turn-stops _ _ (node-full (now (c .before .before .before .before .before .before .before .args .sheet)) _ _ _ (field-value (up-to 0 4) (now (c .before .before .before .before .before .before .before .args .sheet)) _ (sym (c .before .before .before .before .before .read-field .ensures) ∙ c .before .before .before .tag .given .1)) (c .before .if1 .taken))
+
+class-turn-requires : tie.Need-class-turn-requires
+class-turn-requires c κs = search needs
+
+returns-2 : tie.Need-returns-2
+returns-2 c = c .class-turn .ensures ∙ ap (regex-turned _ _) (sym (node-class (now (c .before .before .before .before .before .before .before .before .args .sheet)) _ _ _ (field-value (up-to 0 4) (now (c .before .before .before .before .before .before .before .before .args .sheet)) _ (sym (c .before .before .before .before .before .before .read-field .ensures) ∙ c .before .before .before .before .tag .given .1)) (c .before .before .if1 .left) (c .before .if2 .taken)))
+
+with-tag-requires : tie.Need-with-tag-requires
+with-tag-requires c κs = search needs
+
+sub-t15 : tie.Need-sub-t15
+sub-t15 c = search needs
+
+returns-3 : tie.Need-returns-3
+returns-3 c =
+    plain-goes _ _ (node-empty (now (c .before .before .before .before .before .before .before .before .before .args .sheet)) _ _ _ (field-value (up-to 0 4) (now (c .before .before .before .before .before .before .before .before .before .args .sheet)) _ (sym (c .before .before .before .before .before .before .before .read-field .ensures) ∙ c .before .before .before .before .before .tag .given .1)) _ (c .before .before .before .if1 .left) (c .if3 .taken)) (c .before .with-tag .ensures) (omega arith)
+
+returns-4 : tie.Need-returns-4
+returns-4 c =
+    plain-goes _ _ (node-star (now (c .before .before .before .before .before .before .before .before .before .before .args .sheet)) _ _ _ (field-value (up-to 0 4) (now (c .before .before .before .before .before .before .before .before .before .before .args .sheet)) _ (sym (c .before .before .before .before .before .before .before .before .read-field .ensures) ∙ c .before .before .before .before .before .before .tag .given .1)) _ (c .before .before .before .before .if1 .left) (c .if4 .taken)) (c .before .before .with-tag .ensures)
+    (omega (arith, c .before .before .before .before .before .before .before .before .before .before .pre .0))
+
+add-t18 : tie.Need-add-t18
+add-t18 c = search needs
+
+returns-5 : tie.Need-returns-5
+returns-5 c =
+    c .regex-stop .ensures
+    ∙ turn-stops _ _ (node-unfit (now (c .before .before .before .before .before .before .args .sheet)) _ _ _ (field-unfit (up-to 0 4) (now (c .before .before .before .before .before .before .args .sheet)) _ (sym (c .before .before .before .before .read-field .ensures) ∙ c .before .before .question .given .1)))
+
+returns-6 : tie.Need-returns-6
+returns-6 c =
+    plain-goes _ _ (node-two (now (c .before .before .before .before .before .before .before .before .before .before .args .sheet)) _ _ _ (field-value (up-to 0 4) (now (c .before .before .before .before .before .before .before .before .before .before .args .sheet)) _ (sym (c .before .before .before .before .before .before .before .before .read-field .ensures) ∙ c .before .before .before .before .before .before .tag .given .1)) _ (c .before .before .before .before .if1 .left) (c .before .if3 .left) (c .before .before .before .if2 .left) (c .if4 .left)) (c .before .before .with-tag .ensures)
+    (omega (arith, c .before .before .before .before .before .before .before .before .before .before .pre .0))
+
+pub regex-turn-spec : {M : Type 1} → statement M
+regex-turn-spec =
+    tie.close
+    (tie.spec
+    read-field-requires
+    enum-known-question
+    regex-stop-requires
+    enum-known-tag
+    regex-stop-requires-2
+    returns
+    class-turn-requires
+    returns-2
+    with-tag-requires
+    sub-t15
+    returns-3
+    returns-4
+    add-t18
+    returns-5
+    returns-6)

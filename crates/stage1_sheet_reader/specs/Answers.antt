@@ -1,0 +1,48 @@
+-- What the readers answer: for what the definition reads from a place on, the place after it and the columns with it; for a
+-- refusal, its question and place. The columns after a refusal are not spoken of.
+use mathlib.Core.Path.{_≡_}
+use mathlib.Core.List.{List}
+use Prim.Native.Nat.{ℕ, _+_, _-_, _≤_, _<_}
+use lib.ListN.{length, getD}
+use Rattle.stage1_sheet.specs.Field.{Reading, stop, got}
+use Rattle.stage1_sheet.specs.Reading.{Allowance, Contents}
+use Rattle.stage1_sheet_columns.specs.Holds.{RulesOf, NodesOf}
+use Rattle.stage1_sheet_columns.specs.declared.RuleColumns.{RuleColumns}
+use Rattle.stage1_sheet_columns.specs.declared.NodeColumns.{NodeColumns}
+use Rattle.stage1_sheet_reader.specs.declared.Step.{Step}
+use Rattle.stage1_sheet_reader.specs.declared.Step.the-variants.{Next, Stop}
+use Rattle.stage1_sheet_reader.specs.declared.Pending.{Pending}
+use Rattle.stage1_sheet_reader.specs.declared.SheetColumns.{SheetColumns}
+use Rattle.stage1_sheet_reader.specs.declared.Outcome.the-variants.{Done, Refused}
+
+-- The columns do not overflow.
+pub record RulesFit (c : RuleColumns) : Type 0 where
+  pub rules : c .count ≤ 32
+  pub nodes : c .items ≤ 256
+  pub classes : c .classes ≤ 64
+
+-- The nodes read so far, and the expressions due, of which each node adds at most one, as it opens at most one fixed point.
+pub record PendingFit (c : NodeColumns) (p : Pending) : Type 0 where
+  pub nodes : c .count ≤ 64
+  pub due : p .count ≤ c .count + 1
+  pub opened : (i : ℕ) → getD (p .opened) i 0 ≤ c .count
+
+-- The nodes and classes that the columns leave.
+unfoldable pub allowance : RuleColumns → Allowance
+allowance c = record { nodes = 256 - c .items; classes = 64 - c .classes }
+
+-- A step to a place within the bytes, and columns d that are c with what was read.
+abbrev pub Answers : {A C : Type 0} → (C → A → C) → ℕ → Reading A → C → Step → C → Type 0
+Answers put most (stop question place) c s d = s ≡ Stop question place
+Answers put most (got a end) c s d = (s ≡ Next end) × (d ≡ put c a) × (end ≤ most)
+
+-- The whole sheet.
+pub record Holds (c : Contents) (r : SheetColumns) : Type 0 where
+  pub done : r .outcome ≡ Done
+  pub tokens-held : r .tokens ≡ c .sheet .tokens
+  pub rules-held : RulesOf (r .rules) (c .sheet .rules) (c .action-places)
+  pub nodes-held : NodesOf (r .nodes) (c .sheet .expression) (c .node-places)
+
+abbrev pub Reads : Reading Contents → SheetColumns → Type 0
+Reads (stop question place) r = r .outcome ≡ Refused question place
+Reads (got c end) r = Holds c r

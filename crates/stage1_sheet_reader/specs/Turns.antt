@@ -1,0 +1,57 @@
+-- One turn of each reader, as the code takes it: a field, a regex node, an expression node. Which nodes come after one another
+-- is the definition's to say, to which the proofs lead each turn.
+use mathlib.Core.Bool.{Bool, cond, _&&_}
+use mathlib.Core.List.{List}
+use Prim.Native.Nat.{ℕ, zero, suc, _+_, _-_}
+use lib.Dec.{eqb, ltb, leb}
+use Rattle.stage1_sheet.specs.Field.{Reading, stop, got, and-then, between}
+use Rattle.stage1_sheet.specs.Items.{RegexItem, regex-parts, ExpressionItem}
+use Rattle.stage1_sheet.specs.Reading.{sheet-field, class-after, regex-item, expression-item}
+use Rattle.stage1_sheet.specs.ExpressionItems.{expression-tag}
+use Rattle.stage1_sheet_columns.specs.Holds.{number-after}
+use Rattle.stage1_sheet_columns.specs.declared.RuleColumns.{RuleColumns}
+use Rattle.stage1_sheet_columns.specs.declared.NodeColumns.{NodeColumns}
+use Rattle.stage1_sheet_reader.specs.declared.Field.{Field}
+use Rattle.stage1_sheet_reader.specs.declared.Field.the-variants.{Value, Unfit}
+use Rattle.stage1_sheet_reader.specs.declared.Step.the-variants.{Next, Stop}
+use Rattle.stage1_sheet_reader.specs.declared.RegexTurn.{RegexTurn}
+use Rattle.stage1_sheet_reader.specs.declared.Pending.{Pending}
+use Rattle.stage1_sheet_reader.specs.declared.ExpressionTurn.{ExpressionTurn}
+use Rattle.stage1_sheet_reader.specs.Put.{with-item, with-node, with-parts}
+
+-- From the least on, below the limit.
+unfoldable pub in-range : ℕ → ℕ → ℕ → Bool
+in-range least limit v = leb least v && ltb v limit
+
+unfoldable pub field-answer : Reading ℕ → Field
+field-answer (stop question place) = Unfit question place
+field-answer (got v next) = Value v next
+
+-- A regex node, while so many nodes and classes are allowed: its tag's field, then the limit on nodes, then what the tag asks.
+unfoldable pub regex-turn : List ℕ → ℕ → ℕ → ℕ → Reading RegexItem
+regex-turn bytes left classes at =
+    and-then (sheet-field (between 0 4) bytes at) (λ tag next. cond (eqb left 0) (stop 5 at) (regex-item bytes classes at tag next))
+
+abbrev pub regex-stopped : RuleColumns → ℕ → ℕ → ℕ → RegexTurn
+regex-stopped c due question place = record { step = Stop question place; due = due; rules = c }
+
+-- What a turn leaves of the columns, and of the regexes due, of which the node is one.
+unfoldable pub regex-turned : RuleColumns → ℕ → Reading RegexItem → RegexTurn
+regex-turned c due (stop question place) = regex-stopped c due question place
+regex-turned c due (got item next) = record { step = Next next; due = due - 1 + regex-parts item; rules = with-item c item }
+
+-- An expression node inside so many open fixed points, while so many nodes are allowed.
+unfoldable pub expression-turn : List ℕ → ℕ → ℕ → ℕ → ℕ → Reading ExpressionItem
+expression-turn bytes tokens left opened at =
+    and-then (sheet-field (between 0 6) bytes at) (λ tag next. cond (eqb left 0) (stop 5 at) (expression-item bytes tokens opened tag next))
+
+abbrev pub expression-stopped : NodeColumns → Pending → ℕ → ℕ → ExpressionTurn
+expression-stopped c p question place = record { step = Stop question place; nodes = c; pending = p }
+
+unfoldable pub expression-turned : NodeColumns → Pending → ℕ → Reading ExpressionItem → ExpressionTurn
+expression-turned c p at (stop question place) = expression-stopped c p question place
+expression-turned c p at (got item next) = record {
+  step = Next next;
+  nodes = with-node c (expression-tag item) (number-after item) at;
+  pending = with-parts p (expression-tag item);
+}

@@ -1,0 +1,280 @@
+// Reading a sheet's bytes into columns, from the left: questions 3 to 6 with their places. Question 2, whether the sheet is
+// short enough, comes before, and the later questions are put to the columns by other crates.
+ghost use mathlib.Core.Path.{_≡_};
+ghost use mathlib.Core.List.{List, [], _∷_};
+ghost use Prim.Native.Nat.{ℕ, _+_, _-_, _≤_, _<_};
+ghost use lib.ListN.{length, getD};
+ghost use Rattle.stage1_sheet.specs.Reading.{sheet-field, class-after, regex-items, read-rule, expression-nodes, read-sheet};
+ghost use Rattle.stage1_sheet.specs.Field.{Reading, stop, got, read-many};
+ghost use Rattle.stage1_sheet_reader.specs.Put.{with-tag, with-class, with-action, with-item, with-all, with-rule, with-node, with-read-node, with-parts, no-rules, no-nodes};
+ghost use Rattle.stage1_sheet_reader.specs.Turns.{in-range, field-answer, regex-turn, regex-stopped, regex-turned, expression-turn, expression-stopped, expression-turned};
+ghost use Rattle.stage1_sheet_reader.specs.Answers.{Answers, RulesFit, PendingFit, Reads};
+use stage0_number::Number;
+use stage1_sheet_columns::NodeColumns;
+use stage1_sheet_columns::RuleColumns;
+
+const MOST_TOKENS: u64 = 24;
+const MOST_RULES: u64 = 32;
+const MOST_REGEX_NODES: usize = 256;
+const MOST_CLASSES: usize = 64;
+const MOST_NODES: usize = 64;
+
+// A number of a field with the place after it, or the question that it fails and its place.
+enum Field {
+    Value(u8, usize),
+    Unfit(u8, usize),
+}
+
+// The place where reading goes on, or the question that fails and its place.
+enum Step {
+    Next(usize),
+    Stop(u8, usize),
+}
+
+// A regex node read into the columns, with how many regexes are still due.
+struct RegexTurn {
+    step: Step,
+    due: usize,
+    rules: RuleColumns,
+}
+
+// Rules read into the columns.
+struct RulesRead {
+    step: Step,
+    rules: RuleColumns,
+}
+
+// The expressions still due, the next one last: for each, how many fixed points are open where it stands.
+struct Pending {
+    count: usize,
+    opened: [u8; 65],
+}
+
+// An expression node read into the columns, with the expressions still due.
+struct ExpressionTurn {
+    step: Step,
+    nodes: NodeColumns,
+    pending: Pending,
+}
+
+// A whole expression read into the columns.
+struct NodesRead {
+    step: Step,
+    nodes: NodeColumns,
+}
+
+// The number at a place, from `least` on and below `limit`: 3 where none can be read, 4 where it is not allowed.
+fn read_field(sheet: &[u8], at: usize, least: u8, limit: u64) -> Field
+    requires { ⌜ limit ≤ 256 ⌝ }
+    ensures { λ r. ⌜ r ≡ field-answer (sheet-field (in-range least limit) (now (sheet .entry)) at) ⌝ }
+{
+    match stage0_number::read_number(sheet, at) {
+        Number::Refused => Field::Unfit(3, at),
+        Number::Read(v, used) => {
+            if v >= limit {
+                return Field::Unfit(4, at);
+            }
+            let value = v as u8;
+            if value < least {
+                return Field::Unfit(4, at);
+            }
+            Field::Value(value, at + used)
+        }
+    }
+}
+
+fn with_tag(rules: RuleColumns, tag: u8) -> RuleColumns
+    requires { ⌜ rules .items < 256 ⌝ }
+    ensures { λ r. ⌜ r ≡ with-tag rules tag ⌝ }
+{
+    let mut out = rules;
+    let n = out.items;
+    out.tag[n] = tag;
+    out.items = n + 1;
+    out
+}
+
+fn with_class(rules: RuleColumns, low: u8, high: u8) -> RuleColumns
+    requires { ⌜ rules .classes < 64 ⌝ }
+    ensures { λ r. ⌜ r ≡ with-class rules low high ⌝ }
+{
+    let mut out = rules;
+    let n = out.classes;
+    out.low[n] = low;
+    out.high[n] = high;
+    out.classes = n + 1;
+    out
+}
+
+fn with_action(rules: RuleColumns, action: u8, place: u16) -> RuleColumns
+    requires { ⌜ rules .count < 32 ⌝ }
+    ensures { λ r. ⌜ r ≡ with-action rules action place ⌝ }
+{
+    let mut out = rules;
+    let n = out.count;
+    out.action[n] = action;
+    out.place[n] = place;
+    out.count = n + 1;
+    out
+}
+
+fn with_node(nodes: NodeColumns, tag: u8, number: u8, place: u16) -> NodeColumns
+    requires { ⌜ nodes .count < 64 ⌝ }
+    ensures { λ r. ⌜ r ≡ with-node nodes tag number place ⌝ }
+{
+    let mut out = nodes;
+    let n = out.count;
+    out.tag[n] = tag;
+    out.number[n] = number;
+    out.place[n] = place;
+    out.count = n + 1;
+    out
+}
+
+// The parts of a node with this tag in the place of the next expression due.
+fn with_parts(pending: Pending, tag: u8) -> Pending
+    requires { ⌜ (0 < pending .count) × (pending .count ≤ 64) × (getD (pending .opened) (pending .count - 1) 0 ≤ 64) ⌝ }
+    ensures { λ r. ⌜ r ≡ with-parts pending tag ⌝ }
+{
+    let mut out = pending;
+    let n = out.count;
+    let last = n - 1;
+    let opened = out.opened[last];
+    if tag == 5 {
+        out.opened[last] = opened + 1;
+        return out;
+    }
+    if tag < 3 {
+        out.count = last;
+        return out;
+    }
+    if tag == 6 {
+        out.count = last;
+        return out;
+    }
+    out.opened[n] = opened;
+    out.count = n + 1;
+    out
+}
+
+fn regex_stop(question: u8, place: usize, due: usize, rules: RuleColumns) -> RegexTurn
+    ensures { λ r. ⌜ r ≡ regex-stopped rules due question place ⌝ }
+{
+    RegexTurn {
+        step: Step::Stop(question, place),
+        due,
+        rules,
+    }
+}
+
+// A byte class whose tag stands at `at`: its low and high bytes stand from `next` on.
+fn class_turn(sheet: &[u8], at: usize, next: usize, due: usize, rules: RuleColumns) -> RegexTurn
+    requires { ⌜ (0 < due) × (rules .items < 256) × (rules .classes ≤ 64) ⌝ }
+    ensures { λ r. ⌜ r ≡ regex-turned rules due (class-after (now (sheet .entry)) (64 - rules .classes) at next) ⌝ }
+{
+    let classes = rules.classes;
+    if classes >= MOST_CLASSES {
+        return regex_stop(5, at, due, rules);
+    }
+    match read_field(sheet, next, 0, 256) {
+        Field::Unfit(question, place) => regex_stop(question, place, due, rules),
+        Field::Value(low, after) => match read_field(sheet, after, low, 256) {
+            Field::Unfit(question, place) => regex_stop(question, place, due, rules),
+            Field::Value(high, end) => {
+                let tagged = with_tag(rules, 1);
+                let put = with_class(tagged, low, high);
+                RegexTurn {
+                    step: Step::Next(end),
+                    due: due - 1,
+                    rules: put,
+                }
+            }
+        },
+    }
+}
+
+// A regex node at a place, while regexes are due.
+fn regex_turn(sheet: &[u8], at: usize, due: usize, rules: RuleColumns) -> RegexTurn
+    requires { ⌜ (0 < due) × (due ≤ 1000) × RulesFit rules ⌝ }
+    ensures { λ r. ⌜ r ≡ regex-turned rules due (regex-turn (now (sheet .entry)) (256 - rules .items) (64 - rules .classes) at) ⌝ }
+{
+    match read_field(sheet, at, 0, 5) {
+        Field::Unfit(question, place) => regex_stop(question, place, due, rules),
+        Field::Value(tag, next) => {
+            let items = rules.items;
+            if items >= MOST_REGEX_NODES {
+                return regex_stop(5, at, due, rules);
+            }
+            if tag == 1 {
+                return class_turn(sheet, at, next, due, rules);
+            }
+            let put = with_tag(rules, tag);
+            if tag == 0 {
+                return RegexTurn {
+                    step: Step::Next(next),
+                    due: due - 1,
+                    rules: put,
+                };
+            }
+            if tag == 4 {
+                return RegexTurn {
+                    step: Step::Next(next),
+                    due,
+                    rules: put,
+                };
+            }
+            RegexTurn {
+                step: Step::Next(next),
+                due: due + 1,
+                rules: put,
+            }
+        }
+    }
+}
+
+// A regex from a place on.
+fn regex(sheet: &[u8], at: usize, rules: RuleColumns) -> RulesRead
+    requires { ⌜ (at ≤ length (now sheet)) × RulesFit rules ⌝ }
+    ensures { λ r. ⌜ Answers (with-all with-item) (length (now (sheet .entry))) (regex-items (now (sheet .entry)) (256 - rules .items) (64 - rules .classes) 1 at) rules (r .step) (r .rules) × RulesFit (r .rules) ⌝ }
+{
+    let mut place = at;
+    let mut due: usize = 1;
+    let mut out = rules;
+    while due > 0 {
+        let turn = regex_turn(sheet, place, due, out);
+        let put = turn.rules;
+        let step = turn.step;
+        match step {
+            Step::Stop(_, _) => return RulesRead { step, rules: put },
+            Step::Next(next) => place = next,
+        }
+        due = turn.due;
+        out = put;
+    }
+    RulesRead {
+        step: Step::Next(place),
+        rules: out,
+    }
+}
+
+fn expression_stop(question: u8, place: usize, nodes: NodeColumns, pending: Pending) -> ExpressionTurn
+    ensures { λ r. ⌜ r ≡ expression-stopped nodes pending question place ⌝ }
+{
+    ExpressionTurn {
+        step: Step::Stop(question, place),
+        nodes,
+        pending,
+    }
+}
+
+pub enum Outcome {
+    Done,
+    Refused(u8, usize),
+}
+
+pub struct SheetColumns {
+    pub outcome: Outcome,
+    pub tokens: u8,
+    pub rules: RuleColumns,
+    pub nodes: NodeColumns,
+}
