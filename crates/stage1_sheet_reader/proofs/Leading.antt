@@ -2,6 +2,7 @@
 use mathlib.Core.Path.{_≡_, refl, sym, ap, subst, _∙_}
 use mathlib.Core.List.{List, [], _∷_}
 use Prim.Native.Nat.{ℕ, _≤_}
+use native.Mathlib.Omega.{arith}
 use Rattle.stage1_sheet.specs.Field.{Reading, stop, got, and-then}
 use Rattle.stage1_sheet_reader.specs.Put.{with-all}
 use Rattle.stage1_sheet_reader.specs.Answers.{Answers}
@@ -12,8 +13,8 @@ pub record Leads {A C : Type 0} (put : C → A → C) (most : ℕ) (rest : Readi
   pub leads : (s : Step) (d : C) → Answers (with-all put) most rest c s d → Answers (with-all put) most whole start s d
 
 module _ {A C : Type 0} {put : C → A → C} {most : ℕ} where
-  pub leads-start : (m : Reading (List A)) (c : C) → Leads put most m c m c
-  leads-start m c = record { leads = λ s d h. h }
+  pub leads-start : {m whole : Reading (List A)} {c start : C} → m ≡ whole → c ≡ start → Leads put most m c whole start
+  leads-start e h = rw (e, h) record { leads = λ s d k. k }
 
   module _ {m : Reading (List A)} {c : C} {whole : Reading (List A)} {start : C} (l : Leads put most m c whole start) where
     -- One more was read, and the rest is still to come.
@@ -33,3 +34,24 @@ module _ {A C : Type 0} {put : C → A → C} {most : ℕ} where
     pub leads-end : {at : ℕ} → m ≡ got [] at → at ≤ most → Answers (with-all put) most whole start (Next at) c
     unfolding with-all
     leads-end {at} e h = l .leads (Next at) c (subst (λ r. Answers (with-all put) most r c (Next at) c) (sym e) (refl, refl, h))
+
+-- ---- what an answer tells of what was read
+
+-- What a step to a place has read.
+pub record WasRead {A C : Type 0} (put : C → A → C) (most : ℕ) (m : Reading A) (c d : C) (next : ℕ) : Type 0 where
+  pub what : A
+  pub read : m ≡ got what next
+  pub columns : d ≡ put c what
+  pub inside : next ≤ most
+
+module _ {A C : Type 0} (put : C → A → C) (most : ℕ) (c : C) (s : Step) (d : C) where
+  pub was-read : (m : Reading A) {next : ℕ} → Answers put most m c s d → s ≡ Next next → WasRead put most m c d next
+  was-read (stop q p) {next} h e = let z : _≡_ {A = ℕ} 0 1 = cc in absurd (omega arith)
+  was-read (got a end) {next} h e =
+      let h0 = h .0 in
+      let same : end ≡ next = cc in
+      record { what = a; read = ap (got a) same; columns = h .1; inside = omega (arith, h .2) }
+
+  pub was-stopped : (m : Reading A) {question place : ℕ} → Answers put most m c s d → s ≡ Stop question place → m ≡ stop question place
+  was-stopped (stop q p) h e = cc
+  was-stopped (got a end) h e = let h0 = h .0 in let z : _≡_ {A = ℕ} 0 1 = cc in absurd (omega arith)

@@ -2,3 +2,5 @@
 pub mod Fields
 pub mod Leading
 pub mod RegexTurns
+pub mod RuleTurns
+pub mod ExpressionTurns

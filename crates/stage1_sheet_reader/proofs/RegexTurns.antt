@@ -17,7 +17,7 @@ use Rattle.stage1_sheet_reader.specs.Turns.{regex-stopped, regex-turn, r
 use Rattle.stage1_sheet_reader.specs.Answers.{RulesFit}
 use Rattle.stage1_sheet_reader.specs.declared.Step.the-variants.{Next, Stop}
 use Rattle.stage1_sheet_reader.specs.declared.RegexTurn.{RegexTurn}
-use Rattle.stage1_sheet_reader.proofs.Fields.{FieldKept, field-kept}
+use Rattle.stage1_sheet_reader.proofs.Fields.{FieldKept, field-kept, Any, field-inside, pred-suc}
 
 -- ---- a turn in columns, by what was read
 
@@ -154,17 +154,6 @@ pub record NodeKept (bytes : List ℕ) (left classes : ℕ) (item : RegexItem) (
   pub class-allowed : item-classes item ≤ classes
   pub inside : next ≤ length bytes
 
-Any : ℕ → ℕ → Type 0
-Any question place = Unit
-
-field-inside : (allowed : ℕ → Bool) (bytes : List ℕ) (at : ℕ) → Outcome Any (FieldKept allowed bytes) (sheet-field allowed bytes at)
-unfolding Any
-field-inside allowed bytes at = go (sheet-field allowed bytes at) refl
-  where
-    go : (m : Reading ℕ) → sheet-field allowed bytes at ≡ m → Outcome Any (FieldKept allowed bytes) m
-    go (stop q p) e = tt
-    go (got v next) e = field-kept allowed bytes at e
-
 module _ (bytes : List ℕ) where
   class-keeps : (left classes at next : ℕ) → Outcome Any (NodeKept bytes (suc left) classes) (class-after bytes classes at next)
   unfolding class-after item-classes Any
@@ -206,9 +195,6 @@ module _ (bytes : List ℕ) where
   node-kept left classes at e = outcome-got Any (NodeKept bytes left classes) (turn-keeps left classes at) e
 
 -- ---- the turns make up the definition's items
-
-pred-suc : (n : ℕ) → suc n - 1 ≡ n
-pred-suc n = omega arith
 
 items-turn : (bytes : List ℕ) (left classes due at : ℕ) → regex-items bytes left classes (suc due) at
     ≡ and-then (regex-turn bytes left classes at)

@@ -26,6 +26,7 @@ pub record PendingFit (c : NodeColumns) (p : Pending) : Type 0 where
   pub nodes : c .count ≤ 64
   pub due : p .count ≤ c .count + 1
   pub opened : (i : ℕ) → getD (p .opened) i 0 ≤ c .count
+  pub entries : length (p .opened) ≡ 65
 
 -- The nodes and classes that the columns leave.
 unfoldable pub allowance : RuleColumns → Allowance

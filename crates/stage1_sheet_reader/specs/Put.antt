@@ -75,6 +75,10 @@ no-rules = record {
 abbrev pub no-nodes : NodeColumns
 no-nodes = record { count = 0; tag = replicate 64 0; number = replicate 64 0; place = replicate 64 0 }
 
+-- One expression due, with no fixed point open.
+abbrev pub one-pending : Pending
+one-pending = record { count = 1; opened = replicate 65 0 }
+
 -- ---- one thing more
 
 unfoldable pub with-item : RuleColumns → RegexItem → RuleColumns

@@ -55,3 +55,8 @@ expression-turned c p at (got item next) = record {
   nodes = with-node c (expression-tag item) (number-after item) at;
   pending = with-parts p (expression-tag item);
 }
+
+-- The same for a tag with a number after it, which is given.
+unfoldable pub numbered-turned : NodeColumns → Pending → ℕ → ℕ → Reading ℕ → ExpressionTurn
+numbered-turned c p at tag (stop question place) = expression-stopped c p question place
+numbered-turned c p at tag (got number next) = record { step = Next next; nodes = with-node c tag number at; pending = with-parts p tag }

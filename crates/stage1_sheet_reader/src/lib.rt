@@ -4,11 +4,11 @@ ghost use mathlib.Core.Path.{_≡_};
 ghost use mathlib.Core.List.{List, [], _∷_};
 ghost use Prim.Native.Nat.{ℕ, _+_, _-_, _≤_, _<_};
 ghost use lib.ListN.{length, getD};
-ghost use Rattle.stage1_sheet.specs.Reading.{sheet-field, class-after, regex-items, read-rule, expression-nodes, read-sheet};
+ghost use Rattle.stage1_sheet.specs.Reading.{sheet-field, class-after, regex-items, less-rule, read-rule, expression-nodes, read-sheet};
 ghost use Rattle.stage1_sheet.specs.Field.{Reading, stop, got, read-many};
-ghost use Rattle.stage1_sheet_reader.specs.Put.{with-tag, with-class, with-action, with-item, with-all, with-rule, with-node, with-read-node, with-parts, no-rules, no-nodes};
-ghost use Rattle.stage1_sheet_reader.specs.Turns.{in-range, field-answer, regex-turn, regex-stopped, regex-turned, expression-turn, expression-stopped, expression-turned};
-ghost use Rattle.stage1_sheet_reader.specs.Answers.{Answers, RulesFit, PendingFit, Reads};
+ghost use Rattle.stage1_sheet_reader.specs.Put.{with-tag, with-class, with-action, with-item, with-all, with-rule, with-node, with-read-node, with-parts, next-opened, no-rules, no-nodes, one-pending};
+ghost use Rattle.stage1_sheet_reader.specs.Turns.{in-range, field-answer, regex-turn, regex-stopped, regex-turned, expression-turn, expression-stopped, expression-turned, numbered-turned};
+ghost use Rattle.stage1_sheet_reader.specs.Answers.{allowance, Answers, RulesFit, PendingFit, Reads};
 use stage0_number::Number;
 use stage1_sheet_columns::NodeColumns;
 use stage1_sheet_columns::RuleColumns;
@@ -233,7 +233,7 @@ fn regex_turn(sheet: &[u8], at: usize, due: usize, rules: RuleColumns) -> RegexT
 }
 
 // A regex from a place on.
-fn regex(sheet: &[u8], at: usize, rules: RuleColumns) -> RulesRead
+fn read_regex(sheet: &[u8], at: usize, rules: RuleColumns) -> RulesRead
     requires { ⌜ (at ≤ length (now sheet)) × RulesFit rules ⌝ }
     ensures { λ r. ⌜ Answers (with-all with-item) (length (now (sheet .entry))) (regex-items (now (sheet .entry)) (256 - rules .items) (64 - rules .classes) 1 at) rules (r .step) (r .rules) × RulesFit (r .rules) ⌝ }
 {
@@ -257,6 +257,62 @@ fn regex(sheet: &[u8], at: usize, rules: RuleColumns) -> RulesRead
     }
 }
 
+// A rule from a place on: its action, and then its regex.
+fn read_rule(sheet: &[u8], at: usize, tokens: u8, rules: RuleColumns) -> RulesRead
+    requires { ⌜ (at ≤ length (now sheet)) × (length (now sheet) ≤ 4096) × (tokens ≤ 24) × (rules .count < 32) × RulesFit rules ⌝ }
+    ensures { λ r. ⌜ Answers with-rule (length (now (sheet .entry))) (read-rule (now (sheet .entry)) tokens (allowance rules) at) rules (r .step) (r .rules) × RulesFit (r .rules) ⌝ }
+{
+    match read_field(sheet, at, 0, tokens as u64 + 1) {
+        Field::Unfit(question, place) => RulesRead {
+            step: Step::Stop(question, place),
+            rules,
+        },
+        Field::Value(action, next) => {
+            let put = with_action(rules, action, at as u16);
+            read_regex(sheet, next, put)
+        }
+    }
+}
+
+fn no_rules() -> RuleColumns
+    ensures { λ r. ⌜ r ≡ no-rules ⌝ }
+{
+    RuleColumns {
+        count: 0,
+        action: [0u8; 32],
+        place: [0u16; 32],
+        items: 0,
+        tag: [0u8; 256],
+        classes: 0,
+        low: [0u8; 64],
+        high: [0u8; 64],
+    }
+}
+
+// So many rules from a place on.
+fn read_rules(sheet: &[u8], at: usize, tokens: u8, count: u8) -> RulesRead
+    requires { ⌜ (at ≤ length (now sheet)) × (length (now sheet) ≤ 4096) × (tokens ≤ 24) × (count ≤ 32) ⌝ }
+    ensures { λ r. ⌜ Answers (with-all with-rule) (length (now (sheet .entry))) (read-many (read-rule (now (sheet .entry)) tokens) less-rule (allowance no-rules) count at) no-rules (r .step) (r .rules) × RulesFit (r .rules) ⌝ }
+{
+    let many = count as usize;
+    let mut place = at;
+    let mut out = no_rules();
+    while out.count < many {
+        let one = read_rule(sheet, place, tokens, out);
+        let put = one.rules;
+        let step = one.step;
+        match step {
+            Step::Stop(_, _) => return RulesRead { step, rules: put },
+            Step::Next(next) => place = next,
+        }
+        out = put;
+    }
+    RulesRead {
+        step: Step::Next(place),
+        rules: out,
+    }
+}
+
 fn expression_stop(question: u8, place: usize, nodes: NodeColumns, pending: Pending) -> ExpressionTurn
     ensures { λ r. ⌜ r ≡ expression-stopped nodes pending question place ⌝ }
 {
@@ -264,6 +320,102 @@ fn expression_stop(question: u8, place: usize, nodes: NodeColumns, pending: Pend
         step: Step::Stop(question, place),
         nodes,
         pending,
+    }
+}
+
+// A node whose tag stands at `at`, with a number below `limit` after it.
+fn numbered_turn(sheet: &[u8], at: usize, next: usize, tag: u8, limit: u64, nodes: NodeColumns, pending: Pending) -> ExpressionTurn
+    requires { ⌜ (at ≤ 4096) × (limit ≤ 256) × (nodes .count < 64) × (0 < pending .count) × PendingFit nodes pending ⌝ }
+    ensures { λ r. ⌜ r ≡ numbered-turned nodes pending at tag (sheet-field (in-range 0 limit) (now (sheet .entry)) next) ⌝ }
+{
+    match read_field(sheet, next, 0, limit) {
+        Field::Unfit(question, place) => expression_stop(question, place, nodes, pending),
+        Field::Value(number, end) => {
+            let put = with_node(nodes, tag, number, at as u16);
+            let parts = with_parts(pending, tag);
+            ExpressionTurn {
+                step: Step::Next(end),
+                nodes: put,
+                pending: parts,
+            }
+        }
+    }
+}
+
+// An expression node at a place, while expressions are due.
+fn expression_turn(sheet: &[u8], at: usize, tokens: u8, nodes: NodeColumns, pending: Pending) -> ExpressionTurn
+    requires { ⌜ (at ≤ 4096) × (0 < pending .count) × PendingFit nodes pending ⌝ }
+    ensures { λ r. ⌜ r ≡ expression-turned nodes pending at (expression-turn (now (sheet .entry)) tokens (64 - nodes .count) (next-opened pending) at) ⌝ }
+{
+    match read_field(sheet, at, 0, 7) {
+        Field::Unfit(question, place) => expression_stop(question, place, nodes, pending),
+        Field::Value(tag, next) => {
+            let count = nodes.count;
+            if count >= MOST_NODES {
+                return expression_stop(5, at, nodes, pending);
+            }
+            if tag == 2 {
+                return numbered_turn(sheet, at, next, 2, tokens as u64, nodes, pending);
+            }
+            if tag == 6 {
+                let last = pending.count - 1;
+                let opened = pending.opened[last];
+                return numbered_turn(sheet, at, next, 6, opened as u64, nodes, pending);
+            }
+            let put = with_node(nodes, tag, 0, at as u16);
+            let parts = with_parts(pending, tag);
+            ExpressionTurn {
+                step: Step::Next(next),
+                nodes: put,
+                pending: parts,
+            }
+        }
+    }
+}
+
+fn no_nodes() -> NodeColumns
+    ensures { λ r. ⌜ r ≡ no-nodes ⌝ }
+{
+    NodeColumns {
+        count: 0,
+        tag: [0u8; 64],
+        number: [0u8; 64],
+        place: [0u16; 64],
+    }
+}
+
+fn one_pending() -> Pending
+    ensures { λ r. ⌜ r ≡ one-pending ⌝ }
+{
+    Pending {
+        count: 1,
+        opened: [0u8; 65],
+    }
+}
+
+// One expression from a place on, with no fixed point open.
+fn read_expression(sheet: &[u8], at: usize, tokens: u8) -> NodesRead
+    requires { ⌜ (at ≤ length (now sheet)) × (length (now sheet) ≤ 4096) ⌝ }
+    ensures { λ r. ⌜ Answers (with-all with-read-node) (length (now (sheet .entry))) (expression-nodes (now (sheet .entry)) tokens 64 (0 ∷ []) at) no-nodes (r .step) (r .nodes) ⌝ }
+{
+    let mut place = at;
+    let mut nodes = no_nodes();
+    let mut pending = one_pending();
+    while pending.count > 0 {
+        let turn = expression_turn(sheet, place, tokens, nodes, pending);
+        let put = turn.nodes;
+        let due = turn.pending;
+        let step = turn.step;
+        match step {
+            Step::Stop(_, _) => return NodesRead { step, nodes: put },
+            Step::Next(next) => place = next,
+        }
+        nodes = put;
+        pending = due;
+    }
+    NodesRead {
+        step: Step::Next(place),
+        nodes,
     }
 }
 

@@ -1,8 +1,8 @@
--- `stage1_sheet_reader::regex` meets its contract. The loop's invariant: whatever answers the rest, from the columns so far,
+-- `stage1_sheet_reader::read_regex` meets its contract. The loop's invariant: whatever answers the rest, from the columns so far,
 -- answers the whole.
 use borrow.Author.Needs.{needs}
 use native.Mathlib.Omega.{arith}
-use mathlib.Core.Path.{sym, subst}
+use mathlib.Core.Path.{refl, sym, subst}
 use denote.Ref.{now}
 use Prim.Native.Nat.{_+_, _-_, _≤_}
 use lib.ListN.{length}
@@ -10,8 +10,8 @@ use Rattle.stage1_sheet_reader.specs.Put.{with-item}
 use Rattle.stage1_sheet_reader.specs.Answers.{RulesFit}
 use Rattle.stage1_sheet_reader.proofs.Leading.{Leads, leads-start, leads-next, leads-stop, leads-end}
 use Rattle.stage1_sheet_reader.proofs.RegexTurns.{turned-stop, turned-next, stopped-rules, items-from, items-stop, items-end, turn-again}
-use Rattle.stage1_sheet_reader.proofs.regex.Statement.{statement}
-use Rattle.stage1_sheet_reader.proofs.regex.Tie as tie
+use Rattle.stage1_sheet_reader.proofs.read_regex.Statement.{statement}
+use Rattle.stage1_sheet_reader.proofs.read_regex.Tie as tie
 
 abbrev Inv-loop : tie.InvT-loop
 Inv-loop sheet at place₀ due₀ out₀ place due out =
@@ -22,7 +22,7 @@ abbrev μ-loop : tie.MeasureT-loop
 μ-loop sheet at place₀ due₀ out₀ place due out = 256 - out .items
 
 loop-holds : tie.Need-loop-holds Inv-loop μ-loop
-loop-holds c = (c .before .pre .0, omega arith, c .before .pre .1, leads-start _ _)
+loop-holds c = (c .before .pre .0, omega arith, c .before .pre .1, leads-start refl refl)
 
 regex-turn-requires : tie.Need-regex-turn-requires Inv-loop μ-loop
 regex-turn-requires c κs = let i = c .before .loop .inv in (omega arith, omega (arith, i .1, i .2 .nodes), i .2)
@@ -63,8 +63,8 @@ returns-2 c =
     let l = c .before .loop in
     (leads-end (l .inv .3) (items-end (now (c .before .before .before .args .sheet)) (l .out) (l .place) (l .due) (omega arith)) (l .inv .0), l .inv .2)
 
-pub regex-spec : {M : Type 1} → statement M
-regex-spec =
+pub read-regex-spec : {M : Type 1} → statement M
+read-regex-spec =
     tie.close
     (tie.spec
     Inv-loop

@@ -1,0 +1,93 @@
+-- `stage1_sheet_reader::expression_turn` meets its contract: each way through it is a way through the definition's turn.
+use borrow.Author.Needs.{needs}
+use native.Mathlib.Omega.{arith}
+use mathlib.Core.Path.{sym, _∙_}
+use denote.Ref.{now}
+use Prim.Native.Nat.{_-_}
+use Rattle.stage1_sheet_reader.proofs.Fields.{up-to, field-value, field-unfit}
+use Rattle.stage1_sheet_reader.proofs.ExpressionTurns.{node-stops, plain-item-goes, node-unfit, node-full, token-turn, variable-turn, node-plain, parts-room}
+use Rattle.stage1_sheet_reader.proofs.expression_turn.Statement.{statement}
+use Rattle.stage1_sheet_reader.proofs.expression_turn.Tie as tie
+
+read-field-requires : tie.Need-read-field-requires
+read-field-requires c κs = search needs
+
+enum-known-question : tie.Need-enum-known-question
+enum-known-question c = search needs
+
+expression-stop-requires : tie.Need-expression-stop-requires
+expression-stop-requires c κs = search needs
+
+enum-known-tag : tie.Need-enum-known-tag
+enum-known-tag c = search needs
+
+expression-stop-requires-2 : tie.Need-expression-stop-requires-2
+expression-stop-requires-2 c κs = search needs
+
+returns : tie.Need-returns
+returns c = c .expression-stop2 .ensures ∙ node-stops _ _ _ (node-full (now (c .before .before .before .before .before .before .before .args .sheet)) _ _ _ _ (field-value (up-to 0 6) (now (c .before .before .before .before .before .before .before .args .sheet)) _ (sym (c .before .before .before .before .before .read-field .ensures) ∙ c .before .before .before .tag .given .1)) (c .before .if1 .taken))
+
+numbered-turn-requires : tie.Need-numbered-turn-requires
+numbered-turn-requires c κs = search needs
+
+returns-2 : tie.Need-returns-2
+returns-2 c = c .numbered-turn .ensures ∙ token-turn (now (c .before .before .before .before .before .before .before .before .args .sheet)) _ _ _ _ (field-value (up-to 0 6) (now (c .before .before .before .before .before .before .before .before .args .sheet)) _ (sym (c .before .before .before .before .before .before .read-field .ensures) ∙ c .before .before .before .before .tag .given .1)) (c .before .before .if1 .left) _ _ (c .before .if2 .taken)
+
+sub-last : tie.Need-sub-last
+sub-last c = search needs
+
+element-copy-out-opened : tie.Need-element-copy-out-opened
+element-copy-out-opened c = search needs
+
+cast-numbered-turn : tie.Need-cast-numbered-turn
+cast-numbered-turn c = search needs
+
+numbered-turn-requires-2 : tie.Need-numbered-turn-requires-2
+numbered-turn-requires-2 c κs =
+    let z = c .before .before .before .before .before .before .before .before .before in
+    (z .pre .0, omega (arith, z .pre .2 .opened (z .args .t5 .count - 1), z .pre .2 .nodes), c .before .before .before .if1 .left, z .pre .1, z .pre .2)
+
+returns-3 : tie.Need-returns-3
+returns-3 c = c .numbered-turn2 .ensures ∙ variable-turn (now (c .before .before .before .before .before .before .before .before .before .before .args .sheet)) _ _ _ _ (field-value (up-to 0 6) (now (c .before .before .before .before .before .before .before .before .before .before .args .sheet)) _ (sym (c .before .before .before .before .before .before .before .before .read-field .ensures) ∙ c .before .before .before .before .before .before .tag .given .1)) (c .before .before .before .before .if1 .left) _ _ (c .before .before .if3 .taken)
+
+cast-with-node : tie.Need-cast-with-node
+cast-with-node c = search needs
+
+with-node-requires : tie.Need-with-node-requires
+with-node-requires c κs = search needs
+
+with-parts-requires : tie.Need-with-parts-requires
+with-parts-requires c κs = let z = c .before .before .before .before .before .before .before .before .before in parts-room (z .args .nodes) (z .args .t5) (c .before .before .before .if1 .left) (z .pre .1) (z .pre .2)
+
+returns-4 : tie.Need-returns-4
+returns-4 c =
+    c .expression-stop .ensures
+    ∙ node-stops _ _ _ (node-unfit (now (c .before .before .before .before .before .before .args .sheet)) _ _ _ _ (field-unfit (up-to 0 6) (now (c .before .before .before .before .before .before .args .sheet)) _ (sym (c .before .before .before .before .read-field .ensures) ∙ c .before .before .question .given .1)))
+
+returns-5 : tie.Need-returns-5
+returns-5 c =
+    plain-item-goes _ _ _ (node-plain (now (c .before .before .before .before .before .before .before .before .before .before .args .sheet)) _ _ _ _ (field-value (up-to 0 6) (now (c .before .before .before .before .before .before .before .before .before .before .args .sheet)) _ (sym (c .before .before .before .before .before .before .before .before .read-field .ensures) ∙ c .before .before .before .before .before .before .tag .given .1)) (c .before .before .before .before .if1 .left) (c .before .before .before .if2 .left) (c .before .before .if3 .left))
+    (c .before .with-node .ensures) (c .with-parts .ensures)
+
+pub expression-turn-spec : {M : Type 1} → statement M
+expression-turn-spec =
+    tie.close
+    (tie.spec
+    read-field-requires
+    enum-known-question
+    expression-stop-requires
+    enum-known-tag
+    expression-stop-requires-2
+    returns
+    numbered-turn-requires
+    returns-2
+    sub-last
+    element-copy-out-opened
+    cast-numbered-turn
+    numbered-turn-requires-2
+    returns-3
+    cast-with-node
+    with-node-requires
+    with-parts-requires
+    returns-4
+    returns-5)

@@ -1,0 +1,56 @@
+-- `stage1_sheet_reader::read_rule` meets its contract.
+use borrow.Author.Needs.{needs}
+use mathlib.Core.Path.{sym, _∙_}
+use denote.Ref.{now}
+use Rattle.stage1_sheet_reader.proofs.Fields.{up-to-sum, field-value, field-unfit, field-kept}
+use Rattle.stage1_sheet_reader.proofs.RuleTurns.{rule-unfit, rule-goes, action-fits}
+use Rattle.stage1_sheet_reader.proofs.read_rule.Statement.{statement}
+use Rattle.stage1_sheet_reader.proofs.read_rule.Tie as tie
+
+add-read-field : tie.Need-add-read-field
+add-read-field c = search needs
+
+read-field-requires : tie.Need-read-field-requires
+read-field-requires c κs = search needs
+
+enum-known-question : tie.Need-enum-known-question
+enum-known-question c = search needs
+
+enum-known-action : tie.Need-enum-known-action
+enum-known-action c = search needs
+
+cast-with-action : tie.Need-cast-with-action
+cast-with-action c = search needs
+
+with-action-requires : tie.Need-with-action-requires
+with-action-requires c κs = search needs
+
+read-regex-requires : tie.Need-read-regex-requires
+read-regex-requires c κs =
+    let z = c .before .before .before .before .before .before in
+    (field-kept _ (now (z .args .sheet)) _ (field-value (up-to-sum 0 (c .before .before .before .before .before .before .args .tokens)) (now (c .before .before .before .before .before .before .args .sheet)) _ (sym (c .before .before .before .before .read-field .ensures) ∙ c .before .before .action .given .1)) .inside, action-fits _ _ _ (c .with-action .ensures) (z .pre .3) (z .pre .4))
+
+returns : tie.Need-returns
+returns c =
+    let z = c .before .before .before .before .before in
+    (rule-unfit (now (z .args .sheet)) _ _ _ _ _
+    (field-unfit (up-to-sum 0 (z .args .tokens)) (now (z .args .sheet)) _ (sym (c .before .before .before .read-field .ensures) ∙ c .before .question .given .1)), z .pre .4)
+
+returns-2 : tie.Need-returns-2
+returns-2 c =
+    let r = c .read-regex in
+    (rule-goes (now (c .before .before .before .before .before .before .before .args .sheet)) _ _ _ _ (r .result .step) (r .result .rules) (field-value (up-to-sum 0 (c .before .before .before .before .before .before .before .args .tokens)) (now (c .before .before .before .before .before .before .before .args .sheet)) _ (sym (c .before .before .before .before .before .read-field .ensures) ∙ c .before .before .before .action .given .1)) (c .before .with-action .ensures) (r .ensures .0), r .ensures .1)
+
+pub read-rule-spec : {M : Type 1} → statement M
+read-rule-spec =
+    tie.close
+    (tie.spec
+    add-read-field
+    read-field-requires
+    enum-known-question
+    enum-known-action
+    cast-with-action
+    with-action-requires
+    read-regex-requires
+    returns
+    returns-2)
