@@ -7,7 +7,7 @@ use Prim.Native.Nat.{ℕ, zero, suc, _+_, _-_, _≤_, _<_}
 use native.Mathlib.Numerals.{add-one}
 use native.Mathlib.Omega.{arith}
 use lib.Dec.{eqb, ltb, eqb·suc-zero}
-use lib.ListN.{length, getD, set, length-set, getD-replicate}
+use lib.ListN.{length, getD, set, length-set, replicate}
 use lib.Seq.{getD-set-same, getD-set-other, set-out}
 use borrow.Author.Tests.{eq-eqb, ne-eqb}
 use Rattle.stage0_laws.specs.Order.{compare-cases, lt-or-le}
@@ -280,8 +280,13 @@ pub parts-room : (c : NodeColumns) (p : Pending) → c .count < 64 → 0 < p .co
     → (0 < p .count) × (p .count ≤ 64) × (getD (p .opened) (p .count - 1) 0 ≤ 64)
 parts-room c p h some f = (some, omega (arith, f .due), omega (arith, f .opened (p .count - 1)))
 
+zeros : (n i : ℕ) → getD (replicate n 0) i 0 ≤ 0
+zeros zero i = omega arith
+zeros (suc n) zero = omega arith
+zeros (suc n) (suc i) = zeros n i
+
 pub start-fits : {c : NodeColumns} {p : Pending} → c ≡ no-nodes → p ≡ one-pending → PendingFit c p
-start-fits e h = rw (e, h) record { nodes = omega arith; due = omega arith; opened = λ i. omega (arith, getD-replicate 65 i 0); entries = refl }
+start-fits e h = rw (e, h) record { nodes = omega arith; due = omega arith; opened = zeros 65; entries = refl }
 
 -- ---- the turns make up the definition's nodes
 

@@ -1,56 +1,79 @@
+-- `stage1_sheet_reader::read_expression` meets its contract. The loop's invariant: whatever answers the rest, from the columns
+-- and the expressions due so far, answers the whole.
+use borrow.Author.Needs.{needs}
+use native.Mathlib.Omega.{arith}
+use mathlib.Core.List.{[], _∷_}
+use denote.Ref.{now}
+use Prim.Native.Nat.{_-_, _≤_}
+use lib.ListN.{length}
+use Rattle.stage1_sheet.specs.Reading.{expression-nodes}
+use Rattle.stage1_sheet_reader.specs.Put.{with-read-node, no-nodes}
+use Rattle.stage1_sheet_reader.specs.Answers.{PendingFit}
+use Rattle.stage1_sheet_reader.proofs.Leading.{Leads, leads-start, leads-next, leads-stop, leads-end}
+use Rattle.stage1_sheet_reader.proofs.ExpressionTurns.{node-stopped, node-turned, start-fits, nodes-from, nodes-whole, nodes-stop, nodes-end, node-again}
 use Rattle.stage1_sheet_reader.proofs.read_expression.Statement.{statement}
 use Rattle.stage1_sheet_reader.proofs.read_expression.Tie as tie
-use Rattle.stage1_sheet_reader.proofs.read_expression.Reads as reads
-use Rattle.stage1_sheet_reader.proofs.read_expression.Lts as lts
-use Rattle.stage1_sheet_reader.proofs.expression_turn.Reads as expression-turn-reads
-use Rattle.stage1_sheet_reader.proofs.no_nodes.Reads as no-nodes-reads
-use Rattle.stage1_sheet_reader.proofs.one_pending.Reads as one-pending-reads
 
 abbrev Inv-loop : tie.InvT-loop
-Inv-loop sheet at tokens place₀ nodes₀ pending₀ place nodes pending = ?
+Inv-loop sheet at tokens place₀ nodes₀ pending₀ place nodes pending =
+    (place ≤ length sheet) × PendingFit nodes pending
+    × Leads with-read-node (length sheet) (nodes-from sheet tokens nodes pending place) nodes (expression-nodes sheet tokens 64 (0 ∷ []) at) no-nodes
 
 abbrev μ-loop : tie.MeasureT-loop
-μ-loop sheet at tokens place₀ nodes₀ pending₀ place nodes pending = ?
+μ-loop sheet at tokens place₀ nodes₀ pending₀ place nodes pending = 64 - nodes .count
 
--- src/lib.rt:402:9
 no-nodes-requires : tie.Need-no-nodes-requires Inv-loop μ-loop
-no-nodes-requires c κs = ?
+no-nodes-requires c κs = search needs
 
--- src/lib.rt:403:9
 one-pending-requires : tie.Need-one-pending-requires Inv-loop μ-loop
-one-pending-requires c κs = ?
+one-pending-requires c κs = search needs
 
--- src/lib.rt:404:5
 loop-holds : tie.Need-loop-holds Inv-loop μ-loop
-loop-holds c = ?
+loop-holds c =
+    let z = c .before .before .before in
+    let e = c .before .no-nodes .ensures in
+    let f = c .one-pending .ensures in
+    (z .pre .0, start-fits e f, leads-start (nodes-whole (now (z .args .sheet)) (z .args .tokens) (c .before .no-nodes .result) (c .one-pending .result) (z .args .at) e f) e)
 
--- src/lib.rt:405:13
 expression-turn-requires : tie.Need-expression-turn-requires Inv-loop μ-loop
-expression-turn-requires c κs = ?
+expression-turn-requires c κs = let l = c .before .before .loop in (omega (arith, l .inv .0, c .before .before .before .before .before .before .pre .1), c .if1 .taken, l .inv .1)
 
--- src/lib.rt:410:33
 enum-told : tie.Need-enum-told Inv-loop μ-loop
-enum-told c = ?
+enum-told c = search needs
 
--- src/lib.rt:410:33
 returns : tie.Need-returns Inv-loop μ-loop
-returns c = ?
+returns c =
+    let z = c .before .before .before .before .before .before .before .before .before .before .before in
+    let l = c .before .before .before .before .before .before .before .loop in
+    let e = node-stopped (l .nodes) (l .pending) (l .place) _ (c .before .before .before .before .expression-turn .ensures) (c .enum-told .given .1) in
+    leads-stop (l .inv .2) _ (nodes-stop (now (z .args .sheet)) (z .args .tokens) (l .nodes) (l .pending) (l .place) (c .before .before .before .before .before .if1 .taken) e) (c .enum-told .given .1)
 
--- src/lib.rt:411:24
 enum-known-step : tie.Need-enum-known-step Inv-loop μ-loop
-enum-known-step c = ?
+enum-known-step c = search needs
 
--- src/lib.rt:404:5
 loop-less : tie.Need-loop-less Inv-loop μ-loop
-loop-less c = ?
+loop-less c =
+    let z = c .before .before .before .before .before .before .before .before .before .before .before .before in
+    let l = c .before .before .before .before .before .before .before .before .loop in
+    let bytes = now (z .args .sheet) in
+    let t = node-turned (l .nodes) (l .pending) (l .place) _ (c .before .before .before .before .before .expression-turn .ensures) (c .before .step .given .1) in
+    let a = node-again bytes (z .args .tokens) (l .nodes) (l .pending) (l .place) (c .before .before .before .before .before .before .if1 .taken) (l .inv .1) t in
+    omega (arith, a .more, a .room)
 
--- src/lib.rt:404:5
 loop-again : tie.Need-loop-again Inv-loop μ-loop
-loop-again c = ?
+loop-again c =
+    let z = c .before .before .before .before .before .before .before .before .before .before .before .before in
+    let l = c .before .before .before .before .before .before .before .before .loop in
+    let bytes = now (z .args .sheet) in
+    let t = node-turned (l .nodes) (l .pending) (l .place) _ (c .before .before .before .before .before .expression-turn .ensures) (c .before .step .given .1) in
+    let a = node-again bytes (z .args .tokens) (l .nodes) (l .pending) (l .place) (c .before .before .before .before .before .before .if1 .taken) (l .inv .1) t in
+    (a .inside, a .fits, leads-next (l .inv .2) (a .rest) (a .put))
 
--- src/lib.rt:397:1
 returns-2 : tie.Need-returns-2 Inv-loop μ-loop
-returns-2 c = ?
+returns-2 c =
+    let z = c .before .before .before .before .before .before in
+    let l = c .before .before .loop in
+    leads-end (l .inv .2) (nodes-end (now (z .args .sheet)) (z .args .tokens) (l .nodes) (l .pending) (l .place) (omega (arith, c .if1 .left))) (l .inv .0)
 
 pub read-expression-spec : {M : Type 1} → statement M
 read-expression-spec =
