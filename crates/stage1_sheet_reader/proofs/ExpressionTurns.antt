@@ -361,5 +361,5 @@ node-again bytes tokens c p at {r} {next} some f t =
       room = room;
       put = refl;
       rest = first-node bytes tokens c p at some
-        ∙ nodes-turn bytes tokens (64 - c .count) (next-opened p) (due-from (p .count - 1) (p .opened)) at ∙ rw (t .read, left, ← parts);
+          ∙ nodes-turn bytes tokens (64 - c .count) (next-opened p) (due-from (p .count - 1) (p .opened)) at ∙ rw (t .read, left, ← parts);
     }

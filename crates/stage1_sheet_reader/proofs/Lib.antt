@@ -4,3 +4,5 @@ pub mod Leading
 pub mod RegexTurns
 pub mod RuleTurns
 pub mod ExpressionTurns
+pub mod Holding
+pub mod Whole

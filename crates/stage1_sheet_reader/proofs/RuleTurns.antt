@@ -44,12 +44,12 @@ no-rules-fit e = rw e record { rules = omega arith; nodes = omega arith; classes
 
 -- ---- what a rule leaves
 
-all-items : (c : RuleColumns) (items : List RegexItem) → with-all with-item c items .items ≡ c .items + length items
+pub all-items : (c : RuleColumns) (items : List RegexItem) → with-all with-item c items .items ≡ c .items + length items
 unfolding with-all
 all-items c [] = omega arith
 all-items c (i ∷ items) = omega (arith, all-items (with-item c i) items, items-put c i)
 
-all-classes : (c : RuleColumns) (items : List RegexItem) → with-all with-item c items .classes ≡ c .classes + sum item-classes items
+pub all-classes : (c : RuleColumns) (items : List RegexItem) → with-all with-item c items .classes ≡ c .classes + sum item-classes items
 unfolding with-all
 all-classes c [] = omega arith
 all-classes c (i ∷ items) = omega (arith, all-classes (with-item c i) items, classes-put c i)

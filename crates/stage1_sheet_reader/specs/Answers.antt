@@ -5,10 +5,11 @@ use mathlib.Core.List.{List}
 use Prim.Native.Nat.{ℕ, _+_, _-_, _≤_, _<_}
 use lib.ListN.{length, getD}
 use Rattle.stage1_sheet.specs.Field.{Reading, stop, got}
-use Rattle.stage1_sheet.specs.Reading.{Allowance, Contents}
+use Rattle.stage1_sheet.specs.Reading.{ReadNode, Allowance, Contents}
 use Rattle.stage1_sheet_columns.specs.Holds.{RulesOf, NodesOf}
 use Rattle.stage1_sheet_columns.specs.declared.RuleColumns.{RuleColumns}
 use Rattle.stage1_sheet_columns.specs.declared.NodeColumns.{NodeColumns}
+use Rattle.stage1_sheet_reader.specs.Put.{with-all, with-read-node, no-nodes}
 use Rattle.stage1_sheet_reader.specs.declared.Step.{Step}
 use Rattle.stage1_sheet_reader.specs.declared.Step.the-variants.{Next, Stop}
 use Rattle.stage1_sheet_reader.specs.declared.Pending.{Pending}
@@ -36,6 +37,12 @@ allowance c = record { nodes = 256 - c .items; classes = 64 - c .classes }
 abbrev pub Answers : {A C : Type 0} → (C → A → C) → ℕ → Reading A → C → Step → C → Type 0
 Answers put most (stop question place) c s d = s ≡ Stop question place
 Answers put most (got a end) c s d = (s ≡ Next end) × (d ≡ put c a) × (end ≤ most)
+
+-- The rules as given, and the nodes that were read.
+abbrev pub Finished : Reading (List ReadNode) → ℕ → RuleColumns → SheetColumns → Type 0
+Finished (stop question place) tokens rules r = r .outcome ≡ Refused question place
+Finished (got nodes end) tokens rules r =
+    (r .outcome ≡ Done) × (r .tokens ≡ tokens) × (r .rules ≡ rules) × (r .nodes ≡ with-all with-read-node no-nodes nodes)
 
 -- The whole sheet.
 pub record Holds (c : Contents) (r : SheetColumns) : Type 0 where

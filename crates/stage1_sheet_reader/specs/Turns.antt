@@ -1,18 +1,22 @@
 -- One turn of each reader, as the code takes it: a field, a regex node, an expression node. Which nodes come after one another
 -- is the definition's to say, to which the proofs lead each turn.
 use mathlib.Core.Bool.{Bool, cond, _&&_}
-use mathlib.Core.List.{List}
+use mathlib.Core.List.{List, [], _∷_}
 use Prim.Native.Nat.{ℕ, zero, suc, _+_, _-_}
 use lib.Dec.{eqb, ltb, leb}
+use lib.ListN.{length}
+use Rattle.stage1_sheet.specs.Limits.{most-tokens, most-rules, most-expression-nodes}
 use Rattle.stage1_sheet.specs.Field.{Reading, stop, got, and-then, between}
 use Rattle.stage1_sheet.specs.Items.{RegexItem, regex-parts, ExpressionItem}
-use Rattle.stage1_sheet.specs.Reading.{sheet-field, class-after, regex-item, expression-item}
+use Rattle.stage1_sheet.specs.Reading.{sheet-field, regex-item, ReadNode, expression-item, expression-nodes}
 use Rattle.stage1_sheet.specs.ExpressionItems.{expression-tag}
 use Rattle.stage1_sheet_columns.specs.Holds.{number-after}
 use Rattle.stage1_sheet_columns.specs.declared.RuleColumns.{RuleColumns}
 use Rattle.stage1_sheet_columns.specs.declared.NodeColumns.{NodeColumns}
 use Rattle.stage1_sheet_reader.specs.declared.Field.{Field}
 use Rattle.stage1_sheet_reader.specs.declared.Field.the-variants.{Value, Unfit}
+use Rattle.stage1_sheet_reader.specs.declared.Header.{Header}
+use Rattle.stage1_sheet_reader.specs.declared.Header.the-variants.{Counts, Wrong}
 use Rattle.stage1_sheet_reader.specs.declared.Step.the-variants.{Next, Stop}
 use Rattle.stage1_sheet_reader.specs.declared.RegexTurn.{RegexTurn}
 use Rattle.stage1_sheet_reader.specs.declared.Pending.{Pending}
@@ -26,6 +30,28 @@ in-range least limit v = leb least v && ltb v limit
 unfoldable pub field-answer : Reading ℕ → Field
 field-answer (stop question place) = Unfit question place
 field-answer (got v next) = Value v next
+
+-- "version, 1; token count T, 1 to 24; rule count R, 1 to 32"
+pub record Counted : Type 0 where
+  pub tokens : ℕ
+  pub rules : ℕ
+
+unfoldable pub header : List ℕ → Reading Counted
+header bytes =
+    and-then (sheet-field (between 1 1) bytes 0)
+    (λ version at-tokens. and-then (sheet-field (between 1 most-tokens) bytes at-tokens)
+    (λ tokens at-count. and-then (sheet-field (between 1 most-rules) bytes at-count)
+    (λ count at-rules. got (record { tokens = tokens; rules = count }) at-rules)))
+
+unfoldable pub header-answer : Reading Counted → Header
+header-answer (stop question place) = Wrong question place
+header-answer (got c next) = Counts (c .tokens) (c .rules) next
+
+-- The expression's nodes, after which the bytes end.
+unfoldable pub nodes-to-end : List ℕ → ℕ → ℕ → Reading (List ReadNode)
+nodes-to-end bytes tokens at =
+    and-then (expression-nodes bytes tokens most-expression-nodes (0 ∷ []) at)
+    (λ nodes end. cond (eqb end (length bytes)) (got nodes end) (stop 6 end))
 
 -- A regex node, while so many nodes and classes are allowed: its tag's field, then the limit on nodes, then what the tag asks.
 unfoldable pub regex-turn : List ℕ → ℕ → ℕ → ℕ → Reading RegexItem

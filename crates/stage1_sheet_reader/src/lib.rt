@@ -7,17 +7,35 @@ ghost use lib.ListN.{length, getD};
 ghost use Rattle.stage1_sheet.specs.Reading.{sheet-field, class-after, regex-items, less-rule, read-rule, expression-nodes, read-sheet};
 ghost use Rattle.stage1_sheet.specs.Field.{Reading, stop, got, read-many};
 ghost use Rattle.stage1_sheet_reader.specs.Put.{with-tag, with-class, with-action, with-item, with-all, with-rule, with-node, with-read-node, with-parts, next-opened, no-rules, no-nodes, one-pending};
-ghost use Rattle.stage1_sheet_reader.specs.Turns.{in-range, field-answer, regex-turn, regex-stopped, regex-turned, expression-turn, expression-stopped, expression-turned, numbered-turned};
-ghost use Rattle.stage1_sheet_reader.specs.Answers.{allowance, Answers, RulesFit, PendingFit, Reads};
+ghost use Rattle.stage1_sheet_reader.specs.Turns.{in-range, field-answer, header, header-answer, nodes-to-end, regex-turn, regex-stopped, regex-turned, expression-turn, expression-stopped, expression-turned, numbered-turned};
+ghost use Rattle.stage1_sheet_reader.specs.Answers.{allowance, Answers, RulesFit, PendingFit, Finished, Reads};
 use stage0_number::Number;
 use stage1_sheet_columns::NodeColumns;
 use stage1_sheet_columns::RuleColumns;
 
 const MOST_TOKENS: u64 = 24;
+
 const MOST_RULES: u64 = 32;
+
 const MOST_REGEX_NODES: usize = 256;
+
 const MOST_CLASSES: usize = 64;
+
 const MOST_NODES: usize = 64;
+
+// Whether all was read, or the question that fails and its place.
+pub enum Outcome {
+    Done,
+    Refused(u8, usize),
+}
+
+// A sheet as read. After a refusal only the outcome counts.
+pub struct SheetColumns {
+    pub outcome: Outcome,
+    pub tokens: u8,
+    pub rules: RuleColumns,
+    pub nodes: NodeColumns,
+}
 
 // A number of a field with the place after it, or the question that it fails and its place.
 enum Field {
@@ -29,6 +47,12 @@ enum Field {
 enum Step {
     Next(usize),
     Stop(u8, usize),
+}
+
+// The token count, the rule count and the place after them, or the question that fails and its place.
+enum Header {
+    Counts(u8, u8, usize),
+    Wrong(u8, usize),
 }
 
 // A regex node read into the columns, with how many regexes are still due.
@@ -313,7 +337,12 @@ fn read_rules(sheet: &[u8], at: usize, tokens: u8, count: u8) -> RulesRead
     }
 }
 
-fn expression_stop(question: u8, place: usize, nodes: NodeColumns, pending: Pending) -> ExpressionTurn
+fn expression_stop(
+    question: u8,
+    place: usize,
+    nodes: NodeColumns,
+    pending: Pending,
+) -> ExpressionTurn
     ensures { λ r. ⌜ r ≡ expression-stopped nodes pending question place ⌝ }
 {
     ExpressionTurn {
@@ -324,7 +353,15 @@ fn expression_stop(question: u8, place: usize, nodes: NodeColumns, pending: Pend
 }
 
 // A node whose tag stands at `at`, with a number below `limit` after it.
-fn numbered_turn(sheet: &[u8], at: usize, next: usize, tag: u8, limit: u64, nodes: NodeColumns, pending: Pending) -> ExpressionTurn
+fn numbered_turn(
+    sheet: &[u8],
+    at: usize,
+    next: usize,
+    tag: u8,
+    limit: u64,
+    nodes: NodeColumns,
+    pending: Pending,
+) -> ExpressionTurn
     requires { ⌜ (at ≤ 4096) × (limit ≤ 256) × (nodes .count < 64) × (0 < pending .count) × PendingFit nodes pending ⌝ }
     ensures { λ r. ⌜ r ≡ numbered-turned nodes pending at tag (sheet-field (in-range 0 limit) (now (sheet .entry)) next) ⌝ }
 {
@@ -343,7 +380,13 @@ fn numbered_turn(sheet: &[u8], at: usize, next: usize, tag: u8, limit: u64, node
 }
 
 // An expression node at a place, while expressions are due.
-fn expression_turn(sheet: &[u8], at: usize, tokens: u8, nodes: NodeColumns, pending: Pending) -> ExpressionTurn
+fn expression_turn(
+    sheet: &[u8],
+    at: usize,
+    tokens: u8,
+    nodes: NodeColumns,
+    pending: Pending,
+) -> ExpressionTurn
     requires { ⌜ (at ≤ 4096) × (0 < pending .count) × PendingFit nodes pending ⌝ }
     ensures { λ r. ⌜ r ≡ expression-turned nodes pending at (expression-turn (now (sheet .entry)) tokens (64 - nodes .count) (next-opened pending) at) ⌝ }
 {
@@ -419,14 +462,74 @@ fn read_expression(sheet: &[u8], at: usize, tokens: u8) -> NodesRead
     }
 }
 
-pub enum Outcome {
-    Done,
-    Refused(u8, usize),
+// The version, the token count and the rule count.
+fn read_header(sheet: &[u8]) -> Header
+    ensures { λ r. ⌜ r ≡ header-answer (header (now (sheet .entry))) ⌝ }
+{
+    match read_field(sheet, 0, 1, 2) {
+        Field::Unfit(question, place) => Header::Wrong(question, place),
+        Field::Value(_, at_tokens) => match read_field(sheet, at_tokens, 1, MOST_TOKENS + 1) {
+            Field::Unfit(question, place) => Header::Wrong(question, place),
+            Field::Value(tokens, at_count) => match read_field(sheet, at_count, 1, MOST_RULES + 1) {
+                Field::Unfit(question, place) => Header::Wrong(question, place),
+                Field::Value(count, at_rules) => Header::Counts(tokens, count, at_rules),
+            },
+        },
+    }
 }
 
-pub struct SheetColumns {
-    pub outcome: Outcome,
-    pub tokens: u8,
-    pub rules: RuleColumns,
-    pub nodes: NodeColumns,
+fn refused(question: u8, place: usize) -> SheetColumns
+    ensures { λ r. ⌜ r .outcome ≡ Outcome.Refused question place ⌝ }
+{
+    let rules = no_rules();
+    let nodes = no_nodes();
+    SheetColumns {
+        outcome: Outcome::Refused(question, place),
+        tokens: 0,
+        rules,
+        nodes,
+    }
+}
+
+// The expression after the rules, and then the end of the sheet.
+fn read_rest(sheet: &[u8], at: usize, tokens: u8, rules: RuleColumns) -> SheetColumns
+    requires { ⌜ (at ≤ length (now sheet)) × (length (now sheet) ≤ 4096) ⌝ }
+    ensures { λ r. ⌜ Finished (nodes-to-end (now (sheet .entry)) tokens at) tokens rules r ⌝ }
+{
+    let read = read_expression(sheet, at, tokens);
+    let nodes = read.nodes;
+    let step = read.step;
+    match step {
+        Step::Stop(question, place) => refused(question, place),
+        Step::Next(end) => {
+            if end != sheet.len() {
+                return refused(6, end);
+            }
+            SheetColumns {
+                outcome: Outcome::Done,
+                tokens,
+                rules,
+                nodes,
+            }
+        }
+    }
+}
+
+// A sheet that is short enough, as columns.
+pub fn read_sheet(sheet: &[u8]) -> SheetColumns
+    requires { ⌜ length (now sheet) ≤ 4096 ⌝ }
+    ensures { λ r. ⌜ Reads (read-sheet (now (sheet .entry))) r ⌝ }
+{
+    match read_header(sheet) {
+        Header::Wrong(question, place) => refused(question, place),
+        Header::Counts(tokens, count, at) => {
+            let read = read_rules(sheet, at, tokens, count);
+            let rules = read.rules;
+            let step = read.step;
+            match step {
+                Step::Stop(question, place) => refused(question, place),
+                Step::Next(next) => read_rest(sheet, next, tokens, rules),
+            }
+        }
+    }
 }

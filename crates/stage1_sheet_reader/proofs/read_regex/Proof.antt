@@ -35,9 +35,10 @@ returns c =
     let l = c .before .before .before .before .before .loop in
     let bytes = now (c .before .before .before .before .before .before .before .args .sheet) in
     let t = c .before .before .before .regex-turn in
-    let stops = turned-stop (l .out) (l .due) _ (t .ensures) (c .enum-told .given .1) in
-    (leads-stop (l .inv .3) _ (items-stop bytes (l .out) (l .place) (l .due) (omega arith) stops) (c .enum-told .given .1),
-      subst RulesFit (sym (stopped-rules (l .out) (l .due) (t .ensures) stops)) (l .inv .2))
+    let stops = turned-stop (l .out) (l .due) _ (t .ensures) (c .enum-told .given .1) in (
+      leads-stop (l .inv .3) _ (items-stop bytes (l .out) (l .place) (l .due) (omega arith) stops) (c .enum-told .given .1),
+      subst RulesFit (sym (stopped-rules (l .out) (l .due) (t .ensures) stops)) (l .inv .2),
+    )
 
 enum-known-step : tie.Need-enum-known-step Inv-loop μ-loop
 enum-known-step c = search needs

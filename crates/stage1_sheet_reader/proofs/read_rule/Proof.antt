@@ -32,9 +32,11 @@ read-regex-requires c κs =
 
 returns : tie.Need-returns
 returns c =
-    let z = c .before .before .before .before .before in
-    (rule-unfit (now (z .args .sheet)) _ _ _ _ _
-    (field-unfit (up-to-sum 0 (z .args .tokens)) (now (z .args .sheet)) _ (sym (c .before .before .before .read-field .ensures) ∙ c .before .question .given .1)), z .pre .4)
+    let z = c .before .before .before .before .before in (
+      rule-unfit (now (z .args .sheet)) _ _ _ _ _
+          (field-unfit (up-to-sum 0 (z .args .tokens)) (now (z .args .sheet)) _ (sym (c .before .before .before .read-field .ensures) ∙ c .before .question .given .1)),
+      z .pre .4,
+    )
 
 returns-2 : tie.Need-returns-2
 returns-2 c =

@@ -31,9 +31,12 @@ no-rules-requires c κs = search needs
 loop-holds : tie.Need-loop-holds Inv-loop μ-loop
 loop-holds c =
     let z = c .before .before in
-    let e = c .no-rules .ensures in
-    (z .pre .0, omega (arith, ap (λ (x : RuleColumns). x .count) e), no-rules-fit e,
-      leads-start (rules-whole (now (z .args .sheet)) (z .args .tokens) (z .args .count) (c .no-rules .result) (z .args .at) e) e)
+    let e = c .no-rules .ensures in (
+      z .pre .0,
+      omega (arith, ap (λ (x : RuleColumns). x .count) e),
+      no-rules-fit e,
+      leads-start (rules-whole (now (z .args .sheet)) (z .args .tokens) (z .args .count) (c .no-rules .result) (z .args .at) e) e,
+    )
 
 read-rule-requires : tie.Need-read-rule-requires Inv-loop μ-loop
 read-rule-requires c κs =
@@ -76,9 +79,12 @@ loop-again c =
     let bytes = now (z .args .sheet) in
     let m = read-rule bytes (z .args .tokens) (allowance (l .out)) (l .place) in
     let w = was-read with-rule (length bytes) (l .out) (one .result .step) (one .result .rules) m (one .ensures .0) (c .before .step .given .1) in
-    let n = ap (λ (x : RuleColumns). x .count) (w .columns) ∙ rule-count (l .out) (w .what) in
-    (w .inside, omega (arith, n, c .before .before .before .before .before .if1 .taken), one .ensures .1,
-      leads-next (l .inv .3) (rules-next bytes (z .args .tokens) (z .args .count) (l .out) (l .place) (c .before .before .before .before .before .if1 .taken) (w .read) (w .columns)) (w .columns))
+    let n = ap (λ (x : RuleColumns). x .count) (w .columns) ∙ rule-count (l .out) (w .what) in (
+      w .inside,
+      omega (arith, n, c .before .before .before .before .before .if1 .taken),
+      one .ensures .1,
+      leads-next (l .inv .3) (rules-next bytes (z .args .tokens) (z .args .count) (l .out) (l .place) (c .before .before .before .before .before .if1 .taken) (w .read) (w .columns)) (w .columns),
+    )
 
 returns-2 : tie.Need-returns-2 Inv-loop μ-loop
 returns-2 c =

@@ -1,0 +1,67 @@
+-- `stage1_sheet_reader::read_rest` meets its contract.
+use borrow.Author.Needs.{needs}
+use mathlib.Core.Path.{refl}
+use mathlib.Core.List.{[], _∷_}
+use denote.Ref.{now}
+use lib.ListN.{length}
+use Rattle.stage1_sheet.specs.Reading.{expression-nodes}
+use Rattle.stage1_sheet_reader.specs.Put.{with-all, with-read-node, no-nodes}
+use Rattle.stage1_sheet_reader.proofs.Leading.{was-read, was-stopped}
+use Rattle.stage1_sheet_reader.proofs.Whole.{rest-stop, rest-over, rest-done}
+use Rattle.stage1_sheet_reader.proofs.read_rest.Statement.{statement}
+use Rattle.stage1_sheet_reader.proofs.read_rest.Tie as tie
+
+read-expression-requires : tie.Need-read-expression-requires
+read-expression-requires c κs = search needs
+
+enum-known-step : tie.Need-enum-known-step
+enum-known-step c = search needs
+
+refused-requires : tie.Need-refused-requires
+refused-requires c κs = search needs
+
+enum-known-step-2 : tie.Need-enum-known-step-2
+enum-known-step-2 c = search needs
+
+refused-requires-2 : tie.Need-refused-requires-2
+refused-requires-2 c κs = search needs
+
+returns : tie.Need-returns
+returns c =
+    let z = c .before .before .before .before .before .before .before .before in
+    let x = c .before .before .before .before .before .before .read-expression in
+    let bytes = now (z .args .sheet) in
+    let m = expression-nodes bytes (z .args .tokens) 64 (0 ∷ []) (z .args .at) in
+    let w = was-read (with-all with-read-node) (length bytes) no-nodes (x .result .step) (x .result .nodes) m (x .ensures) (c .before .before .before .step2 .given .1) in
+    rest-over bytes _ _ _ _ (w .read) (c .before .if1 .taken) (c .refused2 .ensures)
+
+returns-2 : tie.Need-returns-2
+returns-2 c =
+    let z = c .before .before .before .before .before .before .before in
+    let x = c .before .before .before .before .before .read-expression in
+    let bytes = now (z .args .sheet) in
+    let m = expression-nodes bytes (z .args .tokens) 64 (0 ∷ []) (z .args .at) in
+    let e = was-stopped (with-all with-read-node) (length bytes) no-nodes (x .result .step) (x .result .nodes) m (x .ensures) (c .before .before .step .given .1) in
+    rest-stop bytes _ _ _ _ e (c .refused .ensures)
+
+returns-3 : tie.Need-returns-3
+returns-3 c =
+    let z = c .before .before .before .before .before .before .before in
+    let x = c .before .before .before .before .before .read-expression in
+    let bytes = now (z .args .sheet) in
+    let m = expression-nodes bytes (z .args .tokens) 64 (0 ∷ []) (z .args .at) in
+    let w = was-read (with-all with-read-node) (length bytes) no-nodes (x .result .step) (x .result .nodes) m (x .ensures) (c .before .before .step2 .given .1) in
+    rest-done bytes _ _ _ _ (w .read) (c .if1 .left) (refl, refl, refl, w .columns)
+
+pub read-rest-spec : {M : Type 1} → statement M
+read-rest-spec =
+    tie.close
+    (tie.spec
+    read-expression-requires
+    enum-known-step
+    refused-requires
+    enum-known-step-2
+    refused-requires-2
+    returns
+    returns-2
+    returns-3)

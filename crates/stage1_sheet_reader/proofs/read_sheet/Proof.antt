@@ -1,0 +1,98 @@
+-- `stage1_sheet_reader::read_sheet` meets its contract.
+use borrow.Author.Needs.{needs}
+use mathlib.Core.Path.{sym, _∙_}
+use denote.Ref.{now}
+use lib.ListN.{length}
+use Rattle.stage1_sheet.specs.FieldLaws.{Bytes}
+use Rattle.stage1_sheet_reader.specs.Put.{with-all, with-rule, no-rules}
+use Rattle.stage1_sheet_reader.proofs.Leading.{was-read, was-stopped}
+use Rattle.stage1_sheet_reader.proofs.Whole.{head-wrong, head-read, rules-part, sheet-head, sheet-rules, sheet-rest}
+use Rattle.stage1_sheet_reader.proofs.read_sheet.Statement.{statement}
+use Rattle.stage1_sheet_reader.proofs.read_sheet.Tie as tie
+
+read-header-requires : tie.Need-read-header-requires
+read-header-requires c κs = search needs
+
+enum-known-question : tie.Need-enum-known-question
+enum-known-question c = search needs
+
+refused-requires : tie.Need-refused-requires
+refused-requires c κs = search needs
+
+enum-known-tokens : tie.Need-enum-known-tokens
+enum-known-tokens c = search needs
+
+read-rules-requires : tie.Need-read-rules-requires
+read-rules-requires c κs =
+    let z = c .before .before .before .before .before in
+    let bytes = now (z .args .sheet) in
+    let b : Bytes bytes = λ i. c .before .before .before .before .shared-slice-known .given i .fits in
+    let h = head-read bytes b (sym (c .before .before .before .read-header .ensures) ∙ c .before .tokens .given .1) in
+    (h .inside, z .pre, h .tokens-most, h .rules-most)
+
+enum-known-step : tie.Need-enum-known-step
+enum-known-step c = search needs
+
+refused-requires-2 : tie.Need-refused-requires-2
+refused-requires-2 c κs = search needs
+
+enum-known-step-2 : tie.Need-enum-known-step-2
+enum-known-step-2 c = search needs
+
+read-rest-requires : tie.Need-read-rest-requires
+read-rest-requires c κs =
+    let z = c .before .before .before .before .before .before .before .before .before .before in
+    let bytes = now (z .args .sheet) in
+    let b : Bytes bytes = λ i. c .before .before .before .before .before .before .before .before .before .shared-slice-known .given i .fits in
+    let h = head-read bytes b (sym (c .before .before .before .before .before .before .before .before .read-header .ensures) ∙ c .before .before .before .before .before .before .tokens .given .1) in
+    let x = c .before .before .before .before .read-rules in
+    let k = c .before .before .before .before .before .before .tokens .given .0 in
+    let m = rules-part bytes (record { tokens = k .0; rules = k .1 .0 }) (k .1 .1 .0) in
+    let w = was-read (with-all with-rule) (length bytes) no-rules (x .result .step) (x .result .rules) m (x .ensures .0) (c .before .step2 .given .1) in
+    (w .inside, z .pre)
+
+returns : tie.Need-returns
+returns c =
+    let bytes = now (c .before .before .before .before .before .before .args .sheet) in
+    sheet-head bytes _ (head-wrong bytes (sym (c .before .before .before .before .read-header .ensures) ∙ c .before .before .question .given .1)) (c .refused .ensures)
+
+returns-2 : tie.Need-returns-2
+returns-2 c =
+    let z = c .before .before .before .before .before .before .before .before .before .before .before in
+    let bytes = now (z .args .sheet) in
+    let b : Bytes bytes = λ i. c .before .before .before .before .before .before .before .before .before .before .shared-slice-known .given i .fits in
+    let h = head-read bytes b (sym (c .before .before .before .before .before .before .before .before .before .read-header .ensures) ∙ c .before .before .before .before .before .before .before .tokens .given .1) in
+    let x = c .before .before .before .before .before .read-rules in
+    let k = c .before .before .before .before .before .before .before .tokens .given .0 in
+    let m = rules-part bytes (record { tokens = k .0; rules = k .1 .0 }) (k .1 .1 .0) in
+    let e = was-stopped (with-all with-rule) (length bytes) no-rules (x .result .step) (x .result .rules) m (x .ensures .0) (c .before .before .step .given .1) in
+    sheet-rules bytes _ (h .read) e (c .refused2 .ensures)
+
+returns-3 : tie.Need-returns-3
+returns-3 c =
+    let z = c .before .before .before .before .before .before .before .before .before .before .before in
+    let bytes = now (z .args .sheet) in
+    let b : Bytes bytes = λ i. c .before .before .before .before .before .before .before .before .before .before .shared-slice-known .given i .fits in
+    let h = head-read bytes b (sym (c .before .before .before .before .before .before .before .before .before .read-header .ensures) ∙ c .before .before .before .before .before .before .before .tokens .given .1) in
+    let x = c .before .before .before .before .before .read-rules in
+    let k = c .before .before .before .before .before .before .before .tokens .given .0 in
+    let m = rules-part bytes (record { tokens = k .0; rules = k .1 .0 }) (k .1 .1 .0) in
+    let w = was-read (with-all with-rule) (length bytes) no-rules (x .result .step) (x .result .rules) m (x .ensures .0) (c .before .before .step2 .given .1) in
+    sheet-rest bytes _ (h .read) b (h .inside) (w .inside) (w .read) (w .columns) (x .ensures .1) (c .read-rest .ensures)
+
+pub read-sheet-spec : {M : Type 1} → statement M
+read-sheet-spec =
+    tie.close
+    (tie.spec
+    read-header-requires
+    enum-known-question
+    refused-requires
+    enum-known-tokens
+    read-rules-requires
+    enum-known-step
+    refused-requires-2
+    enum-known-step-2
+    read-rest-requires
+    returns
+    returns-2
+    returns-3)
