@@ -145,7 +145,7 @@ module _ (tokens opened : ℕ) (due : List ℕ) (is : List ExpressionItem) where
   two-made i make items before both (g ∷ h ∷ gs) c e = rw (before g h gs) record {
     closed-all = (both g h (c .0) (c .1 .0), c .1 .1);
     same-items = ap (λ l. l ++ flatMap expression-items-of gs) (items g h)
-        ∙ ap (λ l. i ∷ l) (append-assoc (expression-items-of g) (expression-items-of h) (flatMap expression-items-of gs) ∙ e);
+      ∙ ap (λ l. i ∷ l) (append-assoc (expression-items-of g) (expression-items-of h) (flatMap expression-items-of gs) ∙ e);
   }
 
   expression-item-made : (i : ExpressionItem) (gs : List Expression) → ItemAllowed tokens opened i

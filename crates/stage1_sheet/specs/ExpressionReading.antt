@@ -87,8 +87,8 @@ module _ (bytes : List ℕ) (b : Bytes bytes) where
         makes = (g .allowed, r .makes);
         nodes-kept = omega (arith, r .nodes-kept);
         stands = stands-append
-            (subst (λ (n : ℕ). Stands bytes at (n ∷ tag-number item) mid) (sym (g .same-tag)) (stands-append (f .stands) (g .stands)))
-            (r .stands);
+          (subst (λ (n : ℕ). Stands bytes at (n ∷ tag-number item) mid) (sym (g .same-tag)) (stands-append (f .stands) (g .stands)))
+          (r .stands);
       })))
 
 -- ---- whatever stands there is read
@@ -157,14 +157,14 @@ module _ (bytes : List ℕ) (tokens : ℕ) (few : tokens < 2 ^ 64) where
       let same : after next (tag-number item) ≡ after at (expression-item-numbers item) = sym (after-append at (expression-tag item ∷ []) (tag-number item)) in
       rw (
         sheet-field-got (between 0 6) bytes at (expression-tag item) (tag-number item ++ numbers) end (omega arith)
-            (between-true 0 6 (expression-tag item) (omega arith) t) (r .stands),
+        (between-true 0 6 (expression-tag item) (omega arith) t) (r .stands),
         node-got item opened next end numbers (omega (arith, h .0)) (r .makes .0) s,
         same,
         nodes-got left (part-depths item opened ++ due) (after at (expression-item-numbers item)) items end (small-parts item left opened due h) record {
           makes = r .makes .1;
           nodes-kept = omega (arith, r .nodes-kept);
           stands = subst (λ (p : ℕ). Stands bytes p numbers end) same q;
-        },
+        }
       )
 
   -- One expression with no fixed point open, as a sheet has it.

@@ -53,7 +53,7 @@ pub stands-append : {bytes ms ns : List ℕ} {at mid end : ℕ} → Stands bytes
 stands-append {bytes} {ms} {ns} {at} {mid} {end} a b =
     let e = after-append at ms ns in record {
       there = a .there ∙ ap (λ (l : List ℕ). spell ms ++ l) (b .there) ∙ sym (append-assoc (spell ms) (spell ns) (drop end bytes))
-          ∙ ap (λ (l : List ℕ). l ++ drop end bytes) (sym (spell-append ms ns));
+        ∙ ap (λ (l : List ℕ). l ++ drop end bytes) (sym (spell-append ms ns));
       until = omega (arith, a .until, b .until);
       inside = b .inside;
     }
@@ -72,7 +72,7 @@ module _ (bytes : List ℕ) (at : ℕ) (ms ns : List ℕ) (end : ℕ) (s : Stand
   pub stands-first : Stands bytes at ms (after at ms)
   stands-first = record {
     there = s .there ∙ ap (λ (l : List ℕ). l ++ drop end bytes) (spell-append ms ns) ∙ append-assoc (spell ms) (spell ns) (drop end bytes)
-        ∙ ap (λ (l : List ℕ). spell ms ++ l) (sym beyond);
+      ∙ ap (λ (l : List ℕ). spell ms ++ l) (sym beyond);
     until = refl;
     inside = omega (arith, s .until, s .inside, after-append at ms ns);
   }
@@ -85,7 +85,7 @@ stands-whole bytes ns = (
     there = e ∙ sym (append-nil (spell ns)) ∙ ap (λ (l : List ℕ). spell ns ++ l) (sym (drop-length bytes));
     until = omega (arith, ap length e);
     inside = omega arith;
-  },
+  }
 )
 
 -- ---- outcomes
@@ -117,7 +117,7 @@ pub true-between : (least most v : ℕ) → between least most v ≡ true → (l
 unfolding between
 true-between least most v e = (
   leb→le least v (true-holds (leb least v) (and-true-first (leb least v) (leb v most) e)),
-  leb→le v most (true-holds (leb v most) (and-true-second (leb least v) (leb v most) e)),
+  leb→le v most (true-holds (leb v most) (and-true-second (leb least v) (leb v most) e))
 )
 
 -- What a field that was read is: its number stands there, and its value is allowed.

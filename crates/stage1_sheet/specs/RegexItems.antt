@@ -108,17 +108,13 @@ unfolding regex-items-of regex-parts
 makes-regex empty due is b h = (tt, makes-as is (omega arith) h)
 makes-regex (class low high) due is b h = (b, makes-as is (omega arith) h)
 makes-regex (concat r s) due is b h =
-    rw (append-assoc (regex-items-of r) (regex-items-of s) is) (
-      tt,
-      makes-as (regex-items-of r ++ (regex-items-of s ++ is)) (omega arith)
-          (makes-regex r (suc due) (regex-items-of s ++ is) (b .0) (makes-regex s due is (b .1) h)),
-    )
+    rw (append-assoc (regex-items-of r) (regex-items-of s) is)
+    (tt, makes-as (regex-items-of r ++ (regex-items-of s ++ is)) (omega arith)
+    (makes-regex r (suc due) (regex-items-of s ++ is) (b .0) (makes-regex s due is (b .1) h)))
 makes-regex (union r s) due is b h =
-    rw (append-assoc (regex-items-of r) (regex-items-of s) is) (
-      tt,
-      makes-as (regex-items-of r ++ (regex-items-of s ++ is)) (omega arith)
-          (makes-regex r (suc due) (regex-items-of s ++ is) (b .0) (makes-regex s due is (b .1) h)),
-    )
+    rw (append-assoc (regex-items-of r) (regex-items-of s) is)
+    (tt, makes-as (regex-items-of r ++ (regex-items-of s ++ is)) (omega arith)
+    (makes-regex r (suc due) (regex-items-of s ++ is) (b .0) (makes-regex s due is (b .1) h)))
 makes-regex (star r) due is b h = (tt, makes-as (regex-items-of r ++ is) (omega arith) (makes-regex r due is b h))
 
 -- The regexes that items make: as many as were due, in range, and with just these items.

@@ -88,8 +88,8 @@ module _ (bytes : List ℕ) (b : Bytes bytes) where
         nodes-kept = omega (arith, r .nodes-kept);
         classes-kept = omega (arith, r .classes-kept, g .room);
         stands = stands-append
-            (subst (λ (n : ℕ). Stands bytes at (n ∷ class-bytes item) mid) (sym (g .same-tag)) (stands-append (f .stands) (g .stands)))
-            (r .stands);
+          (subst (λ (n : ℕ). Stands bytes at (n ∷ class-bytes item) mid) (sym (g .same-tag)) (stands-append (f .stands) (g .stands)))
+          (r .stands);
       })))
 
 -- ---- whatever stands there is read
@@ -105,7 +105,7 @@ module _ (bytes : List ℕ) where
         eqb·suc-zero classes,
         sheet-field-got (between 0 most-byte) bytes next low (high ∷ ns) end (omega arith) (between-true 0 most-byte low (omega arith) (omega arith)) s,
         sheet-field-got (between low most-byte) bytes (after next (low ∷ [])) high ns end (omega arith) (between-true low most-byte high l m) rest,
-        after-append next (low ∷ []) (high ∷ []),
+        after-append next (low ∷ []) (high ∷ [])
       )
 
   item-got : (item : RegexItem) (classes at next end : ℕ) (ns : List ℕ) → ItemInRange item → item-classes item ≤ classes
@@ -142,12 +142,12 @@ module _ (bytes : List ℕ) where
       let s = stands-rest bytes at (regex-tag item ∷ []) (class-bytes item ++ numbers) end (r .stands) in
       rw (
         sheet-field-got (between 0 4) bytes at (regex-tag item) (class-bytes item ++ numbers) end (omega arith)
-            (between-true 0 4 (regex-tag item) (omega arith) t) (r .stands),
+        (between-true 0 4 (regex-tag item) (omega arith) t) (r .stands),
         item-got item classes at next end numbers (r .makes .0) (omega (arith, r .classes-kept)) s,
         regexes-got left (classes - item-classes item) (regex-parts item + due) (after next (class-bytes item)) items end record {
           makes = r .makes .1;
           nodes-kept = omega (arith, r .nodes-kept);
           classes-kept = omega (arith, r .classes-kept);
           stands = stands-rest bytes next (class-bytes item) numbers end s;
-        },
+        }
       )

@@ -141,7 +141,7 @@ module _ (bytes : List ℕ) (tokens : ℕ) (few : tokens < 2 ^ 64) where
           classes-kept = omega (arith, items-classes regex);
           stands = rw (items-numbers regex) (stands-first bytes next (regex-numbers regex) ns end rest);
         },
-        after-append at (action ∷ []) (regex-numbers regex),
+        after-append at (action ∷ []) (regex-numbers regex)
       )
 
   rules-row : (rs : List Rule) (allowed : Allowance) (at end : ℕ) → RulesRead bytes tokens allowed at rs end
@@ -151,17 +151,16 @@ module _ (bytes : List ℕ) (tokens : ℕ) (few : tokens < 2 ^ 64) where
   rules-row (r ∷ rs) allowed at end h =
       let numbers : List ℕ = r .action ∷ regex-numbers (r .regex) in
       let n = items-length (r .regex) in
-      let c = items-classes (r .regex) in (
-        after at numbers,
+      let c = items-classes (r .regex) in
+      (after at numbers,
         rule-got allowed at end (rule-numbers rs) (r .action) (r .regex) (h .in-range .0 .action-allowed) (h .in-range .0 .bytes-allowed)
-            (omega (arith, h .nodes-kept)) (omega (arith, h .classes-kept)) (h .stands),
+        (omega (arith, h .nodes-kept)) (omega (arith, h .classes-kept)) (h .stands),
         rules-row rs (less-rule allowed (record { place = at; action = r .action; items = regex-items-of (r .regex) })) (after at numbers) end record {
           in-range = h .in-range .1;
           nodes-kept = omega (arith, h .nodes-kept);
           classes-kept = omega (arith, h .classes-kept);
           stands = stands-rest bytes at numbers (rule-numbers rs) end (h .stands);
-        },
-      )
+        })
 
   pub rules-got : (rs : List Rule) (allowed : Allowance) (at end : ℕ) → RulesRead bytes tokens allowed at rs end
       → read-many (read-rule bytes tokens) less-rule allowed (length rs) at ≡ got (rules-from at rs) end
