@@ -19,7 +19,7 @@ use Rattle.stage1_sheet.specs.ExpressionItems.{expression-tag}
 use Rattle.stage1_sheet_columns.specs.Holds.{number-after}
 use Rattle.stage1_sheet_columns.specs.declared.NodeColumns.{NodeColumns}
 use Rattle.stage1_sheet_reader.specs.Put.{with-node, with-read-node, due-from, due-of, next-opened, with-parts, no-nodes, one-pending}
-use Rattle.stage1_sheet_reader.specs.Turns.{in-range, expression-stopped, expression-turn, expression-turned, numbered-turned}
+use Rattle.stage1_sheet_reader.specs.Turns.{in-range, expression-stopped, expression-gone, expression-turn, expression-turned, numbered-turned}
 use Rattle.stage1_sheet_reader.specs.Answers.{PendingFit}
 use Rattle.stage1_sheet_reader.specs.declared.Step.the-variants.{Next, Stop}
 use Rattle.stage1_sheet_reader.specs.declared.Pending.{Pending}
@@ -40,7 +40,7 @@ module _ (c : NodeColumns) (p : Pending) (at : ℕ) where
     numbered-stops e = rw e
 
     pub numbered-goes : {number next : ℕ} {n : NodeColumns} {q : Pending} → m ≡ got number next → n ≡ with-node c tag number at → q ≡ with-parts p tag
-        → record { step = Next next; nodes = n; pending = q } ≡ numbered-turned c p at tag m
+        → expression-gone n q next ≡ numbered-turned c p at tag m
     unfolding numbered-turned
     numbered-goes e h k = rw (e, h, k)
 
@@ -61,7 +61,7 @@ pub record PlainItem (tag : ℕ) (m : Reading ExpressionItem) (next : ℕ) : Typ
   pub no-number : number-after item ≡ 0
 
 pub plain-item-goes : (c : NodeColumns) (p : Pending) (at : ℕ) {m : Reading ExpressionItem} {tag next : ℕ} {n : NodeColumns} {q : Pending} → PlainItem tag m next
-    → n ≡ with-node c tag 0 at → q ≡ with-parts p tag → record { step = Next next; nodes = n; pending = q } ≡ expression-turned c p at m
+    → n ≡ with-node c tag 0 at → q ≡ with-parts p tag → expression-gone n q next ≡ expression-turned c p at m
 unfolding expression-turned
 plain-item-goes c p at i h k = rw (i .read, i .same-tag, i .no-number, h, k)
 

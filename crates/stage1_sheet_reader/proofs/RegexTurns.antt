@@ -13,7 +13,7 @@ use Rattle.stage1_sheet.specs.Items.{RegexItem, empty-item, class-item, concat-
 use Rattle.stage1_sheet.specs.Reading.{sheet-field, class-after, regex-item, regex-items}
 use Rattle.stage1_sheet_columns.specs.declared.RuleColumns.{RuleColumns}
 use Rattle.stage1_sheet_reader.specs.Put.{with-tag, with-class, with-item}
-use Rattle.stage1_sheet_reader.specs.Turns.{regex-stopped, regex-turn, regex-turned}
+use Rattle.stage1_sheet_reader.specs.Turns.{regex-stopped, regex-gone, regex-turn, regex-turned}
 use Rattle.stage1_sheet_reader.specs.Answers.{RulesFit}
 use Rattle.stage1_sheet_reader.specs.declared.Step.the-variants.{Next, Stop}
 use Rattle.stage1_sheet_reader.specs.declared.RegexTurn.{RegexTurn}
@@ -27,7 +27,7 @@ module _ (c : RuleColumns) (due : ℕ) {m : Reading RegexItem} where
   turn-stops e = rw e
 
   pub turn-goes : {item : RegexItem} {next d : ℕ} {p : RuleColumns} → m ≡ got item next → d ≡ due - 1 + regex-parts item → p ≡ with-item c item
-      → record { step = Next next; due = d; rules = p } ≡ regex-turned c due m
+      → regex-gone p d next ≡ regex-turned c due m
   unfolding regex-turned
   turn-goes {item} {next} e n h = rw (e, n, h)
 
@@ -39,7 +39,7 @@ pub record PlainNode (c : RuleColumns) (tag : ℕ) (m : Reading RegexItem) (next
   pub put : with-tag c tag ≡ with-item c item
 
 pub plain-goes : (c : RuleColumns) (due : ℕ) {m : Reading RegexItem} {tag next parts d : ℕ} {p : RuleColumns} → PlainNode c tag m next parts
-    → p ≡ with-tag c tag → d ≡ due - 1 + parts → record { step = Next next; due = d; rules = p } ≡ regex-turned c due m
+    → p ≡ with-tag c tag → d ≡ due - 1 + parts → regex-gone p d next ≡ regex-turned c due m
 plain-goes c due n h e = turn-goes c due (n .read) (e ∙ ap (λ (k : ℕ). due - 1 + k) (sym (n .parts-are))) (h ∙ n .put)
 
 -- What a turn that goes on has read, and left.

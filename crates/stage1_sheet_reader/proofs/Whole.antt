@@ -24,12 +24,11 @@ use Rattle.stage1_sheet_columns.specs.Holds.{RulesHold, NodesHold, items-of-rul
 use Rattle.stage1_sheet_columns.specs.declared.RuleColumns.{RuleColumns}
 use Rattle.stage1_sheet_reader.specs.Put.{with-all, with-rule, with-read-node, no-rules, no-nodes}
 use Rattle.stage1_sheet_reader.specs.Turns.{Counted, header, header-answer, nodes-to-end}
-use Rattle.stage1_sheet_reader.specs.Answers.{allowance, Answers, RulesFit, Finished, Holds, Reads}
+use Rattle.stage1_sheet_reader.specs.Answers.{allowance, Answers, RulesFit, refused-columns, Finished, Holds, Reads}
 use Rattle.stage1_sheet_reader.specs.declared.Header.the-variants.{Counts, Wrong}
 use Rattle.stage1_sheet_reader.specs.declared.Step.{Step}
 use Rattle.stage1_sheet_reader.specs.declared.Step.the-variants.{Next, Stop}
 use Rattle.stage1_sheet_reader.specs.declared.SheetColumns.{SheetColumns}
-use Rattle.stage1_sheet_reader.specs.declared.Outcome.the-variants.{Done, Refused}
 use Rattle.stage1_sheet_reader.proofs.Fields.{field-kept}
 use Rattle.stage1_sheet_reader.proofs.Leading.{was-read, was-stopped}
 use Rattle.stage1_sheet_reader.proofs.Holding.{all-rules-held, all-nodes-held}
@@ -117,12 +116,12 @@ module _ (bytes : List ℕ) (b : Bytes bytes) where
 
 module _ (bytes : List ℕ) (tokens at : ℕ) (rules : RuleColumns) (r : SheetColumns) where
   pub rest-stop : {question place : ℕ} → expression-nodes bytes tokens most-expression-nodes (0 ∷ []) at ≡ stop question place
-      → r .outcome ≡ Refused question place → Finished (nodes-to-end bytes tokens at) tokens rules r
+      → r ≡ refused-columns question place → Finished (nodes-to-end bytes tokens at) tokens rules r
   unfolding nodes-to-end
   rest-stop e h = rw e h
 
   module _ {nodes : List ReadNode} {end : ℕ} (e : expression-nodes bytes tokens most-expression-nodes (0 ∷ []) at ≡ got nodes end) where
-    pub rest-over : (end ≡ length bytes → ⊥) → r .outcome ≡ Refused 6 end → Finished (nodes-to-end bytes tokens at) tokens rules r
+    pub rest-over : (end ≡ length bytes → ⊥) → r ≡ refused-columns 6 end → Finished (nodes-to-end bytes tokens at) tokens rules r
     unfolding nodes-to-end
     rest-over n h = rw (e, ne-eqb end (length bytes) n) h
 
@@ -250,12 +249,12 @@ module _ (bytes : List ℕ) (b : Bytes bytes) (tokens : ℕ) where
 -- ---- the ways through a sheet
 
 module _ (bytes : List ℕ) (r : SheetColumns) where
-  pub sheet-head : {question place : ℕ} → header bytes ≡ stop question place → r .outcome ≡ Refused question place → Reads (read-sheet bytes) r
+  pub sheet-head : {question place : ℕ} → header bytes ≡ stop question place → r ≡ refused-columns question place → Reads (read-sheet bytes) r
   sheet-head e h = rw (sheet-parts bytes, e) h
 
   module _ {tokens count at : ℕ} (e : header bytes ≡ got (record { tokens = tokens; rules = count }) at) where
     pub sheet-rules : {question place : ℕ} → rules-part bytes (record { tokens = tokens; rules = count }) at ≡ stop question place
-        → r .outcome ≡ Refused question place → Reads (read-sheet bytes) r
+        → r ≡ refused-columns question place → Reads (read-sheet bytes) r
     sheet-rules f h = rw (sheet-parts bytes, e, f) h
 
     pub sheet-rest : {rules : List ReadRule} {next : ℕ} {d : RuleColumns} → Bytes bytes → at ≤ length bytes → next ≤ length bytes

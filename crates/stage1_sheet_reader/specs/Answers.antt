@@ -1,15 +1,16 @@
 -- What the readers answer: for what the definition reads from a place on, the place after it and the columns with it; for a
 -- refusal, its question and place. The columns after a refusal are not spoken of.
 use mathlib.Core.Path.{_≡_}
-use mathlib.Core.List.{List}
+use mathlib.Core.List.{List, [], _∷_}
 use Prim.Native.Nat.{ℕ, _+_, _-_, _≤_, _<_}
 use lib.ListN.{length, getD}
-use Rattle.stage1_sheet.specs.Field.{Reading, stop, got}
-use Rattle.stage1_sheet.specs.Reading.{ReadNode, Allowance, Contents}
+use Rattle.stage1_sheet.specs.Limits.{most-expression-nodes}
+use Rattle.stage1_sheet.specs.Field.{Reading, stop, got, read-many}
+use Rattle.stage1_sheet.specs.Reading.{regex-items, ReadNode, Allowance, less-rule, read-rule, expression-nodes, Contents}
 use Rattle.stage1_sheet_columns.specs.Holds.{RulesOf, NodesOf}
 use Rattle.stage1_sheet_columns.specs.declared.RuleColumns.{RuleColumns}
 use Rattle.stage1_sheet_columns.specs.declared.NodeColumns.{NodeColumns}
-use Rattle.stage1_sheet_reader.specs.Put.{with-all, with-read-node, no-nodes}
+use Rattle.stage1_sheet_reader.specs.Put.{with-item, with-all, with-rule, with-read-node, no-rules, no-nodes}
 use Rattle.stage1_sheet_reader.specs.declared.Step.{Step}
 use Rattle.stage1_sheet_reader.specs.declared.Step.the-variants.{Next, Stop}
 use Rattle.stage1_sheet_reader.specs.declared.Pending.{Pending}
@@ -38,9 +39,29 @@ abbrev pub Answers : {A C : Type 0} → (C → A → C) → ℕ → Reading A �
 Answers put most (stop question place) c s d = s ≡ Stop question place
 Answers put most (got a end) c s d = (s ≡ Next end) × (d ≡ put c a) × (end ≤ most)
 
+-- One regex, one rule, so many rules, and the expression.
+abbrev pub ReadsRegex : List ℕ → ℕ → RuleColumns → Step → RuleColumns → Type 0
+ReadsRegex bytes at c s d =
+    Answers (with-all with-item) (length bytes) (regex-items bytes (256 - c .items) (64 - c .classes) 1 at) c s d × RulesFit d
+
+abbrev pub ReadsRule : List ℕ → ℕ → ℕ → RuleColumns → Step → RuleColumns → Type 0
+ReadsRule bytes at tokens c s d = Answers with-rule (length bytes) (read-rule bytes tokens (allowance c) at) c s d × RulesFit d
+
+abbrev pub ReadsRules : List ℕ → ℕ → ℕ → ℕ → Step → RuleColumns → Type 0
+ReadsRules bytes at tokens count s d =
+    Answers (with-all with-rule) (length bytes) (read-many (read-rule bytes tokens) less-rule (allowance no-rules) count at) no-rules s d × RulesFit d
+
+abbrev pub ReadsExpression : List ℕ → ℕ → ℕ → Step → NodeColumns → Type 0
+ReadsExpression bytes at tokens s d =
+    Answers (with-all with-read-node) (length bytes) (expression-nodes bytes tokens most-expression-nodes (0 ∷ []) at) no-nodes s d
+
+-- A refusal leaves nothing but its question and place.
+abbrev pub refused-columns : ℕ → ℕ → SheetColumns
+refused-columns question place = record { outcome = Refused question place; tokens = 0; rules = no-rules; nodes = no-nodes }
+
 -- The rules as given, and the nodes that were read.
 abbrev pub Finished : Reading (List ReadNode) → ℕ → RuleColumns → SheetColumns → Type 0
-Finished (stop question place) tokens rules r = r .outcome ≡ Refused question place
+Finished (stop question place) tokens rules r = r ≡ refused-columns question place
 Finished (got nodes end) tokens rules r =
     (r .outcome ≡ Done) × (r .tokens ≡ tokens) × (r .rules ≡ rules) × (r .nodes ≡ with-all with-read-node no-nodes nodes)
 
@@ -51,6 +72,7 @@ pub record Holds (c : Contents) (r : SheetColumns) : Type 0 where
   pub rules-held : RulesOf (r .rules) (c .sheet .rules) (c .action-places)
   pub nodes-held : NodesOf (r .nodes) (c .sheet .expression) (c .node-places)
 
+-- What the columns say of a sheet that was read, or of a refusal.
 abbrev pub Reads : Reading Contents → SheetColumns → Type 0
-Reads (stop question place) r = r .outcome ≡ Refused question place
+Reads (stop question place) r = r ≡ refused-columns question place
 Reads (got c end) r = Holds c r

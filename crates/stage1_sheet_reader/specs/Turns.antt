@@ -61,10 +61,13 @@ regex-turn bytes left classes at =
 abbrev pub regex-stopped : RuleColumns → ℕ → ℕ → ℕ → RegexTurn
 regex-stopped c due question place = record { step = Stop question place; due = due; rules = c }
 
+abbrev pub regex-gone : RuleColumns → ℕ → ℕ → RegexTurn
+regex-gone c due next = record { step = Next next; due = due; rules = c }
+
 -- What a turn leaves of the columns, and of the regexes due, of which the node is one.
 unfoldable pub regex-turned : RuleColumns → ℕ → Reading RegexItem → RegexTurn
 regex-turned c due (stop question place) = regex-stopped c due question place
-regex-turned c due (got item next) = record { step = Next next; due = due - 1 + regex-parts item; rules = with-item c item }
+regex-turned c due (got item next) = regex-gone (with-item c item) (due - 1 + regex-parts item) next
 
 -- An expression node inside so many open fixed points, while so many nodes are allowed.
 unfoldable pub expression-turn : List ℕ → ℕ → ℕ → ℕ → ℕ → Reading ExpressionItem
@@ -74,15 +77,15 @@ expression-turn bytes tokens left opened at =
 abbrev pub expression-stopped : NodeColumns → Pending → ℕ → ℕ → ExpressionTurn
 expression-stopped c p question place = record { step = Stop question place; nodes = c; pending = p }
 
+abbrev pub expression-gone : NodeColumns → Pending → ℕ → ExpressionTurn
+expression-gone c p next = record { step = Next next; nodes = c; pending = p }
+
 unfoldable pub expression-turned : NodeColumns → Pending → ℕ → Reading ExpressionItem → ExpressionTurn
 expression-turned c p at (stop question place) = expression-stopped c p question place
-expression-turned c p at (got item next) = record {
-  step = Next next;
-  nodes = with-node c (expression-tag item) (number-after item) at;
-  pending = with-parts p (expression-tag item);
-}
+expression-turned c p at (got item next) =
+    expression-gone (with-node c (expression-tag item) (number-after item) at) (with-parts p (expression-tag item)) next
 
 -- The same for a tag with a number after it, which is given.
 unfoldable pub numbered-turned : NodeColumns → Pending → ℕ → ℕ → Reading ℕ → ExpressionTurn
 numbered-turned c p at tag (stop question place) = expression-stopped c p question place
-numbered-turned c p at tag (got number next) = record { step = Next next; nodes = with-node c tag number at; pending = with-parts p tag }
+numbered-turned c p at tag (got number next) = expression-gone (with-node c tag number at) (with-parts p tag) next

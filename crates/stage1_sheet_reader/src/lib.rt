@@ -1,18 +1,21 @@
 // Reading a sheet's bytes into columns, from the left: questions 3 to 6 with their places. Question 2, whether the sheet is
 // short enough, comes before, and the later questions are put to the columns by other crates.
 ghost use mathlib.Core.Path.{_≡_};
-ghost use mathlib.Core.List.{List, [], _∷_};
-ghost use Prim.Native.Nat.{ℕ, _+_, _-_, _≤_, _<_};
+ghost use Prim.Native.Nat.{_-_, _≤_, _<_};
 ghost use lib.ListN.{length, getD};
-ghost use Rattle.stage1_sheet.specs.Reading.{sheet-field, class-after, regex-items, less-rule, read-rule, expression-nodes, read-sheet};
-ghost use Rattle.stage1_sheet.specs.Field.{Reading, stop, got, read-many};
-ghost use Rattle.stage1_sheet_reader.specs.Put.{with-tag, with-class, with-action, with-item, with-all, with-rule, with-node, with-read-node, with-parts, next-opened, no-rules, no-nodes, one-pending};
-ghost use Rattle.stage1_sheet_reader.specs.Turns.{in-range, field-answer, header, header-answer, nodes-to-end, regex-turn, regex-stopped, regex-turned, expression-turn, expression-stopped, expression-turned, numbered-turned};
-ghost use Rattle.stage1_sheet_reader.specs.Answers.{allowance, Answers, RulesFit, PendingFit, Finished, Reads};
+ghost use Rattle.stage1_sheet.specs.Reading.{sheet-field, class-after, read-sheet};
+ghost use Rattle.stage1_sheet_reader.specs.Put.{with-tag, with-class, with-action, with-node, with-parts, next-opened};
+ghost use Rattle.stage1_sheet_reader.specs.Put.{no-rules, no-nodes, one-pending};
+ghost use Rattle.stage1_sheet_reader.specs.Turns.{in-range, field-answer, header, header-answer, nodes-to-end};
+ghost use Rattle.stage1_sheet_reader.specs.Turns.{regex-turn, regex-stopped, regex-gone, regex-turned};
+ghost use Rattle.stage1_sheet_reader.specs.Turns.{expression-turn, expression-stopped, expression-gone, expression-turned, numbered-turned};
+ghost use Rattle.stage1_sheet_reader.specs.Answers.{RulesFit, PendingFit, ReadsRegex, ReadsRule, ReadsRules, ReadsExpression};
+ghost use Rattle.stage1_sheet_reader.specs.Answers.{refused-columns, Finished, Reads};
 use stage0_number::Number;
 use stage1_sheet_columns::NodeColumns;
 use stage1_sheet_columns::RuleColumns;
 
+// The page's limits.
 const MOST_TOKENS: u64 = 24;
 
 const MOST_RULES: u64 = 32;
@@ -29,7 +32,7 @@ pub enum Outcome {
     Refused(u8, usize),
 }
 
-// A sheet as read. After a refusal only the outcome counts.
+// A sheet as read. After a refusal there are no tokens, and the columns are empty.
 pub struct SheetColumns {
     pub outcome: Outcome,
     pub tokens: u8,
@@ -191,6 +194,16 @@ fn regex_stop(question: u8, place: usize, due: usize, rules: RuleColumns) -> Reg
     }
 }
 
+fn regex_next(place: usize, due: usize, rules: RuleColumns) -> RegexTurn
+    ensures { λ r. ⌜ r ≡ regex-gone rules due place ⌝ }
+{
+    RegexTurn {
+        step: Step::Next(place),
+        due,
+        rules,
+    }
+}
+
 // A byte class whose tag stands at `at`: its low and high bytes stand from `next` on.
 fn class_turn(sheet: &[u8], at: usize, next: usize, due: usize, rules: RuleColumns) -> RegexTurn
     requires { ⌜ (0 < due) × (rules .items < 256) × (rules .classes ≤ 64) ⌝ }
@@ -207,11 +220,7 @@ fn class_turn(sheet: &[u8], at: usize, next: usize, due: usize, rules: RuleColum
             Field::Value(high, end) => {
                 let tagged = with_tag(rules, 1);
                 let put = with_class(tagged, low, high);
-                RegexTurn {
-                    step: Step::Next(end),
-                    due: due - 1,
-                    rules: put,
-                }
+                regex_next(end, due - 1, put)
             }
         },
     }
@@ -219,7 +228,7 @@ fn class_turn(sheet: &[u8], at: usize, next: usize, due: usize, rules: RuleColum
 
 // A regex node at a place, while regexes are due.
 fn regex_turn(sheet: &[u8], at: usize, due: usize, rules: RuleColumns) -> RegexTurn
-    requires { ⌜ (0 < due) × (due ≤ 1000) × RulesFit rules ⌝ }
+    requires { ⌜ (0 < due) × (due ≤ 257) × RulesFit rules ⌝ }
     ensures { λ r. ⌜ r ≡ regex-turned rules due (regex-turn (now (sheet .entry)) (256 - rules .items) (64 - rules .classes) at) ⌝ }
 {
     match read_field(sheet, at, 0, 5) {
@@ -234,24 +243,12 @@ fn regex_turn(sheet: &[u8], at: usize, due: usize, rules: RuleColumns) -> RegexT
             }
             let put = with_tag(rules, tag);
             if tag == 0 {
-                return RegexTurn {
-                    step: Step::Next(next),
-                    due: due - 1,
-                    rules: put,
-                };
+                return regex_next(next, due - 1, put);
             }
             if tag == 4 {
-                return RegexTurn {
-                    step: Step::Next(next),
-                    due,
-                    rules: put,
-                };
+                return regex_next(next, due, put);
             }
-            RegexTurn {
-                step: Step::Next(next),
-                due: due + 1,
-                rules: put,
-            }
+            regex_next(next, due + 1, put)
         }
     }
 }
@@ -259,7 +256,7 @@ fn regex_turn(sheet: &[u8], at: usize, due: usize, rules: RuleColumns) -> RegexT
 // A regex from a place on.
 fn read_regex(sheet: &[u8], at: usize, rules: RuleColumns) -> RulesRead
     requires { ⌜ (at ≤ length (now sheet)) × RulesFit rules ⌝ }
-    ensures { λ r. ⌜ Answers (with-all with-item) (length (now (sheet .entry))) (regex-items (now (sheet .entry)) (256 - rules .items) (64 - rules .classes) 1 at) rules (r .step) (r .rules) × RulesFit (r .rules) ⌝ }
+    ensures { λ r. ⌜ ReadsRegex (now (sheet .entry)) at rules (r .step) (r .rules) ⌝ }
 {
     let mut place = at;
     let mut due: usize = 1;
@@ -284,7 +281,7 @@ fn read_regex(sheet: &[u8], at: usize, rules: RuleColumns) -> RulesRead
 // A rule from a place on: its action, and then its regex.
 fn read_rule(sheet: &[u8], at: usize, tokens: u8, rules: RuleColumns) -> RulesRead
     requires { ⌜ (at ≤ length (now sheet)) × (length (now sheet) ≤ 4096) × (tokens ≤ 24) × (rules .count < 32) × RulesFit rules ⌝ }
-    ensures { λ r. ⌜ Answers with-rule (length (now (sheet .entry))) (read-rule (now (sheet .entry)) tokens (allowance rules) at) rules (r .step) (r .rules) × RulesFit (r .rules) ⌝ }
+    ensures { λ r. ⌜ ReadsRule (now (sheet .entry)) at tokens rules (r .step) (r .rules) ⌝ }
 {
     match read_field(sheet, at, 0, tokens as u64 + 1) {
         Field::Unfit(question, place) => RulesRead {
@@ -316,7 +313,7 @@ fn no_rules() -> RuleColumns
 // So many rules from a place on.
 fn read_rules(sheet: &[u8], at: usize, tokens: u8, count: u8) -> RulesRead
     requires { ⌜ (at ≤ length (now sheet)) × (length (now sheet) ≤ 4096) × (tokens ≤ 24) × (count ≤ 32) ⌝ }
-    ensures { λ r. ⌜ Answers (with-all with-rule) (length (now (sheet .entry))) (read-many (read-rule (now (sheet .entry)) tokens) less-rule (allowance no-rules) count at) no-rules (r .step) (r .rules) × RulesFit (r .rules) ⌝ }
+    ensures { λ r. ⌜ ReadsRules (now (sheet .entry)) at tokens count (r .step) (r .rules) ⌝ }
 {
     let many = count as usize;
     let mut place = at;
@@ -352,6 +349,16 @@ fn expression_stop(
     }
 }
 
+fn expression_next(place: usize, nodes: NodeColumns, pending: Pending) -> ExpressionTurn
+    ensures { λ r. ⌜ r ≡ expression-gone nodes pending place ⌝ }
+{
+    ExpressionTurn {
+        step: Step::Next(place),
+        nodes,
+        pending,
+    }
+}
+
 // A node whose tag stands at `at`, with a number below `limit` after it.
 fn numbered_turn(
     sheet: &[u8],
@@ -366,15 +373,11 @@ fn numbered_turn(
     ensures { λ r. ⌜ r ≡ numbered-turned nodes pending at tag (sheet-field (in-range 0 limit) (now (sheet .entry)) next) ⌝ }
 {
     match read_field(sheet, next, 0, limit) {
-        Field::Unfit(question, place) => expression_stop(question, place, nodes, pending),
+        Field::Unfit(question, after_tag) => expression_stop(question, after_tag, nodes, pending),
         Field::Value(number, end) => {
             let put = with_node(nodes, tag, number, at as u16);
             let parts = with_parts(pending, tag);
-            ExpressionTurn {
-                step: Step::Next(end),
-                nodes: put,
-                pending: parts,
-            }
+            expression_next(end, put, parts)
         }
     }
 }
@@ -407,11 +410,7 @@ fn expression_turn(
             }
             let put = with_node(nodes, tag, 0, at as u16);
             let parts = with_parts(pending, tag);
-            ExpressionTurn {
-                step: Step::Next(next),
-                nodes: put,
-                pending: parts,
-            }
+            expression_next(next, put, parts)
         }
     }
 }
@@ -439,7 +438,7 @@ fn one_pending() -> Pending
 // One expression from a place on, with no fixed point open.
 fn read_expression(sheet: &[u8], at: usize, tokens: u8) -> NodesRead
     requires { ⌜ (at ≤ length (now sheet)) × (length (now sheet) ≤ 4096) ⌝ }
-    ensures { λ r. ⌜ Answers (with-all with-read-node) (length (now (sheet .entry))) (expression-nodes (now (sheet .entry)) tokens 64 (0 ∷ []) at) no-nodes (r .step) (r .nodes) ⌝ }
+    ensures { λ r. ⌜ ReadsExpression (now (sheet .entry)) at tokens (r .step) (r .nodes) ⌝ }
 {
     let mut place = at;
     let mut nodes = no_nodes();
@@ -479,7 +478,7 @@ fn read_header(sheet: &[u8]) -> Header
 }
 
 fn refused(question: u8, place: usize) -> SheetColumns
-    ensures { λ r. ⌜ r .outcome ≡ Outcome.Refused question place ⌝ }
+    ensures { λ r. ⌜ r ≡ refused-columns question place ⌝ }
 {
     let rules = no_rules();
     let nodes = no_nodes();

@@ -46,8 +46,11 @@ with-tag-requires c κs = search needs
 with-class-requires : tie.Need-with-class-requires
 with-class-requires c κs = omega (arith, ap (λ (r : RuleColumns). r .classes) (c .with-tag .ensures), c .before .before .before .before .before .before .before .before .before .if1 .left)
 
-sub-t23 : tie.Need-sub-t23
-sub-t23 c = omega (arith, c .before .before .before .before .before .before .before .before .before .before .before .before .pre .0)
+sub-regex-next : tie.Need-sub-regex-next
+sub-regex-next c = omega (arith, c .before .before .before .before .before .before .before .before .before .before .before .before .pre .0)
+
+regex-next-requires : tie.Need-regex-next-requires
+regex-next-requires c κs = search needs
 
 returns-2 : tie.Need-returns-2
 returns-2 c =
@@ -64,9 +67,10 @@ returns-3 c =
 returns-4 : tie.Need-returns-4
 unfolding regex-parts
 returns-4 c =
-    turn-goes _ _ (class-whole (now (c .before .before .before .before .before .before .before .before .before .before .before .before .args .sheet)) _ _ _ (c .before .before .before .before .before .before .before .before .before .before .if1 .left) (field-value (up-to 0 255) (now (c .before .before .before .before .before .before .before .before .before .before .before .before .args .sheet)) _ (sym (c .before .before .before .before .before .before .before .before .before .read-field .ensures) ∙ c .before .before .before .before .before .before .before .low .given .1))
-    (field-value (up-to _ 255) (now (c .before .before .before .before .before .before .before .before .before .before .before .before .args .sheet)) _ (sym (c .before .before .before .before .before .read-field2 .ensures) ∙ c .before .before .before .high .given .1)))
-    (omega arith) (class-put _ _ _ (c .before .with-tag .ensures) (c .with-class .ensures))
+    c .regex-next .ensures
+    ∙ turn-goes _ _ (class-whole (now (c .before .before .before .before .before .before .before .before .before .before .before .before .before .args .sheet)) _ _ _ (c .before .before .before .before .before .before .before .before .before .before .before .if1 .left) (field-value (up-to 0 255) (now (c .before .before .before .before .before .before .before .before .before .before .before .before .before .args .sheet)) _ (sym (c .before .before .before .before .before .before .before .before .before .before .read-field .ensures) ∙ c .before .before .before .before .before .before .before .before .low .given .1))
+    (field-value (up-to _ 255) (now (c .before .before .before .before .before .before .before .before .before .before .before .before .before .args .sheet)) _ (sym (c .before .before .before .before .before .before .read-field2 .ensures) ∙ c .before .before .before .before .high .given .1)))
+    (omega arith) (class-put _ _ _ (c .before .before .with-tag .ensures) (c .before .with-class .ensures))
 
 pub class-turn-spec : {M : Type 1} → statement M
 class-turn-spec =
@@ -84,7 +88,8 @@ class-turn-spec =
     enum-known-high
     with-tag-requires
     with-class-requires
-    sub-t23
+    sub-regex-next
+    regex-next-requires
     returns-2
     returns-3
     returns-4)

@@ -31,7 +31,9 @@ numbered-turn-requires : tie.Need-numbered-turn-requires
 numbered-turn-requires c κs = search needs
 
 returns-2 : tie.Need-returns-2
-returns-2 c = c .numbered-turn .ensures ∙ token-turn (now (c .before .before .before .before .before .before .before .before .args .sheet)) _ _ _ _ (field-value (up-to 0 6) (now (c .before .before .before .before .before .before .before .before .args .sheet)) _ (sym (c .before .before .before .before .before .before .read-field .ensures) ∙ c .before .before .before .before .tag .given .1)) (c .before .before .if1 .left) _ _ (c .before .if2 .taken)
+returns-2 c =
+    c .numbered-turn .ensures
+    ∙ token-turn (now (c .before .before .before .before .before .before .before .before .args .sheet)) _ _ _ _ (field-value (up-to 0 6) (now (c .before .before .before .before .before .before .before .before .args .sheet)) _ (sym (c .before .before .before .before .before .before .read-field .ensures) ∙ c .before .before .before .before .tag .given .1)) (c .before .before .if1 .left) _ _ (c .before .if2 .taken)
 
 sub-last : tie.Need-sub-last
 sub-last c = search needs
@@ -48,7 +50,9 @@ numbered-turn-requires-2 c κs =
     (z .pre .0, omega (arith, z .pre .2 .opened (z .args .t5 .count - 1), z .pre .2 .nodes), c .before .before .before .if1 .left, z .pre .1, z .pre .2)
 
 returns-3 : tie.Need-returns-3
-returns-3 c = c .numbered-turn2 .ensures ∙ variable-turn (now (c .before .before .before .before .before .before .before .before .before .before .args .sheet)) _ _ _ _ (field-value (up-to 0 6) (now (c .before .before .before .before .before .before .before .before .before .before .args .sheet)) _ (sym (c .before .before .before .before .before .before .before .before .read-field .ensures) ∙ c .before .before .before .before .before .before .tag .given .1)) (c .before .before .before .before .if1 .left) _ _ (c .before .before .if3 .taken)
+returns-3 c =
+    c .numbered-turn2 .ensures
+    ∙ variable-turn (now (c .before .before .before .before .before .before .before .before .before .before .args .sheet)) _ _ _ _ (field-value (up-to 0 6) (now (c .before .before .before .before .before .before .before .before .before .before .args .sheet)) _ (sym (c .before .before .before .before .before .before .before .before .read-field .ensures) ∙ c .before .before .before .before .before .before .tag .given .1)) (c .before .before .before .before .if1 .left) _ _ (c .before .before .if3 .taken)
 
 cast-with-node : tie.Need-cast-with-node
 cast-with-node c = search needs
@@ -59,6 +63,9 @@ with-node-requires c κs = search needs
 with-parts-requires : tie.Need-with-parts-requires
 with-parts-requires c κs = let z = c .before .before .before .before .before .before .before .before .before in parts-room (z .args .nodes) (z .args .t5) (c .before .before .before .if1 .left) (z .pre .1) (z .pre .2)
 
+expression-next-requires : tie.Need-expression-next-requires
+expression-next-requires c κs = search needs
+
 returns-4 : tie.Need-returns-4
 returns-4 c =
     c .expression-stop .ensures
@@ -66,8 +73,9 @@ returns-4 c =
 
 returns-5 : tie.Need-returns-5
 returns-5 c =
-    plain-item-goes _ _ _ (node-plain (now (c .before .before .before .before .before .before .before .before .before .before .args .sheet)) _ _ _ _ (field-value (up-to 0 6) (now (c .before .before .before .before .before .before .before .before .before .before .args .sheet)) _ (sym (c .before .before .before .before .before .before .before .before .read-field .ensures) ∙ c .before .before .before .before .before .before .tag .given .1)) (c .before .before .before .before .if1 .left) (c .before .before .before .if2 .left) (c .before .before .if3 .left))
-    (c .before .with-node .ensures) (c .with-parts .ensures)
+    c .expression-next .ensures
+    ∙ plain-item-goes _ _ _ (node-plain (now (c .before .before .before .before .before .before .before .before .before .before .before .args .sheet)) _ _ _ _ (field-value (up-to 0 6) (now (c .before .before .before .before .before .before .before .before .before .before .before .args .sheet)) _ (sym (c .before .before .before .before .before .before .before .before .before .read-field .ensures) ∙ c .before .before .before .before .before .before .before .tag .given .1)) (c .before .before .before .before .before .if1 .left) (c .before .before .before .before .if2 .left) (c .before .before .before .if3 .left))
+    (c .before .before .with-node .ensures) (c .before .with-parts .ensures)
 
 pub expression-turn-spec : {M : Type 1} → statement M
 expression-turn-spec =
@@ -89,5 +97,6 @@ expression-turn-spec =
     cast-with-node
     with-node-requires
     with-parts-requires
+    expression-next-requires
     returns-4
     returns-5)

@@ -28,12 +28,17 @@ with-node-requires c κs = search needs
 with-parts-requires : tie.Need-with-parts-requires
 with-parts-requires c κs = let z = c .before .before .before .before .before .before in parts-room (z .args .nodes) (z .args .pending) (z .pre .2) (z .pre .3) (z .pre .4)
 
+expression-next-requires : tie.Need-expression-next-requires
+expression-next-requires c κs = search needs
+
 returns : tie.Need-returns
 returns c = c .expression-stop .ensures ∙ numbered-stops _ _ _ _ (answer-unfit _ (sym (c .before .before .before .before .read-field .ensures) ∙ c .before .before .question .given .1))
 
 returns-2 : tie.Need-returns-2
 returns-2 c =
-    numbered-goes _ _ _ _ (answer-value _ (sym (c .before .before .before .before .before .read-field .ensures) ∙ c .before .before .before .number .given .1)) (c .before .with-node .ensures) (c .with-parts .ensures)
+    c .expression-next .ensures
+    ∙ numbered-goes _ _ _ _ (answer-value _ (sym (c .before .before .before .before .before .before .read-field .ensures) ∙ c .before .before .before .before .number .given .1))
+    (c .before .before .with-node .ensures) (c .before .with-parts .ensures)
 
 pub numbered-turn-spec : {M : Type 1} → statement M
 numbered-turn-spec =
@@ -46,5 +51,6 @@ numbered-turn-spec =
     cast-with-node
     with-node-requires
     with-parts-requires
+    expression-next-requires
     returns
     returns-2)

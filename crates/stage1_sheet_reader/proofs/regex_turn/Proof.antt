@@ -31,25 +31,38 @@ class-turn-requires : tie.Need-class-turn-requires
 class-turn-requires c κs = search needs
 
 returns-2 : tie.Need-returns-2
-returns-2 c = c .class-turn .ensures ∙ ap (regex-turned _ _) (sym (node-class (now (c .before .before .before .before .before .before .before .before .args .sheet)) _ _ _ (field-value (up-to 0 4) (now (c .before .before .before .before .before .before .before .before .args .sheet)) _ (sym (c .before .before .before .before .before .before .read-field .ensures) ∙ c .before .before .before .before .tag .given .1)) (c .before .before .if1 .left) (c .before .if2 .taken)))
+returns-2 c =
+    c .class-turn .ensures
+    ∙ ap (regex-turned _ _) (sym (node-class (now (c .before .before .before .before .before .before .before .before .args .sheet)) _ _ _ (field-value (up-to 0 4) (now (c .before .before .before .before .before .before .before .before .args .sheet)) _ (sym (c .before .before .before .before .before .before .read-field .ensures) ∙ c .before .before .before .before .tag .given .1)) (c .before .before .if1 .left) (c .before .if2 .taken)))
 
 with-tag-requires : tie.Need-with-tag-requires
 with-tag-requires c κs = search needs
 
-sub-t15 : tie.Need-sub-t15
-sub-t15 c = search needs
+sub-regex-next : tie.Need-sub-regex-next
+sub-regex-next c = search needs
+
+regex-next-requires : tie.Need-regex-next-requires
+regex-next-requires c κs = search needs
 
 returns-3 : tie.Need-returns-3
 returns-3 c =
-    plain-goes _ _ (node-empty (now (c .before .before .before .before .before .before .before .before .before .args .sheet)) _ _ _ (field-value (up-to 0 4) (now (c .before .before .before .before .before .before .before .before .before .args .sheet)) _ (sym (c .before .before .before .before .before .before .before .read-field .ensures) ∙ c .before .before .before .before .before .tag .given .1)) _ (c .before .before .before .if1 .left) (c .if3 .taken)) (c .before .with-tag .ensures) (omega arith)
+    c .regex-next .ensures
+    ∙ plain-goes _ _ (node-empty (now (c .before .before .before .before .before .before .before .before .before .before .args .sheet)) _ _ _ (field-value (up-to 0 4) (now (c .before .before .before .before .before .before .before .before .before .before .args .sheet)) _ (sym (c .before .before .before .before .before .before .before .before .read-field .ensures) ∙ c .before .before .before .before .before .before .tag .given .1)) _ (c .before .before .before .before .if1 .left) (c .before .if3 .taken)) (c .before .before .with-tag .ensures) (omega arith)
+
+regex-next-requires-2 : tie.Need-regex-next-requires-2
+regex-next-requires-2 c κs = search needs
 
 returns-4 : tie.Need-returns-4
 returns-4 c =
-    plain-goes _ _ (node-star (now (c .before .before .before .before .before .before .before .before .before .before .args .sheet)) _ _ _ (field-value (up-to 0 4) (now (c .before .before .before .before .before .before .before .before .before .before .args .sheet)) _ (sym (c .before .before .before .before .before .before .before .before .read-field .ensures) ∙ c .before .before .before .before .before .before .tag .given .1)) _ (c .before .before .before .before .if1 .left) (c .if4 .taken)) (c .before .before .with-tag .ensures)
-    (omega (arith, c .before .before .before .before .before .before .before .before .before .before .pre .0))
+    c .regex-next2 .ensures
+    ∙ plain-goes _ _ (node-star (now (c .before .before .before .before .before .before .before .before .before .before .before .args .sheet)) _ _ _ (field-value (up-to 0 4) (now (c .before .before .before .before .before .before .before .before .before .before .before .args .sheet)) _ (sym (c .before .before .before .before .before .before .before .before .before .read-field .ensures) ∙ c .before .before .before .before .before .before .before .tag .given .1)) _ (c .before .before .before .before .before .if1 .left) (c .before .if4 .taken)) (c .before .before .before .with-tag .ensures)
+    (omega (arith, c .before .before .before .before .before .before .before .before .before .before .before .pre .0))
 
-add-t18 : tie.Need-add-t18
-add-t18 c = search needs
+add-regex-next : tie.Need-add-regex-next
+add-regex-next c = search needs
+
+regex-next-requires-3 : tie.Need-regex-next-requires-3
+regex-next-requires-3 c κs = search needs
 
 returns-5 : tie.Need-returns-5
 returns-5 c =
@@ -58,8 +71,9 @@ returns-5 c =
 
 returns-6 : tie.Need-returns-6
 returns-6 c =
-    plain-goes _ _ (node-two (now (c .before .before .before .before .before .before .before .before .before .before .args .sheet)) _ _ _ (field-value (up-to 0 4) (now (c .before .before .before .before .before .before .before .before .before .before .args .sheet)) _ (sym (c .before .before .before .before .before .before .before .before .read-field .ensures) ∙ c .before .before .before .before .before .before .tag .given .1)) _ (c .before .before .before .before .if1 .left) (c .before .if3 .left) (c .before .before .before .if2 .left) (c .if4 .left)) (c .before .before .with-tag .ensures)
-    (omega (arith, c .before .before .before .before .before .before .before .before .before .before .pre .0))
+    c .regex-next3 .ensures
+    ∙ plain-goes _ _ (node-two (now (c .before .before .before .before .before .before .before .before .before .before .before .args .sheet)) _ _ _ (field-value (up-to 0 4) (now (c .before .before .before .before .before .before .before .before .before .before .before .args .sheet)) _ (sym (c .before .before .before .before .before .before .before .before .before .read-field .ensures) ∙ c .before .before .before .before .before .before .before .tag .given .1)) _ (c .before .before .before .before .before .if1 .left) (c .before .before .if3 .left) (c .before .before .before .before .if2 .left) (c .before .if4 .left)) (c .before .before .before .with-tag .ensures)
+    (omega (arith, c .before .before .before .before .before .before .before .before .before .before .before .pre .0))
 
 pub regex-turn-spec : {M : Type 1} → statement M
 regex-turn-spec =
@@ -74,9 +88,12 @@ regex-turn-spec =
     class-turn-requires
     returns-2
     with-tag-requires
-    sub-t15
+    sub-regex-next
+    regex-next-requires
     returns-3
+    regex-next-requires-2
     returns-4
-    add-t18
+    add-regex-next
+    regex-next-requires-3
     returns-5
     returns-6)
