@@ -1,5 +1,5 @@
 -- The laws of an expression node's turn: each way through it, what it leaves, and how the turns make up the definition's nodes.
-use mathlib.Core.Path.{_≡_, refl, sym, ap, ap₂, subst, _∙_}
+use mathlib.Core.Path.{_≡_, refl, sym, ap, ap₂, _∙_}
 use mathlib.Core.Bool.{Bool, true, false, cond}
 use mathlib.Core.List.{List, [], _∷_, _++_}
 use mathlib.Core.Logic.{⊎-elim}
@@ -24,6 +24,7 @@ use Rattle.stage1_sheet_reader.specs.Answers.{PendingFit}
 use Rattle.stage1_sheet_reader.specs.declared.Step.the-variants.{Next, Stop}
 use Rattle.stage1_sheet_reader.specs.declared.Pending.{Pending}
 use Rattle.stage1_sheet_reader.specs.declared.ExpressionTurn.{ExpressionTurn}
+use Rattle.stage1_sheet_reader.proofs.Leading.{in-front}
 use Rattle.stage1_sheet_reader.proofs.Fields.{below, field-same, FieldKept, field-kept, Any, field-inside, pred-suc}
 
 -- ---- a turn in columns, by what was read
@@ -35,17 +36,20 @@ module _ (c : NodeColumns) (p : Pending) (at : ℕ) where
     node-stops e = rw e
 
   module _ (tag : ℕ) {m : Reading ℕ} where
-    pub numbered-stops : {question place : ℕ} → m ≡ stop question place → expression-stopped c p question place ≡ numbered-turned c p at tag m
+    pub numbered-stops : {question place : ℕ} → m ≡ stop question place → expression-stopped c p question place
+        ≡ numbered-turned c p at tag m
     unfolding numbered-turned
     numbered-stops e = rw e
 
-    pub numbered-goes : {number next : ℕ} {n : NodeColumns} {q : Pending} → m ≡ got number next → n ≡ with-node c tag number at → q ≡ with-parts p tag
+    pub numbered-goes : {number next : ℕ} {n : NodeColumns} {q : Pending} → m ≡ got number next → n ≡ with-node c tag number at → q
+        ≡ with-parts p tag
         → expression-gone n q next ≡ numbered-turned c p at tag m
     unfolding numbered-turned
     numbered-goes e h k = rw (e, h, k)
 
   -- A number after its tag is the definition's token or variable.
-  pub numbered-is : (make : ℕ → ExpressionItem) (tag : ℕ) → ((k : ℕ) → expression-tag (make k) ≡ tag) → ((k : ℕ) → number-after (make k) ≡ k)
+  pub numbered-is : (make : ℕ → ExpressionItem) (tag : ℕ) → ((k : ℕ) → expression-tag (make k) ≡ tag)
+      → ((k : ℕ) → number-after (make k) ≡ k)
       → (m : Reading ℕ) → numbered-turned c p at tag m ≡ expression-turned c p at (and-then m (λ k end. got (make k) end))
   unfolding numbered-turned expression-turned
   numbered-is make tag t n (stop q s) = refl
@@ -60,7 +64,8 @@ pub record PlainItem (tag : ℕ) (m : Reading ExpressionItem) (next : ℕ) : Typ
   pub same-tag : expression-tag item ≡ tag
   pub no-number : number-after item ≡ 0
 
-pub plain-item-goes : (c : NodeColumns) (p : Pending) (at : ℕ) {m : Reading ExpressionItem} {tag next : ℕ} {n : NodeColumns} {q : Pending} → PlainItem tag m next
+pub plain-item-goes : (c : NodeColumns) (p : Pending) (at : ℕ) {m : Reading ExpressionItem} {tag next : ℕ} {n : NodeColumns} {q : Pending}
+    → PlainItem tag m next
     → n ≡ with-node c tag 0 at → q ≡ with-parts p tag → expression-gone n q next ≡ expression-turned c p at m
 unfolding expression-turned
 plain-item-goes c p at i h k = rw (i .read, i .same-tag, i .no-number, h, k)
@@ -133,7 +138,8 @@ pub record NodeTurned (c : NodeColumns) (p : Pending) (at : ℕ) (m : Reading Ex
   pub pending-is : r .pending ≡ with-parts p (expression-tag item)
 
 module _ (c : NodeColumns) (p : Pending) (at : ℕ) where
-  pub node-stopped : (m : Reading ExpressionItem) {r : ExpressionTurn} {question place : ℕ} → r ≡ expression-turned c p at m → r .step ≡ Stop question place
+  pub node-stopped : (m : Reading ExpressionItem) {r : ExpressionTurn} {question place : ℕ} → r ≡ expression-turned c p at m → r .step
+      ≡ Stop question place
       → m ≡ stop question place
   unfolding expression-turned
   node-stopped (stop q s) {r} e h = let k = ap (λ (t : ExpressionTurn). t .step) e in cc
@@ -146,7 +152,12 @@ module _ (c : NodeColumns) (p : Pending) (at : ℕ) where
   node-turned (got i n) {r} {next} e h =
       let k = ap (λ (t : ExpressionTurn). t .step) e in
       let same : n ≡ next = cc in
-      record { item = i; read = ap (got i) same; nodes-are = ap (λ (t : ExpressionTurn). t .nodes) e; pending-is = ap (λ (t : ExpressionTurn). t .pending) e }
+      record {
+        item = i;
+        read = ap (got i) same;
+        nodes-are = ap (λ (t : ExpressionTurn). t .nodes) e;
+        pending-is = ap (λ (t : ExpressionTurn). t .pending) e;
+      }
 
 -- A node was still allowed, and the place after it lies within the bytes.
 record ExpressionKept (bytes : List ℕ) (left : ℕ) (item : ExpressionItem) (next : ℕ) : Type 0 where
@@ -154,7 +165,8 @@ record ExpressionKept (bytes : List ℕ) (left : ℕ) (item : ExpressionItem) (n
   inside : next ≤ length bytes
 
 module _ (bytes : List ℕ) where
-  item-keeps : (tokens left opened tag next : ℕ) → next ≤ length bytes → Outcome Any (ExpressionKept bytes (suc left)) (expression-item bytes tokens opened tag next)
+  item-keeps : (tokens left opened tag next : ℕ) → next ≤ length bytes
+      → Outcome Any (ExpressionKept bytes (suc left)) (expression-item bytes tokens opened tag next)
   unfolding expression-item
   item-keeps tokens left opened tag next h = go (eqb tag 0) (eqb tag 1) (eqb tag 2) (eqb tag 3) (eqb tag 4) (eqb tag 5)
     where
@@ -214,13 +226,15 @@ module _ (p : Pending) (some : 0 < p .count) where
         let n = p .count - 1 in
         let e : p .count ≡ suc n = omega arith in
         ap (λ (k : ℕ). due-from k (set (p .opened) n (next-opened p + 1))) e
-        ∙ ap₂ _∷_ (getD-set-same (p .opened) n (next-opened p + 1) 0 (omega arith) ∙ add-one (next-opened p)) (due-set n (p .opened) n (next-opened p + 1) (omega arith))
+        ∙ ap₂ _∷_ (getD-set-same (p .opened) n (next-opened p + 1) 0 (omega arith) ∙ add-one (next-opened p))
+        (due-set n (p .opened) n (next-opened p + 1) (omega arith))
 
     two-more : due-from (p .count + 1) (set (p .opened) (p .count) (next-opened p)) ≡ next-opened p ∷ next-opened p ∷ others
     unfolding due-from
     two-more =
         ap (λ (k : ℕ). due-from k (set (p .opened) (p .count) (next-opened p))) (add-one (p .count))
-        ∙ ap₂ _∷_ (getD-set-same (p .opened) (p .count) (next-opened p) 0 room) (due-set (p .count) (p .opened) (p .count) (next-opened p) (omega arith) ∙ due-first)
+        ∙ ap₂ _∷_ (getD-set-same (p .opened) (p .count) (next-opened p) 0 room)
+        (due-set (p .count) (p .opened) (p .count) (next-opened p) (omega arith) ∙ due-first)
 
     due-parts : (item : ExpressionItem) → due-of (with-parts p (expression-tag item)) ≡ part-depths item (next-opened p) ++ others
     unfolding with-parts expression-tag part-depths
@@ -252,7 +266,8 @@ module _ (c : NodeColumns) (p : Pending) (tag number at : ℕ) (some : 0 < p .co
   one-added = record {
     nodes = omega arith;
     due = omega (arith, f .due);
-    opened = set-most (p .opened) (p .count) (next-opened p) (c .count + 1) (omega (arith, f .opened (p .count - 1))) (λ i. omega (arith, f .opened i));
+    opened = set-most (p .opened) (p .count) (next-opened p) (c .count + 1)
+        (omega (arith, f .opened (p .count - 1))) (λ i. omega (arith, f .opened i));
     entries = length-set (p .opened) (p .count) (next-opened p) ∙ f .entries;
   }
 
@@ -261,7 +276,8 @@ module _ (c : NodeColumns) (p : Pending) (tag number at : ℕ) (some : 0 < p .co
   deeper = record {
     nodes = omega arith;
     due = omega (arith, f .due);
-    opened = set-most (p .opened) (p .count - 1) (next-opened p + 1) (c .count + 1) (omega (arith, f .opened (p .count - 1))) (λ i. omega (arith, f .opened i));
+    opened = set-most (p .opened) (p .count - 1) (next-opened p + 1) (c .count + 1)
+        (omega (arith, f .opened (p .count - 1))) (λ i. omega (arith, f .opened i));
     entries = length-set (p .opened) (p .count - 1) (next-opened p + 1) ∙ f .entries;
   }
 
@@ -290,23 +306,27 @@ start-fits e h = rw (e, h) record { nodes = omega arith; due = omega arith; open
 
 -- ---- the turns make up the definition's nodes
 
+abbrev pub read-node : ℕ → ExpressionItem → ReadNode
+read-node at item = record { place = at; item = item }
+
 nodes-turn : (bytes : List ℕ) (tokens left opened : ℕ) (due : List ℕ) (at : ℕ) → expression-nodes bytes tokens left (opened ∷ due) at
     ≡ and-then (expression-turn bytes tokens left opened at)
-    (λ item after. and-then (expression-nodes bytes tokens (left - 1) (part-depths item opened ++ due) after) (λ nodes end. got (record { place = at; item = item } ∷ nodes) end))
+    (λ item after. and-then (expression-nodes bytes tokens (left - 1) (part-depths item opened ++ due) after) (in-front (read-node at item)))
 unfolding expression-nodes expression-turn
 nodes-turn bytes tokens zero opened due at = go (sheet-field (between 0 6) bytes at)
   where
     go : (m : Reading ℕ) → _≡_ {A = Reading (List ReadNode)} (and-then m (λ tag next. stop 5 at))
         (and-then (and-then m (λ tag next. stop 5 at))
-        (λ item after. and-then (expression-nodes bytes tokens (zero - 1) (part-depths item opened ++ due) after) (λ nodes end. got (record { place = at; item = item } ∷ nodes) end)))
+        (λ item after. and-then (expression-nodes bytes tokens (zero - 1) (part-depths item opened ++ due) after) (in-front (read-node at item))))
     go (stop q p) = refl
     go (got tag next) = refl
 nodes-turn bytes tokens (suc left) opened due at = simp (eqb·suc-zero, pred-suc) (go (sheet-field (between 0 6) bytes at))
   where
-    go : (m : Reading ℕ) → _≡_ {A = Reading (List ReadNode)} (and-then m (λ tag next. and-then (expression-item bytes tokens opened tag next)
-        (λ item after. and-then (expression-nodes bytes tokens left (part-depths item opened ++ due) after) (λ nodes end. got (record { place = at; item = item } ∷ nodes) end))))
+    go : (m : Reading ℕ)
+        → _≡_ {A = Reading (List ReadNode)} (and-then m (λ tag next. and-then (expression-item bytes tokens opened tag next)
+        (λ item after. and-then (expression-nodes bytes tokens left (part-depths item opened ++ due) after) (in-front (read-node at item)))))
         (and-then (and-then m (λ tag next. expression-item bytes tokens opened tag next))
-        (λ item after. and-then (expression-nodes bytes tokens left (part-depths item opened ++ due) after) (λ nodes end. got (record { place = at; item = item } ∷ nodes) end)))
+        (λ item after. and-then (expression-nodes bytes tokens left (part-depths item opened ++ due) after) (in-front (read-node at item))))
     go (stop q p) = refl
     go (got tag next) = refl
 
@@ -337,17 +357,19 @@ module _ (bytes : List ℕ) (tokens : ℕ) (c : NodeColumns) (p : Pending) (at :
     nodes-stop e = first-node ∙ nodes-turn bytes tokens (64 - c .count) (next-opened p) (due-from (p .count - 1) (p .opened)) at ∙ rw e
 
 -- How it goes on after a turn, from the columns d with the expressions q due.
-pub record NodesAgain (bytes : List ℕ) (tokens : ℕ) (c : NodeColumns) (p : Pending) (at : ℕ) (item : ExpressionItem) (d : NodeColumns) (q : Pending) (next : ℕ)
-    : Type 0 where
+pub record NodesAgain (bytes : List ℕ) (tokens : ℕ) (c : NodeColumns) (p : Pending) (at : ℕ) (item : ExpressionItem)
+    (d : NodeColumns) (q : Pending) (next : ℕ) : Type 0 where
   pub inside : next ≤ length bytes
   pub fits : PendingFit d q
   pub more : d .count ≡ c .count + 1
   pub room : c .count < 64
-  pub put : d ≡ with-read-node c (record { place = at; item = item })
-  pub rest : nodes-from bytes tokens c p at ≡ and-then (nodes-from bytes tokens d q next) (λ nodes end. got (record { place = at; item = item } ∷ nodes) end)
+  pub put : d ≡ with-read-node c (read-node at item)
+  pub rest : nodes-from bytes tokens c p at ≡ and-then (nodes-from bytes tokens d q next) (in-front (read-node at item))
 
-pub node-again : (bytes : List ℕ) (tokens : ℕ) (c : NodeColumns) (p : Pending) (at : ℕ) {r : ExpressionTurn} {next : ℕ} → 0 < p .count → PendingFit c p
-    → (t : NodeTurned c p at (node-from bytes tokens c p at) r next) → NodesAgain bytes tokens c p at (t .item) (r .nodes) (r .pending) next
+pub node-again : (bytes : List ℕ) (tokens : ℕ) (c : NodeColumns) (p : Pending) (at : ℕ) {r : ExpressionTurn} {next : ℕ} → 0 < p .count
+    → PendingFit c p
+    → (t : NodeTurned c p at (node-from bytes tokens c p at) r next)
+    → NodesAgain bytes tokens c p at (t .item) (r .nodes) (r .pending) next
 unfolding with-read-node
 node-again bytes tokens c p at {r} {next} some f t =
     let n = outcome-got Any (ExpressionKept bytes (64 - c .count)) (turn-keeps bytes tokens (64 - c .count) (next-opened p) at) (t .read) in

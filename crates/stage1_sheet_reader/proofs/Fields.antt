@@ -82,7 +82,8 @@ module _ {least limit : ℕ} {allowed : ℕ → Bool} (s : Same least limit allo
   pub field-same : sheet-field (in-range least limit) bytes at ≡ sheet-field allowed bytes at
   field-same = agree (in-range least limit) allowed (s .same) bytes at
 
-  pub field-value : {v next : ℕ} → field-answer (sheet-field (in-range least limit) bytes at) ≡ Value v next → sheet-field allowed bytes at ≡ got v next
+  pub field-value : {v next : ℕ} → field-answer (sheet-field (in-range least limit) bytes at) ≡ Value v next
+      → sheet-field allowed bytes at ≡ got v next
   field-value e = sym field-same ∙ answer-value _ e
 
   pub field-unfit : {question place : ℕ} → field-answer (sheet-field (in-range least limit) bytes at) ≡ Unfit question place
@@ -94,11 +95,13 @@ pub record FieldKept (allowed : ℕ → Bool) (bytes : List ℕ) (v next : ℕ) 
   pub holds : allowed v ≡ true
   pub inside : next ≤ length bytes
 
-pub field-kept : (allowed : ℕ → Bool) (bytes : List ℕ) (at : ℕ) {v next : ℕ} → sheet-field allowed bytes at ≡ got v next → FieldKept allowed bytes v next
+pub field-kept : (allowed : ℕ → Bool) (bytes : List ℕ) (at : ℕ) {v next : ℕ} → sheet-field allowed bytes at ≡ got v next
+    → FieldKept allowed bytes v next
 unfolding sheet-field read-field field-of
 field-kept allowed bytes at {v} {next} = go (decode bytes at) refl
   where
-    chosen : (w used : ℕ) → decode bytes at ≡ Read w used → (b : Bool) → allowed w ≡ b → cond b (got w (at + used)) (stop 4 at) ≡ got v next
+    chosen : (w used : ℕ) → decode bytes at ≡ Read w used → (b : Bool) → allowed w ≡ b → cond b (got w (at + used)) (stop 4 at)
+        ≡ got v next
         → FieldKept allowed bytes v next
     chosen w used d true a e =
         let i : w ≡ v = cc in

@@ -1,7 +1,7 @@
 -- Columns that were filled hold what they were filled with: one thing more is held at the end. Pure: no reading is named here.
-use mathlib.Core.Path.{_≡_, refl, sym, ap, subst, _∙_}
+use mathlib.Core.Path.{_≡_, refl, sym, ap, _∙_}
 use mathlib.Core.List.{List, [], _∷_, _++_, append-assoc, append-nil, map, flatMap}
-use Prim.Native.Nat.{ℕ, zero, suc, _+_, _≤_, _<_}
+use Prim.Native.Nat.{ℕ, _+_, _≤_, _<_}
 use native.Mathlib.Numerals.{add-one}
 use native.Mathlib.Omega.{arith}
 use lib.ListN.{length, take, set, length-append, length-set}
@@ -67,7 +67,8 @@ none-held = record {
 }
 
 module _ {c : RuleColumns} {actions places : List ℕ} {items : List RegexItem} (h : RulesHeld c actions places items) where
-  action-held : (action place : ℕ) → c .count < 32 → RulesHeld (with-action c action place) (actions ++ (action ∷ [])) (places ++ (place ∷ [])) items
+  action-held : (action place : ℕ) → c .count < 32
+      → RulesHeld (with-action c action place) (actions ++ (action ∷ [])) (places ++ (place ∷ [])) items
   action-held action place l = record {
     held = record {
       rules = omega (arith, h .held .rules, one-longer actions action);
@@ -91,7 +92,8 @@ module _ {c : RuleColumns} {actions places : List ℕ} {items : List RegexItem} 
 
   module _ (room : c .items < 256) where
     -- An item that is only its tag.
-    tag-held : (item : RegexItem) → low-of item ≡ [] → high-of item ≡ [] → RulesHeld (with-tag c (regex-tag item)) actions places (items ++ (item ∷ []))
+    tag-held : (item : RegexItem) → low-of item ≡ [] → high-of item ≡ []
+        → RulesHeld (with-tag c (regex-tag item)) actions places (items ++ (item ∷ []))
     unfolding flatMap
     tag-held item low high =
         let lows : flatMap low-of (items ++ (item ∷ [])) ≡ flatMap low-of items =
@@ -106,7 +108,8 @@ module _ {c : RuleColumns} {actions places : List ℕ} {items : List RegexItem} 
             places-held = h .held .places-held;
             nodes = omega (arith, h .held .nodes, one-longer items item);
             nodes-fit = omega arith;
-            tags-held = grown (c .tag) (c .items) (regex-tag item) (omega (arith, h .tag-long)) (h .held .tags-held) ∙ sym (map-append regex-tag items (item ∷ []));
+            tags-held = grown (c .tag) (c .items) (regex-tag item) (omega (arith, h .tag-long)) (h .held .tags-held)
+                ∙ sym (map-append regex-tag items (item ∷ []));
             classes-fit = h .held .classes-fit;
             lows-held = h .held .lows-held ∙ sym lows;
             highs-held = h .held .highs-held ∙ sym highs;
@@ -119,7 +122,8 @@ module _ {c : RuleColumns} {actions places : List ℕ} {items : List RegexItem} 
           high-long = h .high-long;
         }
 
-    class-held : (low high : ℕ) → c .classes < 64 → RulesHeld (with-class (with-tag c 1) low high) actions places (items ++ (class-item low high ∷ []))
+    class-held : (low high : ℕ) → c .classes < 64
+        → RulesHeld (with-class (with-tag c 1) low high) actions places (items ++ (class-item low high ∷ []))
     unfolding flatMap regex-tag low-of high-of
     class-held low high l =
         let item = class-item low high in
@@ -146,7 +150,8 @@ module _ {c : RuleColumns} {actions places : List ℕ} {items : List RegexItem} 
           high-long = length-set (c .high) (c .classes) high ∙ h .high-long;
         }
 
-    item-held : (item : RegexItem) → c .classes + item-classes item ≤ 64 → RulesHeld (with-item c item) actions places (items ++ (item ∷ []))
+    item-held : (item : RegexItem) → c .classes + item-classes item ≤ 64
+        → RulesHeld (with-item c item) actions places (items ++ (item ∷ []))
     unfolding with-item item-classes regex-tag low-of high-of
     item-held empty-item l = tag-held empty-item refl refl
     item-held (class-item low high) l = class-held low high (omega arith)
@@ -154,8 +159,10 @@ module _ {c : RuleColumns} {actions places : List ℕ} {items : List RegexItem} 
     item-held union-item l = tag-held union-item refl refl
     item-held star-item l = tag-held star-item refl refl
 
-items-held : {c : RuleColumns} {actions places : List ℕ} {items : List RegexItem} (more : List RegexItem) → RulesHeld c actions places items
-    → c .items + length more ≤ 256 → c .classes + sum item-classes more ≤ 64 → RulesHeld (with-all with-item c more) actions places (items ++ more)
+items-held : {c : RuleColumns} {actions places : List ℕ} {items : List RegexItem} (more : List RegexItem)
+    → RulesHeld c actions places items
+    → c .items + length more ≤ 256 → c .classes + sum item-classes more ≤ 64
+    → RulesHeld (with-all with-item c more) actions places (items ++ more)
 unfolding with-all
 items-held {c} {actions} {places} {items} [] h n k = rw (append-nil items) h
 items-held {c} {actions} {places} {items} (i ∷ more) h n k =
@@ -169,9 +176,11 @@ node-sum = sum (λ r. length (r .items))
 abbrev class-sum : List ReadRule → ℕ
 class-sum = sum (λ r. sum item-classes (r .items))
 
-rules-held : {c : RuleColumns} {actions places : List ℕ} {items : List RegexItem} (rules : List ReadRule) → RulesHeld c actions places items
+rules-held : {c : RuleColumns} {actions places : List ℕ} {items : List RegexItem} (rules : List ReadRule)
+    → RulesHeld c actions places items
     → c .count + length rules ≤ 32 → c .items + node-sum rules ≤ 256 → c .classes + class-sum rules ≤ 64
-    → RulesHeld (with-all with-rule c rules) (actions ++ map (λ r. r .action) rules) (places ++ map (λ r. r .place) rules) (items ++ flatMap (λ r. r .items) rules)
+    → RulesHeld (with-all with-rule c rules) (actions ++ map (λ r. r .action) rules) (places ++ map (λ r. r .place) rules)
+    (items ++ flatMap (λ r. r .items) rules)
 unfolding with-all with-rule flatMap
 rules-held {c} {actions} {places} {items} [] h l n k = rw (append-nil actions, append-nil places, append-nil items) h
 rules-held {c} {actions} {places} {items} (r ∷ rules) h l n k =
@@ -216,13 +225,15 @@ record NodesHeld (c : NodeColumns) (items : List ExpressionItem) (places : List 
   number-long : length (c .number) ≡ 64
   place-long : length (c .place) ≡ 64
 
-node-held : {c : NodeColumns} {items : List ExpressionItem} {places : List ℕ} (item : ExpressionItem) (place : ℕ) → NodesHeld c items places → c .count < 64
+node-held : {c : NodeColumns} {items : List ExpressionItem} {places : List ℕ} (item : ExpressionItem) (place : ℕ)
+    → NodesHeld c items places → c .count < 64
     → NodesHeld (with-node c (expression-tag item) (number-after item) place) (items ++ (item ∷ [])) (places ++ (place ∷ []))
 node-held {c} {items} {places} item place h l = record {
   held = record {
     nodes = omega (arith, h .held .nodes, one-longer items item);
     nodes-fit = omega arith;
-    tags-held = grown (c .tag) (c .count) (expression-tag item) (omega (arith, h .tag-long)) (h .held .tags-held) ∙ sym (map-append expression-tag items (item ∷ []));
+    tags-held = grown (c .tag) (c .count) (expression-tag item) (omega (arith, h .tag-long)) (h .held .tags-held)
+        ∙ sym (map-append expression-tag items (item ∷ []));
     numbers-held = grown (c .number) (c .count) (number-after item) (omega (arith, h .number-long)) (h .held .numbers-held)
         ∙ sym (map-append number-after items (item ∷ []));
     places-held = grown (c .place) (c .count) place (omega (arith, h .place-long)) (h .held .places-held);
@@ -232,7 +243,8 @@ node-held {c} {items} {places} item place h l = record {
   place-long = length-set (c .place) (c .count) place ∙ h .place-long;
 }
 
-nodes-held : {c : NodeColumns} {items : List ExpressionItem} {places : List ℕ} (nodes : List ReadNode) → NodesHeld c items places → c .count + length nodes ≤ 64
+nodes-held : {c : NodeColumns} {items : List ExpressionItem} {places : List ℕ} (nodes : List ReadNode) → NodesHeld c items places
+    → c .count + length nodes ≤ 64
     → NodesHeld (with-all with-read-node c nodes) (items ++ map (λ n. n .item) nodes) (places ++ map (λ n. n .place) nodes)
 unfolding with-all with-read-node
 nodes-held {c} {items} {places} [] h l = rw (append-nil items, append-nil places) h

@@ -1,5 +1,5 @@
 -- A loop's invariant: whatever answers the rest, from the columns so far, answers the whole.
-use mathlib.Core.Path.{_≡_, refl, sym, ap, subst, _∙_}
+use mathlib.Core.Path.{_≡_, refl, sym, ap, subst}
 use mathlib.Core.List.{List, [], _∷_}
 use Prim.Native.Nat.{ℕ, _≤_}
 use native.Mathlib.Omega.{arith}
@@ -9,7 +9,12 @@ use Rattle.stage1_sheet_reader.specs.Answers.{Answers}
 use Rattle.stage1_sheet_reader.specs.declared.Step.{Step}
 use Rattle.stage1_sheet_reader.specs.declared.Step.the-variants.{Next, Stop}
 
-pub record Leads {A C : Type 0} (put : C → A → C) (most : ℕ) (rest : Reading (List A)) (c : C) (whole : Reading (List A)) (start : C) : Type 0 where
+-- One thing in front of the others.
+abbrev pub in-front : {A : Type 0} → A → List A → ℕ → Reading (List A)
+in-front a l end = got (a ∷ l) end
+
+pub record Leads {A C : Type 0} (put : C → A → C) (most : ℕ) (rest : Reading (List A)) (c : C) (whole : Reading (List A)) (start : C)
+    : Type 0 where
   pub leads : (s : Step) (d : C) → Answers (with-all put) most rest c s d → Answers (with-all put) most whole start s d
 
 module _ {A C : Type 0} {put : C → A → C} {most : ℕ} where
@@ -18,17 +23,22 @@ module _ {A C : Type 0} {put : C → A → C} {most : ℕ} where
 
   module _ {m : Reading (List A)} {c : C} {whole : Reading (List A)} {start : C} (l : Leads put most m c whole start) where
     -- One more was read, and the rest is still to come.
-    pub leads-next : {rest : Reading (List A)} {a : A} {d : C} → m ≡ and-then rest (λ l end. got (a ∷ l) end) → d ≡ put c a → Leads put most rest d whole start
+    pub leads-next : {rest : Reading (List A)} {a : A} {d : C} → m ≡ and-then rest (in-front a) → d ≡ put c a
+        → Leads put most rest d whole start
     unfolding with-all
     leads-next {rest} {a} {d} e h =
-        record { leads = λ s f k. l .leads s f (subst (λ r. Answers (with-all put) most r c s f) (sym e) (go rest s f (subst (λ x. Answers (with-all put) most rest x s f) h k))) }
+        record {
+          leads = λ s f k. l .leads s f (subst (λ r. Answers (with-all put) most r c s f) (sym e)
+              (go rest s f (subst (λ x. Answers (with-all put) most rest x s f) h k)));
+        }
       where
         go : (r : Reading (List A)) (s : Step) (f : C) → Answers (with-all put) most r (put c a) s f
-            → Answers (with-all put) most (and-then r (λ l end. got (a ∷ l) end)) c s f
+            → Answers (with-all put) most (and-then r (in-front a)) c s f
         go (stop q p) s f k = k
         go (got rest end) s f k = k
 
-    pub leads-stop : {question place : ℕ} {s : Step} (d : C) → m ≡ stop question place → s ≡ Stop question place → Answers (with-all put) most whole start s d
+    pub leads-stop : {question place : ℕ} {s : Step} (d : C) → m ≡ stop question place → s ≡ Stop question place
+        → Answers (with-all put) most whole start s d
     leads-stop {s = s} d e h = l .leads s d (subst (λ r. Answers (with-all put) most r c s d) (sym e) h)
 
     pub leads-end : {at : ℕ} → m ≡ got [] at → at ≤ most → Answers (with-all put) most whole start (Next at) c

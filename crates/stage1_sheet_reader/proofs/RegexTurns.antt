@@ -1,7 +1,7 @@
 -- The laws of a regex node's turn: each way through it, what it leaves, and how the turns make up the definition's items.
-use mathlib.Core.Path.{_≡_, refl, sym, ap, ap₂, subst, _∙_}
+use mathlib.Core.Path.{_≡_, refl, sym, ap, _∙_}
 use mathlib.Core.Bool.{Bool, true, false, cond}
-use mathlib.Core.List.{List, [], _∷_}
+use mathlib.Core.List.{List, []}
 use Prim.Native.Nat.{ℕ, zero, suc, _+_, _-_, _≤_, _<_}
 use native.Mathlib.Omega.{arith}
 use lib.Dec.{eqb, eqb·suc-zero}
@@ -17,6 +17,7 @@ use Rattle.stage1_sheet_reader.specs.Turns.{regex-stopped, regex-gone, r
 use Rattle.stage1_sheet_reader.specs.Answers.{RulesFit}
 use Rattle.stage1_sheet_reader.specs.declared.Step.the-variants.{Next, Stop}
 use Rattle.stage1_sheet_reader.specs.declared.RegexTurn.{RegexTurn}
+use Rattle.stage1_sheet_reader.proofs.Leading.{in-front}
 use Rattle.stage1_sheet_reader.proofs.Fields.{FieldKept, field-kept, Any, field-inside, pred-suc}
 
 -- ---- a turn in columns, by what was read
@@ -26,7 +27,8 @@ module _ (c : RuleColumns) (due : ℕ) {m : Reading RegexItem} where
   unfolding regex-turned
   turn-stops e = rw e
 
-  pub turn-goes : {item : RegexItem} {next d : ℕ} {p : RuleColumns} → m ≡ got item next → d ≡ due - 1 + regex-parts item → p ≡ with-item c item
+  pub turn-goes : {item : RegexItem} {next d : ℕ} {p : RuleColumns} → m ≡ got item next → d ≡ due - 1 + regex-parts item → p
+      ≡ with-item c item
       → regex-gone p d next ≡ regex-turned c due m
   unfolding regex-turned
   turn-goes {item} {next} e n h = rw (e, n, h)
@@ -38,7 +40,8 @@ pub record PlainNode (c : RuleColumns) (tag : ℕ) (m : Reading RegexItem) (next
   pub parts-are : regex-parts item ≡ parts
   pub put : with-tag c tag ≡ with-item c item
 
-pub plain-goes : (c : RuleColumns) (due : ℕ) {m : Reading RegexItem} {tag next parts d : ℕ} {p : RuleColumns} → PlainNode c tag m next parts
+pub plain-goes : (c : RuleColumns) (due : ℕ) {m : Reading RegexItem} {tag next parts d : ℕ} {p : RuleColumns}
+    → PlainNode c tag m next parts
     → p ≡ with-tag c tag → d ≡ due - 1 + parts → regex-gone p d next ≡ regex-turned c due m
 plain-goes c due n h e = turn-goes c due (n .read) (e ∙ ap (λ (k : ℕ). due - 1 + k) (sym (n .parts-are))) (h ∙ n .put)
 
@@ -50,17 +53,20 @@ pub record Turned (c : RuleColumns) (due : ℕ) (m : Reading RegexItem) (r : Reg
   pub rules-are : r .rules ≡ with-item c item
 
 module _ (c : RuleColumns) (due : ℕ) where
-  pub turned-stop : (m : Reading RegexItem) {r : RegexTurn} {question place : ℕ} → r ≡ regex-turned c due m → r .step ≡ Stop question place
+  pub turned-stop : (m : Reading RegexItem) {r : RegexTurn} {question place : ℕ} → r ≡ regex-turned c due m → r .step
+      ≡ Stop question place
       → m ≡ stop question place
   unfolding regex-turned
   turned-stop (stop q p) {r} e h = let k = ap (λ (t : RegexTurn). t .step) e in cc
   turned-stop (got i n) {r} e h = let k = ap (λ (t : RegexTurn). t .step) e in let z : _≡_ {A = ℕ} 0 1 = cc in absurd (omega arith)
 
-  pub stopped-rules : {m : Reading RegexItem} {r : RegexTurn} {question place : ℕ} → r ≡ regex-turned c due m → m ≡ stop question place → r .rules ≡ c
+  pub stopped-rules : {m : Reading RegexItem} {r : RegexTurn} {question place : ℕ} → r ≡ regex-turned c due m → m ≡ stop question place
+      → r .rules ≡ c
   unfolding regex-turned
   stopped-rules {m} {r} e s = ap (λ (t : RegexTurn). t .rules) (e ∙ ap (regex-turned c due) s)
 
-  pub turned-next : (m : Reading RegexItem) {r : RegexTurn} {next : ℕ} → r ≡ regex-turned c due m → r .step ≡ Next next → Turned c due m r next
+  pub turned-next : (m : Reading RegexItem) {r : RegexTurn} {next : ℕ} → r ≡ regex-turned c due m → r .step ≡ Next next
+      → Turned c due m r next
   unfolding regex-turned
   turned-next (stop q p) {r} e h = let k = ap (λ (t : RegexTurn). t .step) e in let z : _≡_ {A = ℕ} 0 1 = cc in absurd (omega arith)
   turned-next (got i n) {r} {next} e h =
@@ -76,7 +82,8 @@ module _ (bytes : List ℕ) (n at next : ℕ) where
   class-full h = rw (eq-eqb (64 - n) 0 (omega arith))
 
   module _ (h : n < 64) where
-    pub class-low : {question place : ℕ} → sheet-field (between 0 255) bytes next ≡ stop question place → class-after bytes (64 - n) at next ≡ stop question place
+    pub class-low : {question place : ℕ} → sheet-field (between 0 255) bytes next ≡ stop question place
+        → class-after bytes (64 - n) at next ≡ stop question place
     unfolding class-after
     class-low e = rw (ne-eqb (64 - n) 0 (λ z. omega arith), e)
 
@@ -91,7 +98,8 @@ module _ (bytes : List ℕ) (n at next : ℕ) where
       unfolding class-after
       class-whole f = rw (ne-eqb (64 - n) 0 (λ z. omega arith), e, f)
 
-pub class-put : (c : RuleColumns) (low high : ℕ) {p q : RuleColumns} → p ≡ with-tag c 1 → q ≡ with-class p low high → q ≡ with-item c (class-item low high)
+pub class-put : (c : RuleColumns) (low high : ℕ) {p q : RuleColumns} → p ≡ with-tag c 1 → q ≡ with-class p low high → q
+    ≡ with-item c (class-item low high)
 unfolding with-item
 class-put c low high e f = f ∙ ap (λ (r : RuleColumns). with-class r low high) e
 
@@ -166,7 +174,8 @@ module _ (bytes : List ℕ) where
       (sheet-field (between low 255) bytes after) _ (field-inside (between low 255) bytes after)
       (λ high end g. record { node-allowed = omega arith; class-allowed = omega arith; inside = g .inside })))
 
-  item-keeps : (left classes at tag next : ℕ) → next ≤ length bytes → Outcome Any (NodeKept bytes (suc left) classes) (regex-item bytes classes at tag next)
+  item-keeps : (left classes at tag next : ℕ) → next ≤ length bytes
+      → Outcome Any (NodeKept bytes (suc left) classes) (regex-item bytes classes at tag next)
   unfolding regex-item item-classes
   item-keeps left classes at tag next h = go (eqb tag 0) (eqb tag 1) (eqb tag 2) (eqb tag 3)
     where
@@ -174,7 +183,8 @@ module _ (bytes : List ℕ) where
       plain item e = record { node-allowed = omega arith; class-allowed = omega arith; inside = h }
 
       go : (a b d f : Bool) → Outcome Any (NodeKept bytes (suc left) classes)
-          (cond a (got empty-item next) (cond b (class-after bytes classes at next) (cond d (got concat-item next) (cond f (got union-item next) (got star-item next)))))
+          (cond a (got empty-item next) (cond b (class-after bytes classes at next)
+          (cond d (got concat-item next) (cond f (got union-item next) (got star-item next)))))
       go true b d f = plain empty-item refl
       go false true d f = class-keeps left classes at next
       go false false true f = plain concat-item refl
@@ -191,28 +201,29 @@ module _ (bytes : List ℕ) where
       (then-outcome Any (FieldKept (between 0 4) bytes) (NodeKept bytes (suc left) classes) (sheet-field (between 0 4) bytes at) _
       (field-inside (between 0 4) bytes at) (λ tag next f. item-keeps left classes at tag next (f .inside)))
 
-  pub node-kept : (left classes at : ℕ) {item : RegexItem} {next : ℕ} → regex-turn bytes left classes at ≡ got item next → NodeKept bytes left classes item next
+  pub node-kept : (left classes at : ℕ) {item : RegexItem} {next : ℕ} → regex-turn bytes left classes at ≡ got item next
+      → NodeKept bytes left classes item next
   node-kept left classes at e = outcome-got Any (NodeKept bytes left classes) (turn-keeps left classes at) e
 
 -- ---- the turns make up the definition's items
 
 items-turn : (bytes : List ℕ) (left classes due at : ℕ) → regex-items bytes left classes (suc due) at
     ≡ and-then (regex-turn bytes left classes at)
-    (λ item after. and-then (regex-items bytes (left - 1) (classes - item-classes item) (regex-parts item + due) after) (λ items end. got (item ∷ items) end))
+    (λ item after. and-then (regex-items bytes (left - 1) (classes - item-classes item) (regex-parts item + due) after) (in-front item))
 unfolding regex-items regex-turn
 items-turn bytes zero classes due at = go (sheet-field (between 0 4) bytes at)
   where
     go : (m : Reading ℕ) → _≡_ {A = Reading (List RegexItem)} (and-then m (λ tag next. stop 5 at))
         (and-then (and-then m (λ tag next. stop 5 at))
-        (λ item after. and-then (regex-items bytes (zero - 1) (classes - item-classes item) (regex-parts item + due) after) (λ items end. got (item ∷ items) end)))
+        (λ item after. and-then (regex-items bytes (zero - 1) (classes - item-classes item) (regex-parts item + due) after) (in-front item)))
     go (stop q p) = refl
     go (got tag next) = refl
 items-turn bytes (suc left) classes due at = simp (eqb·suc-zero, pred-suc) (go (sheet-field (between 0 4) bytes at))
   where
     go : (m : Reading ℕ) → and-then m (λ tag next. and-then (regex-item bytes classes at tag next)
-        (λ item after. and-then (regex-items bytes left (classes - item-classes item) (regex-parts item + due) after) (λ items end. got (item ∷ items) end)))
+        (λ item after. and-then (regex-items bytes left (classes - item-classes item) (regex-parts item + due) after) (in-front item)))
         ≡ and-then (and-then m (λ tag next. regex-item bytes classes at tag next))
-        (λ item after. and-then (regex-items bytes left (classes - item-classes item) (regex-parts item + due) after) (λ items end. got (item ∷ items) end))
+        (λ item after. and-then (regex-items bytes left (classes - item-classes item) (regex-parts item + due) after) (in-front item))
     go (stop q p) = refl
     go (got tag next) = refl
 
@@ -260,8 +271,8 @@ module _ (bytes : List ℕ) (c : RuleColumns) (at : ℕ) where
       go (suc left) = rw e
 
   items-next : (due : ℕ) {item : RegexItem} {next : ℕ} → 0 < due → turn-from ≡ got item next
-      → items-from due ≡ and-then (regex-items bytes (256 - with-item c item .items) (64 - with-item c item .classes) (due - 1 + regex-parts item) next)
-      (λ items end. got (item ∷ items) end)
+      → items-from due ≡ and-then (regex-items bytes (256 - with-item c item .items) (64 - with-item c item .classes)
+      (due - 1 + regex-parts item) next) (in-front item)
   items-next zero l e = absurd (omega arith)
   items-next (suc due) {item} {next} l e =
       let i : 256 - c .items - 1 ≡ 256 - with-item c item .items = omega (arith, items-put c item) in
@@ -292,7 +303,7 @@ pub record Again (bytes : List ℕ) (c : RuleColumns) (at due : ℕ) (item : Reg
   pub fits : RulesFit p
   pub more : p .items ≡ c .items + 1
   pub room : c .items < 256
-  pub rest : items-from bytes c at due ≡ and-then (items-from bytes p next d) (λ items end. got (item ∷ items) end)
+  pub rest : items-from bytes c at due ≡ and-then (items-from bytes p next d) (in-front item)
 
 pub turn-again : (bytes : List ℕ) (c : RuleColumns) (at due : ℕ) {r : RegexTurn} {next : ℕ} → 0 < due → due ≤ c .items + 1 → RulesFit c
     → (t : Turned c due (turn-from bytes c at) r next) → Again bytes c at due (t .item) (r .rules) (r .due) next

@@ -12,7 +12,8 @@ use Rattle.stage1_sheet_columns.specs.declared.RuleColumns.{RuleColumns}
 use Rattle.stage1_sheet_reader.specs.Put.{with-action, with-item, with-all, with-rule, no-rules}
 use Rattle.stage1_sheet_reader.specs.Answers.{allowance, Answers, RulesFit}
 use Rattle.stage1_sheet_reader.specs.declared.Step.{Step}
-use Rattle.stage1_sheet_reader.specs.declared.Step.the-variants.{Next, Stop}
+use Rattle.stage1_sheet_reader.specs.declared.Step.the-variants.{Stop}
+use Rattle.stage1_sheet_reader.proofs.Leading.{in-front}
 use Rattle.stage1_sheet_reader.proofs.RegexTurns.{items-put, classes-put, count-put}
 
 -- ---- the ways through a rule
@@ -23,8 +24,10 @@ module _ (bytes : List ℕ) (tokens : ℕ) (c : RuleColumns) (at most : ℕ) whe
   unfolding read-rule
   rule-unfit d e = rw e refl
 
-  pub rule-goes : {action next : ℕ} {p : RuleColumns} (s : Step) (d : RuleColumns) → sheet-field (between 0 tokens) bytes at ≡ got action next
-      → p ≡ with-action c action at → Answers (with-all with-item) most (regex-items bytes (256 - p .items) (64 - p .classes) 1 next) p s d
+  pub rule-goes : {action next : ℕ} {p : RuleColumns} (s : Step) (d : RuleColumns) → sheet-field (between 0 tokens) bytes at
+      ≡ got action next
+      → p ≡ with-action c action at
+      → Answers (with-all with-item) most (regex-items bytes (256 - p .items) (64 - p .classes) 1 next) p s d
       → Answers with-rule most (read-rule bytes tokens (allowance c) at) c s d
   unfolding read-rule allowance with-rule
   rule-goes {action} {next} {p} s d e h k =
@@ -36,7 +39,8 @@ module _ (bytes : List ℕ) (tokens : ℕ) (c : RuleColumns) (at most : ℕ) whe
       go (stop q p) k = k
       go (got items end) k = k
 
-pub action-fits : (c : RuleColumns) (action at : ℕ) {p : RuleColumns} → p ≡ with-action c action at → c .count < 32 → RulesFit c → RulesFit p
+pub action-fits : (c : RuleColumns) (action at : ℕ) {p : RuleColumns} → p ≡ with-action c action at → c .count < 32 → RulesFit c
+    → RulesFit p
 action-fits c action at e h f = rw e record { rules = omega arith; nodes = f .nodes; classes = f .classes }
 
 pub no-rules-fit : {c : RuleColumns} → c ≡ no-rules → RulesFit c
@@ -83,7 +87,8 @@ module _ (bytes : List ℕ) (tokens count : ℕ) (c : RuleColumns) (at : ℕ) wh
       let n : count - c .count ≡ count = omega (arith, ap (λ (x : RuleColumns). x .count) e) in
       ap₂ (λ (k : ℕ) (a : Allowance). read-many (read-rule bytes tokens) less-rule a k at) n (ap allowance e)
 
-  pub rules-stop : {question place : ℕ} → c .count < count → read-rule bytes tokens (allowance c) at ≡ stop question place → rules-from ≡ stop question place
+  pub rules-stop : {question place : ℕ} → c .count < count → read-rule bytes tokens (allowance c) at ≡ stop question place → rules-from
+      ≡ stop question place
   unfolding read-many
   rules-stop {question} {place} l e = go (count - c .count) (omega arith)
     where
@@ -99,16 +104,17 @@ module _ (bytes : List ℕ) (tokens count : ℕ) (c : RuleColumns) (at : ℕ) wh
       go zero h = refl
       go (suc n) h = absurd (omega arith)
 
-  pub rules-next : {r : ReadRule} {next : ℕ} {p : RuleColumns} → c .count < count → read-rule bytes tokens (allowance c) at ≡ got r next → p ≡ with-rule c r
-      → rules-from ≡ and-then (read-many (read-rule bytes tokens) less-rule (allowance p) (count - p .count) next) (λ l end. got (r ∷ l) end)
+  pub rules-next : {r : ReadRule} {next : ℕ} {p : RuleColumns} → c .count < count → read-rule bytes tokens (allowance c) at ≡ got r next
+      → p ≡ with-rule c r
+      → rules-from ≡ and-then (read-many (read-rule bytes tokens) less-rule (allowance p) (count - p .count) next) (in-front r)
   unfolding read-many
   rules-next {r} {next} {p} l e h =
       let n : count - c .count - 1 ≡ count - p .count = omega (arith, ap (λ (x : RuleColumns). x .count) h, rule-count c r) in
       go (count - c .count) (omega arith)
-      ∙ ap₂ (λ (n : ℕ) (a : Allowance). and-then (read-many (read-rule bytes tokens) less-rule a n next) (λ l end. got (r ∷ l) end))
+      ∙ ap₂ (λ (n : ℕ) (a : Allowance). and-then (read-many (read-rule bytes tokens) less-rule a n next) (in-front r))
       n (allowance-less c r ∙ sym (ap allowance h))
     where
       go : (n : ℕ) → 0 < n → read-many (read-rule bytes tokens) less-rule (allowance c) n at
-          ≡ and-then (read-many (read-rule bytes tokens) less-rule (less-rule (allowance c) r) (n - 1) next) (λ l end. got (r ∷ l) end)
+          ≡ and-then (read-many (read-rule bytes tokens) less-rule (less-rule (allowance c) r) (n - 1) next) (in-front r)
       go zero h = absurd (omega arith)
       go (suc n) h = let k : suc n - 1 ≡ n = omega arith in rw (e, k)

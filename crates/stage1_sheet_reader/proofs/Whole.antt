@@ -1,13 +1,13 @@
 -- The laws of reading a whole sheet: its head, its end, and that columns filled with what was read hold the sheet.
-use mathlib.Core.Path.{_≡_, refl, sym, ap, ap₂, subst, _∙_}
+use mathlib.Core.Path.{_≡_, refl, ap, ap₂, subst, _∙_}
 use mathlib.Core.Bool.{Bool, true, false, cond}
 use mathlib.Core.List.{List, [], _∷_, _++_, map, flatMap}
-use Prim.Native.Nat.{ℕ, zero, suc, _+_, _≤_, _<_}
+use Prim.Native.Nat.{ℕ, suc, _≤_}
 use native.Mathlib.Omega.{arith}
 use lib.Dec.{eqb}
 use lib.ListN.{length, getD}
 use borrow.Author.Tests.{eq-eqb, ne-eqb}
-use Rattle.stage1_sheet.specs.Limits.{most-tokens, most-rules, most-classes, most-regex-nodes, most-expression-nodes}
+use Rattle.stage1_sheet.specs.Limits.{most-tokens, most-rules, most-expression-nodes}
 use Rattle.stage1_sheet.specs.Regex.{empty}
 use Rattle.stage1_sheet.specs.Expression.{bottom}
 use Rattle.stage1_sheet.specs.Sheet.{Rule}
@@ -15,28 +15,25 @@ use Rattle.stage1_sheet.specs.Field.{Reading, stop, got, and-then, between, rea
 use Rattle.stage1_sheet.specs.FieldLaws.{Bytes, Outcome, then-outcome, outcome-got, FieldRead, true-between, Row, many-outcome}
 use Rattle.stage1_sheet.specs.SheetFields.{SheetRefusal, sheet-field-outcome}
 use Rattle.stage1_sheet.specs.Items.{RegexItem, regexes, expressions}
-use Rattle.stage1_sheet.specs.RegexItems.{regex-items-of, one-regex}
+use Rattle.stage1_sheet.specs.RegexItems.{regex-items-of, MakesRegexes, one-regex}
 use Rattle.stage1_sheet.specs.ExpressionItems.{expression-items-of, one-expression}
 use Rattle.stage1_sheet.specs.Reading.{sheet-field, regex-items, ReadRule, ReadNode, Allowance, less-rule, read-rule, expression-nodes, Contents, contents, at-end, read-sheet}
 use Rattle.stage1_sheet.specs.RegexReading.{RegexesRead, regexes-outcome}
 use Rattle.stage1_sheet.specs.ExpressionReading.{NodesRead, expressions-outcome}
-use Rattle.stage1_sheet_columns.specs.Holds.{RulesHold, NodesHold, items-of-rules, RulesOf, NodesOf}
+use Rattle.stage1_sheet_columns.specs.Holds.{items-of-rules, RulesOf, NodesOf}
 use Rattle.stage1_sheet_columns.specs.declared.RuleColumns.{RuleColumns}
 use Rattle.stage1_sheet_reader.specs.Put.{with-all, with-rule, with-read-node, no-rules, no-nodes}
 use Rattle.stage1_sheet_reader.specs.Turns.{Counted, header, header-answer, nodes-to-end}
-use Rattle.stage1_sheet_reader.specs.Answers.{allowance, Answers, RulesFit, refused-columns, Finished, Holds, Reads}
+use Rattle.stage1_sheet_reader.specs.Answers.{allowance, RulesFit, refused-columns, Finished, Reads}
 use Rattle.stage1_sheet_reader.specs.declared.Header.the-variants.{Counts, Wrong}
-use Rattle.stage1_sheet_reader.specs.declared.Step.{Step}
-use Rattle.stage1_sheet_reader.specs.declared.Step.the-variants.{Next, Stop}
 use Rattle.stage1_sheet_reader.specs.declared.SheetColumns.{SheetColumns}
-use Rattle.stage1_sheet_reader.proofs.Fields.{field-kept}
-use Rattle.stage1_sheet_reader.proofs.Leading.{was-read, was-stopped}
 use Rattle.stage1_sheet_reader.proofs.Holding.{all-rules-held, all-nodes-held}
 
 -- ---- the head
 
 module _ (bytes : List ℕ) where
-  pub head-version : {question place : ℕ} → sheet-field (between 1 1) bytes 0 ≡ stop question place → Wrong question place ≡ header-answer (header bytes)
+  pub head-version : {question place : ℕ} → sheet-field (between 1 1) bytes 0 ≡ stop question place → Wrong question place
+      ≡ header-answer (header bytes)
   unfolding header header-answer
   head-version e = rw e
 
@@ -148,7 +145,8 @@ ended bytes tokens at {nodes} {end} e = go (expression-nodes bytes tokens most-e
 -- ---- the whole, made of its parts
 
 module _ {A B C : Type 0} where
-  then-then : (m : Reading A) (f : A → ℕ → Reading B) (g : B → ℕ → Reading C) → and-then m (λ a next. and-then (f a next) g) ≡ and-then (and-then m f) g
+  then-then : (m : Reading A) (f : A → ℕ → Reading B) (g : B → ℕ → Reading C) → and-then m (λ a next. and-then (f a next) g)
+      ≡ and-then (and-then m f) g
   then-then (stop q p) f g = refl
   then-then (got a next) f g = refl
 
@@ -168,7 +166,8 @@ module _ (bytes : List ℕ) where
   rest-part h at = and-then (rules-part h at) (end-part h)
 
   end-parts : (h : Counted) (rules : List ReadRule) (next : ℕ)
-      → and-then (expression-nodes bytes (h .tokens) most-expression-nodes (0 ∷ []) next) (λ nodes end. at-end bytes (contents (h .tokens) rules nodes) end)
+      → and-then (expression-nodes bytes (h .tokens) most-expression-nodes (0 ∷ []) next)
+      (λ nodes end. at-end bytes (contents (h .tokens) rules nodes) end)
       ≡ end-part h rules next
   unfolding nodes-to-end at-end
   end-parts h rules next =
@@ -186,7 +185,8 @@ module _ (bytes : List ℕ) where
       then-same (sheet-field (between 1 1) bytes 0) _ _ (λ version at-tokens.
       then-same (sheet-field (between 1 most-tokens) bytes at-tokens) _ _ (λ tokens at-count.
       then-same (sheet-field (between 1 most-rules) bytes at-count) _ _ (λ count at-rules.
-      then-same (rules-part (record { tokens = tokens; rules = count }) at-rules) _ _ (λ rules next. end-parts (record { tokens = tokens; rules = count }) rules next))
+      then-same (rules-part (record { tokens = tokens; rules = count }) at-rules) _ _
+      (λ rules next. end-parts (record { tokens = tokens; rules = count }) rules next))
       ∙ then-then (sheet-field (between 1 most-rules) bytes at-count) _ rest-part)
       ∙ then-then (sheet-field (between 1 most-tokens) bytes at-tokens) _ rest-part)
       ∙ then-then (sheet-field (between 1 1) bytes 0) _ rest-part
@@ -200,6 +200,10 @@ rule-of r = record { action = r .action; regex = getD (regexes (r .items)) 0 emp
 -- Its regex has the items that were read.
 abbrev SameItems : ReadRule → Type 0
 SameItems r = regex-items-of (rule-of r .regex) ≡ r .items
+
+same-regex : (items : List RegexItem) → MakesRegexes 1 items → regex-items-of (getD (regexes items) 0 empty) ≡ items
+same-regex items h = let one = one-regex items h in
+    ap (λ l. regex-items-of (getD l 0 empty)) (one .1 .made) ∙ one .1 .same-items
 
 same-actions : (rules : List ReadRule) → map (λ r. r .action) (map rule-of rules) ≡ map (λ r. r .action) rules
 same-actions [] = refl
@@ -215,9 +219,10 @@ module _ (bytes : List ℕ) (b : Bytes bytes) (tokens : ℕ) where
       (λ action next f. then-outcome (SheetRefusal bytes) (RegexesRead bytes (allowed .nodes) (allowed .classes) 1 next)
       (λ r end. SameItems r × (end ≤ length bytes)) (regex-items bytes (allowed .nodes) (allowed .classes) 1 next) _
       (regexes-outcome bytes b (allowed .nodes) (allowed .classes) 1 next (f .stands .inside))
-      (λ items end r. (let one = one-regex items (r .makes) in ap (λ l. regex-items-of (getD l 0 empty)) (one .1 .made) ∙ one .1 .same-items, r .stands .inside)))
+      (λ items end r. (same-regex items (r .makes), r .stands .inside)))
 
-  row-items : (rules : List ReadRule) (allowed : Allowance) (at end : ℕ) → Row (λ s from r next. SameItems r) less-rule allowed at rules end
+  row-items : (rules : List ReadRule) (allowed : Allowance) (at end : ℕ)
+      → Row (λ s from r next. SameItems r) less-rule allowed at rules end
       → items-of-rules (map rule-of rules) ≡ flatMap (λ r. r .items) rules
   unfolding items-of-rules flatMap
   row-items [] allowed at end h = refl
@@ -229,10 +234,12 @@ module _ (bytes : List ℕ) (b : Bytes bytes) (tokens : ℕ) where
   rules-of-sheet allowed count at {rules} {end} h e f =
       let o = outcome-got (SheetRefusal bytes)
       (λ l last. (length l ≡ count) × Row (λ s from r next. SameItems r) less-rule allowed at l last × (last ≤ length bytes))
-      (many-outcome (SheetRefusal bytes) (λ p. p ≤ length bytes) (λ s from r next. SameItems r) (read-rule bytes tokens) less-rule rule-items count allowed at h) e in
+      (many-outcome (SheetRefusal bytes) (λ p. p ≤ length bytes) (λ s from r next. SameItems r)
+      (read-rule bytes tokens) less-rule rule-items count allowed at h) e in
       rw (same-actions rules, row-items rules allowed at end (o .1)) (all-rules-held rules f)
 
-  nodes-of-sheet : (at : ℕ) {nodes : List ReadNode} {end : ℕ} → at ≤ length bytes → expression-nodes bytes tokens most-expression-nodes (0 ∷ []) at ≡ got nodes end
+  nodes-of-sheet : (at : ℕ) {nodes : List ReadNode} {end : ℕ} → at ≤ length bytes
+      → expression-nodes bytes tokens most-expression-nodes (0 ∷ []) at ≡ got nodes end
       → NodesOf (with-all with-read-node no-nodes nodes) (getD (expressions (map (λ n. n .item) nodes)) 0 bottom) (map (λ n. n .place) nodes)
   nodes-of-sheet at {nodes} {end} h e =
       let o = outcome-got (SheetRefusal bytes) (NodesRead bytes tokens most-expression-nodes (0 ∷ []) at)
@@ -249,7 +256,8 @@ module _ (bytes : List ℕ) (b : Bytes bytes) (tokens : ℕ) where
 -- ---- the ways through a sheet
 
 module _ (bytes : List ℕ) (r : SheetColumns) where
-  pub sheet-head : {question place : ℕ} → header bytes ≡ stop question place → r ≡ refused-columns question place → Reads (read-sheet bytes) r
+  pub sheet-head : {question place : ℕ} → header bytes ≡ stop question place → r ≡ refused-columns question place
+      → Reads (read-sheet bytes) r
   sheet-head e h = rw (sheet-parts bytes, e) h
 
   module _ {tokens count at : ℕ} (e : header bytes ≡ got (record { tokens = tokens; rules = count }) at) where
@@ -258,7 +266,8 @@ module _ (bytes : List ℕ) (r : SheetColumns) where
     sheet-rules f h = rw (sheet-parts bytes, e, f) h
 
     pub sheet-rest : {rules : List ReadRule} {next : ℕ} {d : RuleColumns} → Bytes bytes → at ≤ length bytes → next ≤ length bytes
-        → rules-part bytes (record { tokens = tokens; rules = count }) at ≡ got rules next → d ≡ with-all with-rule no-rules rules → RulesFit d
+        → rules-part bytes (record { tokens = tokens; rules = count }) at ≡ got rules next → d ≡ with-all with-rule no-rules rules
+        → RulesFit d
         → Finished (nodes-to-end bytes tokens next) tokens d r → Reads (read-sheet bytes) r
     unfolding contents
     sheet-rest {rules} {next} {d} b l m f w fit h =

@@ -2,7 +2,7 @@
 -- refusal, its question and place. The columns after a refusal are not spoken of.
 use mathlib.Core.Path.{_≡_}
 use mathlib.Core.List.{List, [], _∷_}
-use Prim.Native.Nat.{ℕ, _+_, _-_, _≤_, _<_}
+use Prim.Native.Nat.{ℕ, _+_, _-_, _≤_}
 use lib.ListN.{length, getD}
 use Rattle.stage1_sheet.specs.Limits.{most-expression-nodes}
 use Rattle.stage1_sheet.specs.Field.{Reading, stop, got, read-many}
@@ -49,7 +49,8 @@ ReadsRule bytes at tokens c s d = Answers with-rule (length bytes) (read-rule by
 
 abbrev pub ReadsRules : List ℕ → ℕ → ℕ → ℕ → Step → RuleColumns → Type 0
 ReadsRules bytes at tokens count s d =
-    Answers (with-all with-rule) (length bytes) (read-many (read-rule bytes tokens) less-rule (allowance no-rules) count at) no-rules s d × RulesFit d
+    Answers (with-all with-rule) (length bytes) (read-many (read-rule bytes tokens) less-rule (allowance no-rules) count at) no-rules s d
+    × RulesFit d
 
 abbrev pub ReadsExpression : List ℕ → ℕ → ℕ → Step → NodeColumns → Type 0
 ReadsExpression bytes at tokens s d =

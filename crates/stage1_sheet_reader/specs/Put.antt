@@ -4,9 +4,8 @@ use mathlib.Core.List.{List, [], _∷_}
 use Prim.Native.Nat.{ℕ, zero, suc, _+_, _-_}
 use lib.Dec.{eqb, ltb}
 use lib.ListN.{getD, set, replicate}
-use Rattle.stage1_sheet.specs.Items.{RegexItem, empty-item, class-item, concat-item, union-item, star-item, ExpressionItem, epsilon-item, bottom-item, token-item, sequence-item, alternative-item, fixed-point-item, variable-item}
+use Rattle.stage1_sheet.specs.Items.{RegexItem, empty-item, class-item, concat-item, union-item, star-item}
 use Rattle.stage1_sheet.specs.Reading.{ReadRule, ReadNode}
-use Rattle.stage1_sheet.specs.RegexItems.{regex-tag}
 use Rattle.stage1_sheet.specs.ExpressionItems.{expression-tag}
 use Rattle.stage1_sheet_columns.specs.Holds.{number-after}
 use Rattle.stage1_sheet_columns.specs.declared.RuleColumns.{RuleColumns}

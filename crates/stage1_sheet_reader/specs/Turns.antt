@@ -2,7 +2,7 @@
 -- is the definition's to say, to which the proofs lead each turn.
 use mathlib.Core.Bool.{Bool, cond, _&&_}
 use mathlib.Core.List.{List, [], _∷_}
-use Prim.Native.Nat.{ℕ, zero, suc, _+_, _-_}
+use Prim.Native.Nat.{ℕ, _+_, _-_}
 use lib.Dec.{eqb, ltb, leb}
 use lib.ListN.{length}
 use Rattle.stage1_sheet.specs.Limits.{most-tokens, most-rules, most-expression-nodes}

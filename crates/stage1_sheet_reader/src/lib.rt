@@ -8,7 +8,8 @@ ghost use Rattle.stage1_sheet_reader.specs.Put.{with-tag, with-class, wi
 ghost use Rattle.stage1_sheet_reader.specs.Put.{no-rules, no-nodes, one-pending};
 ghost use Rattle.stage1_sheet_reader.specs.Turns.{in-range, field-answer, header, header-answer, nodes-to-end};
 ghost use Rattle.stage1_sheet_reader.specs.Turns.{regex-turn, regex-stopped, regex-gone, regex-turned};
-ghost use Rattle.stage1_sheet_reader.specs.Turns.{expression-turn, expression-stopped, expression-gone, expression-turned, numbered-turned};
+ghost use Rattle.stage1_sheet_reader.specs.Turns.{expression-turn, expression-stopped, expression-gone, expression-turned};
+ghost use Rattle.stage1_sheet_reader.specs.Turns.{numbered-turned};
 ghost use Rattle.stage1_sheet_reader.specs.Answers.{RulesFit, PendingFit, ReadsRegex, ReadsRule, ReadsRules, ReadsExpression};
 ghost use Rattle.stage1_sheet_reader.specs.Answers.{refused-columns, Finished, Reads};
 use stage0_number::Number;
@@ -391,7 +392,8 @@ fn expression_turn(
     pending: Pending,
 ) -> ExpressionTurn
     requires { ⌜ (at ≤ 4096) × (0 < pending .count) × PendingFit nodes pending ⌝ }
-    ensures { λ r. ⌜ r ≡ expression-turned nodes pending at (expression-turn (now (sheet .entry)) tokens (64 - nodes .count) (next-opened pending) at) ⌝ }
+    ensures { λ r. ⌜ r ≡ expression-turned nodes pending at
+        (expression-turn (now (sheet .entry)) tokens (64 - nodes .count) (next-opened pending) at) ⌝ }
 {
     match read_field(sheet, at, 0, 7) {
         Field::Unfit(question, place) => expression_stop(question, place, nodes, pending),

@@ -14,7 +14,9 @@ regex-stop-requires : tie.Need-regex-stop-requires
 regex-stop-requires c κs = search needs
 
 returns : tie.Need-returns
-returns c = c .regex-stop .ensures ∙ turn-stops _ _ (class-full (now (c .before .before .before .args .sheet)) _ _ _ (c .before .if1 .taken))
+returns c =
+    let z = c .before .before .before in
+    c .regex-stop .ensures ∙ turn-stops _ _ (class-full (now (z .args .sheet)) _ _ _ (c .before .if1 .taken))
 
 read-field-requires : tie.Need-read-field-requires
 read-field-requires c κs = search needs
@@ -44,33 +46,51 @@ with-tag-requires : tie.Need-with-tag-requires
 with-tag-requires c κs = search needs
 
 with-class-requires : tie.Need-with-class-requires
-with-class-requires c κs = omega (arith, ap (λ (r : RuleColumns). r .classes) (c .with-tag .ensures), c .before .before .before .before .before .before .before .before .before .if1 .left)
+with-class-requires c κs =
+    let first = c .before .before .before .before .before .before in
+    omega (arith, ap (λ (r : RuleColumns). r .classes) (c .with-tag .ensures), first .before .before .before .if1 .left)
 
 sub-regex-next : tie.Need-sub-regex-next
-sub-regex-next c = omega (arith, c .before .before .before .before .before .before .before .before .before .before .before .before .pre .0)
+sub-regex-next c =
+    let first = c .before .before .before .before .before .before .before in
+    let z = first .before .before .before .before .before in
+    omega (arith, z .pre .0)
 
 regex-next-requires : tie.Need-regex-next-requires
 regex-next-requires c κs = search needs
 
 returns-2 : tie.Need-returns-2
 returns-2 c =
-    c .regex-stop2 .ensures
-    ∙ turn-stops _ _ (class-low (now (c .before .before .before .before .before .before .before .args .sheet)) _ _ _ (c .before .before .before .before .before .if1 .left)
-    (field-unfit (up-to 0 255) (now (c .before .before .before .before .before .before .before .args .sheet)) _ (sym (c .before .before .before .before .read-field .ensures) ∙ c .before .before .question .given .1)))
+    let first = c .before .before in
+    let z = first .before .before .before .before .before in
+    let bytes = now (z .args .sheet) in
+    let room = first .before .before .before .if1 .left in
+    let e = field-unfit (up-to 0 255) bytes _ (sym (first .before .before .read-field .ensures) ∙ first .question .given .1) in
+    c .regex-stop2 .ensures ∙ turn-stops _ _ (class-low bytes _ _ _ room e)
 
 returns-3 : tie.Need-returns-3
 returns-3 c =
-    c .regex-stop3 .ensures
-    ∙ turn-stops _ _ (class-high (now (c .before .before .before .before .before .before .before .before .before .before .before .args .sheet)) _ _ _ (c .before .before .before .before .before .before .before .before .before .if1 .left) (field-value (up-to 0 255) (now (c .before .before .before .before .before .before .before .before .before .before .before .args .sheet)) _ (sym (c .before .before .before .before .before .before .before .before .read-field .ensures) ∙ c .before .before .before .before .before .before .low .given .1))
-    (field-unfit (up-to _ 255) (now (c .before .before .before .before .before .before .before .before .before .before .before .args .sheet)) _ (sym (c .before .before .before .before .read-field2 .ensures) ∙ c .before .before .question2 .given .1)))
+    let second = c .before .before in
+    let first = second .before .before .before .before in
+    let z = first .before .before .before .before .before in
+    let bytes = now (z .args .sheet) in
+    let room = first .before .before .before .if1 .left in
+    let low = field-value (up-to 0 255) bytes _ (sym (first .before .before .read-field .ensures) ∙ first .low .given .1) in
+    let e = field-unfit (up-to _ 255) bytes _ (sym (second .before .before .read-field2 .ensures) ∙ second .question2 .given .1) in
+    c .regex-stop3 .ensures ∙ turn-stops _ _ (class-high bytes _ _ _ room low e)
 
 returns-4 : tie.Need-returns-4
 unfolding regex-parts
 returns-4 c =
-    c .regex-next .ensures
-    ∙ turn-goes _ _ (class-whole (now (c .before .before .before .before .before .before .before .before .before .before .before .before .before .args .sheet)) _ _ _ (c .before .before .before .before .before .before .before .before .before .before .before .if1 .left) (field-value (up-to 0 255) (now (c .before .before .before .before .before .before .before .before .before .before .before .before .before .args .sheet)) _ (sym (c .before .before .before .before .before .before .before .before .before .before .read-field .ensures) ∙ c .before .before .before .before .before .before .before .before .low .given .1))
-    (field-value (up-to _ 255) (now (c .before .before .before .before .before .before .before .before .before .before .before .before .before .args .sheet)) _ (sym (c .before .before .before .before .before .before .read-field2 .ensures) ∙ c .before .before .before .before .high .given .1)))
-    (omega arith) (class-put _ _ _ (c .before .before .with-tag .ensures) (c .before .with-class .ensures))
+    let second = c .before .before .before .before in
+    let first = second .before .before .before .before in
+    let z = first .before .before .before .before .before in
+    let bytes = now (z .args .sheet) in
+    let room = first .before .before .before .if1 .left in
+    let low = field-value (up-to 0 255) bytes _ (sym (first .before .before .read-field .ensures) ∙ first .low .given .1) in
+    let high = field-value (up-to _ 255) bytes _ (sym (second .before .before .read-field2 .ensures) ∙ second .high .given .1) in
+    let put = class-put _ _ _ (c .before .before .with-tag .ensures) (c .before .with-class .ensures) in
+    c .regex-next .ensures ∙ turn-goes _ _ (class-whole bytes _ _ _ room low high) (omega arith) put
 
 pub class-turn-spec : {M : Type 1} → statement M
 class-turn-spec =

@@ -25,15 +25,23 @@ expression-stop-requires-2 : tie.Need-expression-stop-requires-2
 expression-stop-requires-2 c κs = search needs
 
 returns : tie.Need-returns
-returns c = c .expression-stop2 .ensures ∙ node-stops _ _ _ (node-full (now (c .before .before .before .before .before .before .before .args .sheet)) _ _ _ _ (field-value (up-to 0 6) (now (c .before .before .before .before .before .before .before .args .sheet)) _ (sym (c .before .before .before .before .before .read-field .ensures) ∙ c .before .before .before .tag .given .1)) (c .before .if1 .taken))
+returns c =
+    let told = c .before .before .before in
+    let z = told .before .before .before .before in
+    let bytes = now (z .args .sheet) in
+    let e = field-value (up-to 0 6) bytes _ (sym (told .before .before .read-field .ensures) ∙ told .tag .given .1) in
+    c .expression-stop2 .ensures ∙ node-stops _ _ _ (node-full bytes _ _ _ _ e (c .before .if1 .taken))
 
 numbered-turn-requires : tie.Need-numbered-turn-requires
 numbered-turn-requires c κs = search needs
 
 returns-2 : tie.Need-returns-2
 returns-2 c =
-    c .numbered-turn .ensures
-    ∙ token-turn (now (c .before .before .before .before .before .before .before .before .args .sheet)) _ _ _ _ (field-value (up-to 0 6) (now (c .before .before .before .before .before .before .before .before .args .sheet)) _ (sym (c .before .before .before .before .before .before .read-field .ensures) ∙ c .before .before .before .before .tag .given .1)) (c .before .before .if1 .left) _ _ (c .before .if2 .taken)
+    let told = c .before .before .before .before in
+    let z = told .before .before .before .before in
+    let bytes = now (z .args .sheet) in
+    let e = field-value (up-to 0 6) bytes _ (sym (told .before .before .read-field .ensures) ∙ told .tag .given .1) in
+    c .numbered-turn .ensures ∙ token-turn bytes _ _ _ _ e (c .before .before .if1 .left) _ _ (c .before .if2 .taken)
 
 sub-last : tie.Need-sub-last
 sub-last c = search needs
@@ -46,13 +54,18 @@ cast-numbered-turn c = search needs
 
 numbered-turn-requires-2 : tie.Need-numbered-turn-requires-2
 numbered-turn-requires-2 c κs =
-    let z = c .before .before .before .before .before .before .before .before .before in
+    let told = c .before .before .before .before .before in
+    let z = told .before .before .before .before in
     (z .pre .0, omega (arith, z .pre .2 .opened (z .args .t5 .count - 1), z .pre .2 .nodes), c .before .before .before .if1 .left, z .pre .1, z .pre .2)
 
 returns-3 : tie.Need-returns-3
 returns-3 c =
-    c .numbered-turn2 .ensures
-    ∙ variable-turn (now (c .before .before .before .before .before .before .before .before .before .before .args .sheet)) _ _ _ _ (field-value (up-to 0 6) (now (c .before .before .before .before .before .before .before .before .before .before .args .sheet)) _ (sym (c .before .before .before .before .before .before .before .before .read-field .ensures) ∙ c .before .before .before .before .before .before .tag .given .1)) (c .before .before .before .before .if1 .left) _ _ (c .before .before .if3 .taken)
+    let told = c .before .before .before .before .before .before in
+    let z = told .before .before .before .before in
+    let bytes = now (z .args .sheet) in
+    let e = field-value (up-to 0 6) bytes _ (sym (told .before .before .read-field .ensures) ∙ told .tag .given .1) in
+    let kinds = c .before .before in
+    c .numbered-turn2 .ensures ∙ variable-turn bytes _ _ _ _ e (kinds .before .before .if1 .left) _ _ (kinds .if3 .taken)
 
 cast-with-node : tie.Need-cast-with-node
 cast-with-node c = search needs
@@ -61,21 +74,31 @@ with-node-requires : tie.Need-with-node-requires
 with-node-requires c κs = search needs
 
 with-parts-requires : tie.Need-with-parts-requires
-with-parts-requires c κs = let z = c .before .before .before .before .before .before .before .before .before in parts-room (z .args .nodes) (z .args .t5) (c .before .before .before .if1 .left) (z .pre .1) (z .pre .2)
+with-parts-requires c κs =
+    let told = c .before .before .before .before .before in
+    let z = told .before .before .before .before in
+    parts-room (z .args .nodes) (z .args .t5) (c .before .before .before .if1 .left) (z .pre .1) (z .pre .2)
 
 expression-next-requires : tie.Need-expression-next-requires
 expression-next-requires c κs = search needs
 
 returns-4 : tie.Need-returns-4
 returns-4 c =
-    c .expression-stop .ensures
-    ∙ node-stops _ _ _ (node-unfit (now (c .before .before .before .before .before .before .args .sheet)) _ _ _ _ (field-unfit (up-to 0 6) (now (c .before .before .before .before .before .before .args .sheet)) _ (sym (c .before .before .before .before .read-field .ensures) ∙ c .before .before .question .given .1)))
+    let told = c .before .before in
+    let z = told .before .before .before .before in
+    let bytes = now (z .args .sheet) in
+    let e = field-unfit (up-to 0 6) bytes _ (sym (told .before .before .read-field .ensures) ∙ told .question .given .1) in
+    c .expression-stop .ensures ∙ node-stops _ _ _ (node-unfit bytes _ _ _ _ e)
 
 returns-5 : tie.Need-returns-5
 returns-5 c =
-    c .expression-next .ensures
-    ∙ plain-item-goes _ _ _ (node-plain (now (c .before .before .before .before .before .before .before .before .before .before .before .args .sheet)) _ _ _ _ (field-value (up-to 0 6) (now (c .before .before .before .before .before .before .before .before .before .before .before .args .sheet)) _ (sym (c .before .before .before .before .before .before .before .before .before .read-field .ensures) ∙ c .before .before .before .before .before .before .before .tag .given .1)) (c .before .before .before .before .before .if1 .left) (c .before .before .before .before .if2 .left) (c .before .before .before .if3 .left))
-    (c .before .before .with-node .ensures) (c .before .with-parts .ensures)
+    let told = c .before .before .before .before .before .before .before in
+    let z = told .before .before .before .before in
+    let bytes = now (z .args .sheet) in
+    let e = field-value (up-to 0 6) bytes _ (sym (told .before .before .read-field .ensures) ∙ told .tag .given .1) in
+    let kinds = c .before .before .before in
+    let n = node-plain bytes _ _ _ _ e (kinds .before .before .if1 .left) (kinds .before .if2 .left) (kinds .if3 .left) in
+    c .expression-next .ensures ∙ plain-item-goes _ _ _ n (c .before .before .with-node .ensures) (c .before .with-parts .ensures)
 
 pub expression-turn-spec : {M : Type 1} → statement M
 expression-turn-spec =

@@ -17,7 +17,8 @@ use Rattle.stage1_sheet_reader.proofs.read_expression.Tie as tie
 abbrev Inv-loop : tie.InvT-loop
 Inv-loop sheet at tokens place₀ nodes₀ pending₀ place nodes pending =
     (place ≤ length sheet) × PendingFit nodes pending
-    × Leads with-read-node (length sheet) (nodes-from sheet tokens nodes pending place) nodes (expression-nodes sheet tokens 64 (0 ∷ []) at) no-nodes
+    × Leads with-read-node (length sheet) (nodes-from sheet tokens nodes pending place) nodes
+    (expression-nodes sheet tokens 64 (0 ∷ []) at) no-nodes
 
 abbrev μ-loop : tie.MeasureT-loop
 μ-loop sheet at tokens place₀ nodes₀ pending₀ place nodes pending = 64 - nodes .count
@@ -31,49 +32,63 @@ one-pending-requires c κs = search needs
 loop-holds : tie.Need-loop-holds Inv-loop μ-loop
 loop-holds c =
     let z = c .before .before .before in
-    let e = c .before .no-nodes .ensures in
-    let f = c .one-pending .ensures in
-    (z .pre .0, start-fits e f, leads-start (nodes-whole (now (z .args .sheet)) (z .args .tokens) (c .before .no-nodes .result) (c .one-pending .result) (z .args .at) e f) e)
+    let none = c .before .no-nodes in
+    let one = c .one-pending in
+    let whole = nodes-whole (now (z .args .sheet)) (z .args .tokens) (none .result) (one .result) (z .args .at) (none .ensures) (one .ensures) in
+    (z .pre .0, start-fits (none .ensures) (one .ensures), leads-start whole (none .ensures))
 
 expression-turn-requires : tie.Need-expression-turn-requires Inv-loop μ-loop
-expression-turn-requires c κs = let l = c .before .before .loop in (omega (arith, l .inv .0, c .before .before .before .before .before .before .pre .1), c .if1 .taken, l .inv .1)
+expression-turn-requires c κs =
+    let at-loop = c .before .before in
+    let l = at-loop .loop in
+    (omega (arith, l .inv .0, at-loop .before .before .before .before .pre .1), c .if1 .taken, l .inv .1)
 
 enum-told : tie.Need-enum-told Inv-loop μ-loop
 enum-told c = search needs
 
 returns : tie.Need-returns Inv-loop μ-loop
 returns c =
-    let z = c .before .before .before .before .before .before .before .before .before .before .before in
-    let l = c .before .before .before .before .before .before .before .loop in
-    let e = node-stopped (l .nodes) (l .pending) (l .place) _ (c .before .before .before .before .expression-turn .ensures) (c .enum-told .given .1) in
-    leads-stop (l .inv .2) _ (nodes-stop (now (z .args .sheet)) (z .args .tokens) (l .nodes) (l .pending) (l .place) (c .before .before .before .before .before .if1 .taken) e) (c .enum-told .given .1)
+    let called = c .before .before .before .before in
+    let at-loop = called .before .before .before in
+    let z = at-loop .before .before .before .before in
+    let l = at-loop .loop in
+    let bytes = now (z .args .sheet) in
+    let e = node-stopped (l .nodes) (l .pending) (l .place) _ (called .expression-turn .ensures) (c .enum-told .given .1) in
+    let stops = nodes-stop bytes (z .args .tokens) (l .nodes) (l .pending) (l .place) (called .before .if1 .taken) e in
+    leads-stop (l .inv .2) _ stops (c .enum-told .given .1)
 
 enum-known-step : tie.Need-enum-known-step Inv-loop μ-loop
 enum-known-step c = search needs
 
 loop-less : tie.Need-loop-less Inv-loop μ-loop
 loop-less c =
-    let z = c .before .before .before .before .before .before .before .before .before .before .before .before in
-    let l = c .before .before .before .before .before .before .before .before .loop in
+    let called = c .before .before .before .before .before in
+    let at-loop = called .before .before .before in
+    let z = at-loop .before .before .before .before in
+    let l = at-loop .loop in
     let bytes = now (z .args .sheet) in
-    let t = node-turned (l .nodes) (l .pending) (l .place) _ (c .before .before .before .before .before .expression-turn .ensures) (c .before .step .given .1) in
-    let a = node-again bytes (z .args .tokens) (l .nodes) (l .pending) (l .place) (c .before .before .before .before .before .before .if1 .taken) (l .inv .1) t in
+    let t = node-turned (l .nodes) (l .pending) (l .place) _ (called .expression-turn .ensures) (c .before .step .given .1) in
+    let a = node-again bytes (z .args .tokens) (l .nodes) (l .pending) (l .place) (called .before .if1 .taken) (l .inv .1) t in
     omega (arith, a .more, a .room)
 
 loop-again : tie.Need-loop-again Inv-loop μ-loop
 loop-again c =
-    let z = c .before .before .before .before .before .before .before .before .before .before .before .before in
-    let l = c .before .before .before .before .before .before .before .before .loop in
+    let called = c .before .before .before .before .before in
+    let at-loop = called .before .before .before in
+    let z = at-loop .before .before .before .before in
+    let l = at-loop .loop in
     let bytes = now (z .args .sheet) in
-    let t = node-turned (l .nodes) (l .pending) (l .place) _ (c .before .before .before .before .before .expression-turn .ensures) (c .before .step .given .1) in
-    let a = node-again bytes (z .args .tokens) (l .nodes) (l .pending) (l .place) (c .before .before .before .before .before .before .if1 .taken) (l .inv .1) t in
+    let t = node-turned (l .nodes) (l .pending) (l .place) _ (called .expression-turn .ensures) (c .before .step .given .1) in
+    let a = node-again bytes (z .args .tokens) (l .nodes) (l .pending) (l .place) (called .before .if1 .taken) (l .inv .1) t in
     (a .inside, a .fits, leads-next (l .inv .2) (a .rest) (a .put))
 
 returns-2 : tie.Need-returns-2 Inv-loop μ-loop
 returns-2 c =
-    let z = c .before .before .before .before .before .before in
-    let l = c .before .before .loop in
-    leads-end (l .inv .2) (nodes-end (now (z .args .sheet)) (z .args .tokens) (l .nodes) (l .pending) (l .place) (omega (arith, c .if1 .left))) (l .inv .0)
+    let at-loop = c .before .before in
+    let z = at-loop .before .before .before .before in
+    let l = at-loop .loop in
+    let e = nodes-end (now (z .args .sheet)) (z .args .tokens) (l .nodes) (l .pending) (l .place) (omega (arith, c .if1 .left)) in
+    leads-end (l .inv .2) e (l .inv .0)
 
 pub read-expression-spec : {M : Type 1} → statement M
 read-expression-spec =

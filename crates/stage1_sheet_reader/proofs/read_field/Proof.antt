@@ -18,22 +18,43 @@ enum-known-v : tie.Need-enum-known-v
 enum-known-v c = search needs
 
 returns : tie.Need-returns
-returns c = field-over _ _ (now (c .before .before .before .before .before .before .args .sheet)) _ (sym (c .before .before .before .before .read-number .ensures) ∙ c .before .before .v .given .1) (c .if1 .taken)
+returns c =
+    let told = c .before .before in
+    let z = told .before .before .before .before in
+    let bytes = now (z .args .sheet) in
+    let e = sym (told .before .before .read-number .ensures) ∙ told .v .given .1 in
+    field-over _ _ bytes _ e (c .if1 .taken)
 
 cast-value : tie.Need-cast-value
 cast-value c = search needs
 
 returns-2 : tie.Need-returns-2
-returns-2 c = field-under _ _ (now (c .before .before .before .before .before .before .before .args .sheet)) _ (sym (c .before .before .before .before .before .read-number .ensures) ∙ c .before .before .before .v .given .1) (c .if2 .taken)
+returns-2 c =
+    let told = c .before .before .before in
+    let z = told .before .before .before .before in
+    let bytes = now (z .args .sheet) in
+    let e = sym (told .before .before .read-number .ensures) ∙ told .v .given .1 in
+    field-under _ _ bytes _ e (c .if2 .taken)
 
 add-t11 : tie.Need-add-t11
-add-t11 c = omega (arith, c .before .before .before .before .before .before .before .good .0, decode-within (now (c .before .before .before .before .before .before .before .args .sheet)) (c .before .before .before .before .before .before .before .args .at) (sym (c .before .before .before .before .before .read-number .ensures) ∙ c .before .before .before .v .given .1) .inside)
+add-t11 c =
+    let told = c .before .before .before in
+    let z = told .before .before .before .before in
+    let bytes = now (z .args .sheet) in
+    let e = sym (told .before .before .read-number .ensures) ∙ told .v .given .1 in
+    omega (arith, z .good .0, decode-within bytes (z .args .at) e .inside)
 
 returns-3 : tie.Need-returns-3
-returns-3 c = field-unreadable _ _ (now (c .before .before .before .before .args .sheet)) _ (sym (c .before .before .read-number .ensures) ∙ c .enum-told .given .1)
+returns-3 c =
+    field-unreadable _ _ (now (c .before .before .before .before .args .sheet)) _ (sym (c .before .before .read-number .ensures) ∙ c .enum-told .given .1)
 
 returns-4 : tie.Need-returns-4
-returns-4 c = field-fits _ _ (now (c .before .before .before .before .before .before .before .args .sheet)) _ (sym (c .before .before .before .before .before .read-number .ensures) ∙ c .before .before .before .v .given .1) (c .if2 .left) (c .before .if1 .left)
+returns-4 c =
+    let told = c .before .before .before in
+    let z = told .before .before .before .before in
+    let bytes = now (z .args .sheet) in
+    let e = sym (told .before .before .read-number .ensures) ∙ told .v .given .1 in
+    field-fits _ _ bytes _ e (c .if2 .left) (c .before .if1 .left)
 
 pub read-field-spec : {M : Type 1} → statement M
 read-field-spec =

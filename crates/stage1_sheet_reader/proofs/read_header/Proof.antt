@@ -41,24 +41,46 @@ enum-known-count : tie.Need-enum-known-count
 enum-known-count c = search needs
 
 returns : tie.Need-returns
-returns c = head-version (now (c .before .before .before .before .before .args .sheet)) (field-unfit (up-to 1 1) (now (c .before .before .before .before .before .args .sheet)) _ (sym (c .before .before .before .read-field .ensures) ∙ c .before .question .given .1))
+returns c =
+    let first = c .before in
+    let z = first .before .before .before .before in
+    let bytes = now (z .args .sheet) in
+    let version = field-unfit (up-to 1 1) bytes _ (sym (first .before .before .read-field .ensures) ∙ first .question .given .1) in
+    head-version bytes version
 
 returns-2 : tie.Need-returns-2
 returns-2 c =
-    head-tokens (now (c .before .before .before .before .before .before .before .before .before .args .sheet)) (field-value (up-to 1 1) (now (c .before .before .before .before .before .before .before .before .before .args .sheet)) _ (sym (c .before .before .before .before .before .before .before .read-field .ensures) ∙ c .before .before .before .before .before .at-tokens .given .1))
-    (field-unfit (up-to 1 24) (now (c .before .before .before .before .before .before .before .before .before .args .sheet)) _ (sym (c .before .before .before .read-field2 .ensures) ∙ c .before .question2 .given .1))
+    let second = c .before in
+    let first = second .before .before .before .before in
+    let z = first .before .before .before .before in
+    let bytes = now (z .args .sheet) in
+    let version = field-value (up-to 1 1) bytes _ (sym (first .before .before .read-field .ensures) ∙ first .at-tokens .given .1) in
+    let tokens = field-unfit (up-to 1 24) bytes _ (sym (second .before .before .read-field2 .ensures) ∙ second .question2 .given .1) in
+    head-tokens bytes version tokens
 
 returns-3 : tie.Need-returns-3
 returns-3 c =
-    head-count (now (c .before .before .before .before .before .before .before .before .before .before .before .before .before .args .sheet)) (field-value (up-to 1 1) (now (c .before .before .before .before .before .before .before .before .before .before .before .before .before .args .sheet)) _ (sym (c .before .before .before .before .before .before .before .before .before .before .before .read-field .ensures) ∙ c .before .before .before .before .before .before .before .before .before .at-tokens .given .1))
-    (field-value (up-to 1 24) (now (c .before .before .before .before .before .before .before .before .before .before .before .before .before .args .sheet)) _ (sym (c .before .before .before .before .before .before .before .read-field2 .ensures) ∙ c .before .before .before .before .before .tokens .given .1))
-    (field-unfit (up-to 1 32) (now (c .before .before .before .before .before .before .before .before .before .before .before .before .before .args .sheet)) _ (sym (c .before .before .before .read-field3 .ensures) ∙ c .before .question3 .given .1))
+    let third = c .before in
+    let second = third .before .before .before .before in
+    let first = second .before .before .before .before in
+    let z = first .before .before .before .before in
+    let bytes = now (z .args .sheet) in
+    let version = field-value (up-to 1 1) bytes _ (sym (first .before .before .read-field .ensures) ∙ first .at-tokens .given .1) in
+    let tokens = field-value (up-to 1 24) bytes _ (sym (second .before .before .read-field2 .ensures) ∙ second .tokens .given .1) in
+    let count = field-unfit (up-to 1 32) bytes _ (sym (third .before .before .read-field3 .ensures) ∙ third .question3 .given .1) in
+    head-count bytes version tokens count
 
 returns-4 : tie.Need-returns-4
 returns-4 c =
-    head-whole (now (c .before .before .before .before .before .before .before .before .before .before .before .before .before .args .sheet)) (field-value (up-to 1 1) (now (c .before .before .before .before .before .before .before .before .before .before .before .before .before .args .sheet)) _ (sym (c .before .before .before .before .before .before .before .before .before .before .before .read-field .ensures) ∙ c .before .before .before .before .before .before .before .before .before .at-tokens .given .1))
-    (field-value (up-to 1 24) (now (c .before .before .before .before .before .before .before .before .before .before .before .before .before .args .sheet)) _ (sym (c .before .before .before .before .before .before .before .read-field2 .ensures) ∙ c .before .before .before .before .before .tokens .given .1))
-    (field-value (up-to 1 32) (now (c .before .before .before .before .before .before .before .before .before .before .before .before .before .args .sheet)) _ (sym (c .before .before .before .read-field3 .ensures) ∙ c .before .count .given .1))
+    let third = c .before in
+    let second = third .before .before .before .before in
+    let first = second .before .before .before .before in
+    let z = first .before .before .before .before in
+    let bytes = now (z .args .sheet) in
+    let version = field-value (up-to 1 1) bytes _ (sym (first .before .before .read-field .ensures) ∙ first .at-tokens .given .1) in
+    let tokens = field-value (up-to 1 24) bytes _ (sym (second .before .before .read-field2 .ensures) ∙ second .tokens .given .1) in
+    let count = field-value (up-to 1 32) bytes _ (sym (third .before .before .read-field3 .ensures) ∙ third .count .given .1) in
+    head-whole bytes version tokens count
 
 pub read-header-spec : {M : Type 1} → statement M
 read-header-spec =

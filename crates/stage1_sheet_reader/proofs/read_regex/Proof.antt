@@ -1,5 +1,5 @@
--- `stage1_sheet_reader::read_regex` meets its contract. The loop's invariant: whatever answers the rest, from the columns so far,
--- answers the whole.
+-- `stage1_sheet_reader::read_regex` meets its contract. The loop's invariant: whatever answers the rest, from the columns so
+-- far, answers the whole.
 use borrow.Author.Needs.{needs}
 use native.Mathlib.Omega.{arith}
 use mathlib.Core.Path.{refl, sym, subst}
@@ -32,12 +32,15 @@ enum-told c = search needs
 
 returns : tie.Need-returns Inv-loop μ-loop
 returns c =
-    let l = c .before .before .before .before .before .loop in
-    let bytes = now (c .before .before .before .before .before .before .before .args .sheet) in
-    let t = c .before .before .before .regex-turn in
-    let stops = turned-stop (l .out) (l .due) _ (t .ensures) (c .enum-told .given .1) in (
-      leads-stop (l .inv .3) _ (items-stop bytes (l .out) (l .place) (l .due) (omega arith) stops) (c .enum-told .given .1),
-      subst RulesFit (sym (stopped-rules (l .out) (l .due) (t .ensures) stops)) (l .inv .2),
+    let called = c .before .before .before in
+    let at-loop = called .before .before in
+    let z = at-loop .before .before in
+    let l = at-loop .loop in
+    let bytes = now (z .args .sheet) in
+    let t = called .regex-turn .ensures in
+    let e = turned-stop (l .out) (l .due) _ t (c .enum-told .given .1) in (
+      leads-stop (l .inv .3) _ (items-stop bytes (l .out) (l .place) (l .due) (omega arith) e) (c .enum-told .given .1),
+      subst RulesFit (sym (stopped-rules (l .out) (l .due) t e)) (l .inv .2),
     )
 
 enum-known-step : tie.Need-enum-known-step Inv-loop μ-loop
@@ -45,24 +48,31 @@ enum-known-step c = search needs
 
 loop-less : tie.Need-loop-less Inv-loop μ-loop
 loop-less c =
-    let l = c .before .before .before .before .before .before .loop in
-    let bytes = now (c .before .before .before .before .before .before .before .before .args .sheet) in
-    let t = turned-next (l .out) (l .due) _ (c .before .before .before .before .regex-turn .ensures) (c .before .step .given .1) in
+    let called = c .before .before .before .before in
+    let at-loop = called .before .before in
+    let z = at-loop .before .before in
+    let l = at-loop .loop in
+    let bytes = now (z .args .sheet) in
+    let t = turned-next (l .out) (l .due) _ (called .regex-turn .ensures) (c .before .step .given .1) in
     let a = turn-again bytes (l .out) (l .place) (l .due) (omega arith) (l .inv .1) (l .inv .2) t in
     omega (arith, a .more, a .room)
 
 loop-again : tie.Need-loop-again Inv-loop μ-loop
 loop-again c =
-    let l = c .before .before .before .before .before .before .loop in
-    let bytes = now (c .before .before .before .before .before .before .before .before .args .sheet) in
-    let t = turned-next (l .out) (l .due) _ (c .before .before .before .before .regex-turn .ensures) (c .before .step .given .1) in
+    let called = c .before .before .before .before in
+    let at-loop = called .before .before in
+    let z = at-loop .before .before in
+    let l = at-loop .loop in
+    let bytes = now (z .args .sheet) in
+    let t = turned-next (l .out) (l .due) _ (called .regex-turn .ensures) (c .before .step .given .1) in
     let a = turn-again bytes (l .out) (l .place) (l .due) (omega arith) (l .inv .1) (l .inv .2) t in
     (a .inside, a .due-few, a .fits, leads-next (l .inv .3) (a .rest) (t .rules-are))
 
 returns-2 : tie.Need-returns-2 Inv-loop μ-loop
 returns-2 c =
     let l = c .before .loop in
-    (leads-end (l .inv .3) (items-end (now (c .before .before .before .args .sheet)) (l .out) (l .place) (l .due) (omega arith)) (l .inv .0), l .inv .2)
+    let e = items-end (now (c .before .before .before .args .sheet)) (l .out) (l .place) (l .due) (omega arith) in
+    (leads-end (l .inv .3) e (l .inv .0), l .inv .2)
 
 pub read-regex-spec : {M : Type 1} → statement M
 read-regex-spec =

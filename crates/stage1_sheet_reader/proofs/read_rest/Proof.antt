@@ -28,29 +28,32 @@ refused-requires-2 c κs = search needs
 
 returns : tie.Need-returns
 returns c =
-    let z = c .before .before .before .before .before .before .before .before in
-    let x = c .before .before .before .before .before .before .read-expression in
+    let told = c .before .before .before in
+    let z = told .before .before .before .before .before in
+    let x = told .before .before .before .read-expression in
     let bytes = now (z .args .sheet) in
     let m = expression-nodes bytes (z .args .tokens) 64 (0 ∷ []) (z .args .at) in
-    let w = was-read (with-all with-read-node) (length bytes) no-nodes (x .result .step) (x .result .nodes) m (x .ensures) (c .before .before .before .step2 .given .1) in
+    let w = was-read (with-all with-read-node) (length bytes) no-nodes (x .result .step) (x .result .nodes) m (x .ensures) (told .step2 .given .1) in
     rest-over bytes _ _ _ _ (w .read) (c .before .if1 .taken) (c .refused2 .ensures)
 
 returns-2 : tie.Need-returns-2
 returns-2 c =
-    let z = c .before .before .before .before .before .before .before in
-    let x = c .before .before .before .before .before .read-expression in
+    let told = c .before .before in
+    let z = told .before .before .before .before .before in
+    let x = told .before .before .before .read-expression in
     let bytes = now (z .args .sheet) in
     let m = expression-nodes bytes (z .args .tokens) 64 (0 ∷ []) (z .args .at) in
-    let e = was-stopped (with-all with-read-node) (length bytes) no-nodes (x .result .step) (x .result .nodes) m (x .ensures) (c .before .before .step .given .1) in
+    let e = was-stopped (with-all with-read-node) (length bytes) no-nodes (x .result .step) (x .result .nodes) m (x .ensures) (told .step .given .1) in
     rest-stop bytes _ _ _ _ e (c .refused .ensures)
 
 returns-3 : tie.Need-returns-3
 returns-3 c =
-    let z = c .before .before .before .before .before .before .before in
-    let x = c .before .before .before .before .before .read-expression in
+    let told = c .before .before in
+    let z = told .before .before .before .before .before in
+    let x = told .before .before .before .read-expression in
     let bytes = now (z .args .sheet) in
     let m = expression-nodes bytes (z .args .tokens) 64 (0 ∷ []) (z .args .at) in
-    let w = was-read (with-all with-read-node) (length bytes) no-nodes (x .result .step) (x .result .nodes) m (x .ensures) (c .before .before .step2 .given .1) in
+    let w = was-read (with-all with-read-node) (length bytes) no-nodes (x .result .step) (x .result .nodes) m (x .ensures) (told .step2 .given .1) in
     rest-done bytes _ _ _ _ (w .read) (c .if1 .left) (refl, refl, refl, w .columns)
 
 pub read-rest-spec : {M : Type 1} → statement M

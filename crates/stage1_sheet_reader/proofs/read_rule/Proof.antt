@@ -27,21 +27,28 @@ with-action-requires c κs = search needs
 
 read-regex-requires : tie.Need-read-regex-requires
 read-regex-requires c κs =
-    let z = c .before .before .before .before .before .before in
-    (field-kept _ (now (z .args .sheet)) _ (field-value (up-to-sum 0 (c .before .before .before .before .before .before .args .tokens)) (now (c .before .before .before .before .before .before .args .sheet)) _ (sym (c .before .before .before .before .read-field .ensures) ∙ c .before .before .action .given .1)) .inside, action-fits _ _ _ (c .with-action .ensures) (z .pre .3) (z .pre .4))
+    let told = c .before .before in
+    let z = told .before .before .before .before in
+    let bytes = now (z .args .sheet) in
+    let e = field-value (up-to-sum 0 (z .args .tokens)) bytes _ (sym (told .before .before .read-field .ensures) ∙ told .action .given .1) in
+    (field-kept _ bytes _ e .inside, action-fits _ _ _ (c .with-action .ensures) (z .pre .3) (z .pre .4))
 
 returns : tie.Need-returns
 returns c =
-    let z = c .before .before .before .before .before in (
-      rule-unfit (now (z .args .sheet)) _ _ _ _ _
-          (field-unfit (up-to-sum 0 (z .args .tokens)) (now (z .args .sheet)) _ (sym (c .before .before .before .read-field .ensures) ∙ c .before .question .given .1)),
-      z .pre .4,
-    )
+    let told = c .before in
+    let z = told .before .before .before .before in
+    let bytes = now (z .args .sheet) in
+    let e = field-unfit (up-to-sum 0 (z .args .tokens)) bytes _ (sym (told .before .before .read-field .ensures) ∙ told .question .given .1) in
+    (rule-unfit bytes _ _ _ _ _ e, z .pre .4)
 
 returns-2 : tie.Need-returns-2
 returns-2 c =
+    let told = c .before .before .before in
+    let z = told .before .before .before .before in
+    let bytes = now (z .args .sheet) in
+    let e = field-value (up-to-sum 0 (z .args .tokens)) bytes _ (sym (told .before .before .read-field .ensures) ∙ told .action .given .1) in
     let r = c .read-regex in
-    (rule-goes (now (c .before .before .before .before .before .before .before .args .sheet)) _ _ _ _ (r .result .step) (r .result .rules) (field-value (up-to-sum 0 (c .before .before .before .before .before .before .before .args .tokens)) (now (c .before .before .before .before .before .before .before .args .sheet)) _ (sym (c .before .before .before .before .before .read-field .ensures) ∙ c .before .before .before .action .given .1)) (c .before .with-action .ensures) (r .ensures .0), r .ensures .1)
+    (rule-goes bytes _ _ _ _ (r .result .step) (r .result .rules) e (c .before .with-action .ensures) (r .ensures .0), r .ensures .1)
 
 pub read-rule-spec : {M : Type 1} → statement M
 read-rule-spec =

@@ -49,48 +49,58 @@ enum-told c = search needs
 
 returns : tie.Need-returns Inv-loop μ-loop
 returns c =
-    let z = c .before .before .before .before .before .before .before .before .before in
-    let l = c .before .before .before .before .before .before .loop in
-    let one = c .before .before .before .read-rule in
+    let called = c .before .before .before in
+    let at-loop = called .before .before .before in
+    let z = at-loop .before .before .before in
+    let l = at-loop .loop in
+    let one = called .read-rule in
     let bytes = now (z .args .sheet) in
-    let m = read-rule bytes (z .args .tokens) (allowance (l .out)) (l .place) in
+    let tokens = z .args .tokens in
+    let more = called .before .if1 .taken in
+    let m = read-rule bytes tokens (allowance (l .out)) (l .place) in
     let e = was-stopped with-rule (length bytes) (l .out) (one .result .step) (one .result .rules) m (one .ensures .0) (c .enum-told .given .1) in
-    (leads-stop (l .inv .3) _ (rules-stop bytes (z .args .tokens) (z .args .count) (l .out) (l .place) (c .before .before .before .before .if1 .taken) e) (c .enum-told .given .1), one .ensures .1)
+    (leads-stop (l .inv .3) _ (rules-stop bytes tokens (z .args .count) (l .out) (l .place) more e) (c .enum-told .given .1), one .ensures .1)
 
 enum-known-step : tie.Need-enum-known-step Inv-loop μ-loop
 enum-known-step c = search needs
 
 loop-less : tie.Need-loop-less Inv-loop μ-loop
 loop-less c =
-    let z = c .before .before .before .before .before .before .before .before .before .before in
-    let l = c .before .before .before .before .before .before .before .loop in
-    let one = c .before .before .before .before .read-rule in
+    let called = c .before .before .before .before in
+    let at-loop = called .before .before .before in
+    let z = at-loop .before .before .before in
+    let l = at-loop .loop in
+    let one = called .read-rule in
     let bytes = now (z .args .sheet) in
-    let m = read-rule bytes (z .args .tokens) (allowance (l .out)) (l .place) in
+    let tokens = z .args .tokens in
+    let more = called .before .if1 .taken in
+    let m = read-rule bytes tokens (allowance (l .out)) (l .place) in
     let w = was-read with-rule (length bytes) (l .out) (one .result .step) (one .result .rules) m (one .ensures .0) (c .before .step .given .1) in
     let n = ap (λ (x : RuleColumns). x .count) (w .columns) ∙ rule-count (l .out) (w .what) in
-    omega (arith, n, c .before .before .before .before .before .if1 .taken)
+    omega (arith, n, more)
 
 loop-again : tie.Need-loop-again Inv-loop μ-loop
 loop-again c =
-    let z = c .before .before .before .before .before .before .before .before .before .before in
-    let l = c .before .before .before .before .before .before .before .loop in
-    let one = c .before .before .before .before .read-rule in
+    let called = c .before .before .before .before in
+    let at-loop = called .before .before .before in
+    let z = at-loop .before .before .before in
+    let l = at-loop .loop in
+    let one = called .read-rule in
     let bytes = now (z .args .sheet) in
-    let m = read-rule bytes (z .args .tokens) (allowance (l .out)) (l .place) in
+    let tokens = z .args .tokens in
+    let more = called .before .if1 .taken in
+    let m = read-rule bytes tokens (allowance (l .out)) (l .place) in
     let w = was-read with-rule (length bytes) (l .out) (one .result .step) (one .result .rules) m (one .ensures .0) (c .before .step .given .1) in
-    let n = ap (λ (x : RuleColumns). x .count) (w .columns) ∙ rule-count (l .out) (w .what) in (
-      w .inside,
-      omega (arith, n, c .before .before .before .before .before .if1 .taken),
-      one .ensures .1,
-      leads-next (l .inv .3) (rules-next bytes (z .args .tokens) (z .args .count) (l .out) (l .place) (c .before .before .before .before .before .if1 .taken) (w .read) (w .columns)) (w .columns),
-    )
+    let n = ap (λ (x : RuleColumns). x .count) (w .columns) ∙ rule-count (l .out) (w .what) in
+    let rest = rules-next bytes tokens (z .args .count) (l .out) (l .place) more (w .read) (w .columns) in
+    (w .inside, omega (arith, n, more), one .ensures .1, leads-next (l .inv .3) rest (w .columns))
 
 returns-2 : tie.Need-returns-2 Inv-loop μ-loop
 returns-2 c =
     let z = c .before .before .before .before .before in
     let l = c .before .before .loop in
-    (leads-end (l .inv .3) (rules-end (now (z .args .sheet)) (z .args .tokens) (z .args .count) (l .out) (l .place) (c .if1 .left)) (l .inv .0), l .inv .2)
+    let e = rules-end (now (z .args .sheet)) (z .args .tokens) (z .args .count) (l .out) (l .place) (c .if1 .left) in
+    (leads-end (l .inv .3) e (l .inv .0), l .inv .2)
 
 pub read-rules-spec : {M : Type 1} → statement M
 read-rules-spec =

@@ -24,10 +24,11 @@ enum-known-tokens c = search needs
 
 read-rules-requires : tie.Need-read-rules-requires
 read-rules-requires c κs =
-    let z = c .before .before .before .before .before in
+    let told = c .before in
+    let z = told .before .before .before .before in
     let bytes = now (z .args .sheet) in
-    let b : Bytes bytes = λ i. c .before .before .before .before .shared-slice-known .given i .fits in
-    let h = head-read bytes b (sym (c .before .before .before .read-header .ensures) ∙ c .before .tokens .given .1) in
+    let b : Bytes bytes = λ i. told .before .before .before .shared-slice-known .given i .fits in
+    let h = head-read bytes b (sym (told .before .before .read-header .ensures) ∙ told .tokens .given .1) in
     (h .inside, z .pre, h .tokens-most, h .rules-most)
 
 enum-known-step : tie.Need-enum-known-step
@@ -41,43 +42,55 @@ enum-known-step-2 c = search needs
 
 read-rest-requires : tie.Need-read-rest-requires
 read-rest-requires c κs =
-    let z = c .before .before .before .before .before .before .before .before .before .before in
+    let stepped = c .before in
+    let called = stepped .before .before .before in
+    let told = called .before .before in
+    let z = told .before .before .before .before in
     let bytes = now (z .args .sheet) in
-    let b : Bytes bytes = λ i. c .before .before .before .before .before .before .before .before .before .shared-slice-known .given i .fits in
-    let h = head-read bytes b (sym (c .before .before .before .before .before .before .before .before .read-header .ensures) ∙ c .before .before .before .before .before .before .tokens .given .1) in
-    let x = c .before .before .before .before .read-rules in
-    let k = c .before .before .before .before .before .before .tokens .given .0 in
+    let b : Bytes bytes = λ i. told .before .before .before .shared-slice-known .given i .fits in
+    let h = head-read bytes b (sym (told .before .before .read-header .ensures) ∙ told .tokens .given .1) in
+    let x = called .read-rules in
+    let k = told .tokens .given .0 in
     let m = rules-part bytes (record { tokens = k .0; rules = k .1 .0 }) (k .1 .1 .0) in
-    let w = was-read (with-all with-rule) (length bytes) no-rules (x .result .step) (x .result .rules) m (x .ensures .0) (c .before .step2 .given .1) in
+    let w = was-read (with-all with-rule) (length bytes) no-rules (x .result .step) (x .result .rules) m (x .ensures .0) (stepped .step2 .given .1) in
     (w .inside, z .pre)
 
 returns : tie.Need-returns
 returns c =
-    let bytes = now (c .before .before .before .before .before .before .args .sheet) in
-    sheet-head bytes _ (head-wrong bytes (sym (c .before .before .before .before .read-header .ensures) ∙ c .before .before .question .given .1)) (c .refused .ensures)
+    let told = c .before .before in
+    let z = told .before .before .before .before in
+    let bytes = now (z .args .sheet) in
+    let e = head-wrong bytes (sym (told .before .before .read-header .ensures) ∙ told .question .given .1) in
+    sheet-head bytes _ e (c .refused .ensures)
 
 returns-2 : tie.Need-returns-2
 returns-2 c =
-    let z = c .before .before .before .before .before .before .before .before .before .before .before in
+    let stepped = c .before .before in
+    let called = stepped .before .before .before in
+    let told = called .before .before in
+    let z = told .before .before .before .before in
     let bytes = now (z .args .sheet) in
-    let b : Bytes bytes = λ i. c .before .before .before .before .before .before .before .before .before .before .shared-slice-known .given i .fits in
-    let h = head-read bytes b (sym (c .before .before .before .before .before .before .before .before .before .read-header .ensures) ∙ c .before .before .before .before .before .before .before .tokens .given .1) in
-    let x = c .before .before .before .before .before .read-rules in
-    let k = c .before .before .before .before .before .before .before .tokens .given .0 in
+    let b : Bytes bytes = λ i. told .before .before .before .shared-slice-known .given i .fits in
+    let h = head-read bytes b (sym (told .before .before .read-header .ensures) ∙ told .tokens .given .1) in
+    let x = called .read-rules in
+    let k = told .tokens .given .0 in
     let m = rules-part bytes (record { tokens = k .0; rules = k .1 .0 }) (k .1 .1 .0) in
-    let e = was-stopped (with-all with-rule) (length bytes) no-rules (x .result .step) (x .result .rules) m (x .ensures .0) (c .before .before .step .given .1) in
+    let e = was-stopped (with-all with-rule) (length bytes) no-rules (x .result .step) (x .result .rules) m (x .ensures .0) (stepped .step .given .1) in
     sheet-rules bytes _ (h .read) e (c .refused2 .ensures)
 
 returns-3 : tie.Need-returns-3
 returns-3 c =
-    let z = c .before .before .before .before .before .before .before .before .before .before .before in
+    let stepped = c .before .before in
+    let called = stepped .before .before .before in
+    let told = called .before .before in
+    let z = told .before .before .before .before in
     let bytes = now (z .args .sheet) in
-    let b : Bytes bytes = λ i. c .before .before .before .before .before .before .before .before .before .before .shared-slice-known .given i .fits in
-    let h = head-read bytes b (sym (c .before .before .before .before .before .before .before .before .before .read-header .ensures) ∙ c .before .before .before .before .before .before .before .tokens .given .1) in
-    let x = c .before .before .before .before .before .read-rules in
-    let k = c .before .before .before .before .before .before .before .tokens .given .0 in
+    let b : Bytes bytes = λ i. told .before .before .before .shared-slice-known .given i .fits in
+    let h = head-read bytes b (sym (told .before .before .read-header .ensures) ∙ told .tokens .given .1) in
+    let x = called .read-rules in
+    let k = told .tokens .given .0 in
     let m = rules-part bytes (record { tokens = k .0; rules = k .1 .0 }) (k .1 .1 .0) in
-    let w = was-read (with-all with-rule) (length bytes) no-rules (x .result .step) (x .result .rules) m (x .ensures .0) (c .before .before .step2 .given .1) in
+    let w = was-read (with-all with-rule) (length bytes) no-rules (x .result .step) (x .result .rules) m (x .ensures .0) (stepped .step2 .given .1) in
     sheet-rest bytes _ (h .read) b (h .inside) (w .inside) (w .read) (w .columns) (x .ensures .1) (c .read-rest .ensures)
 
 pub read-sheet-spec : {M : Type 1} → statement M

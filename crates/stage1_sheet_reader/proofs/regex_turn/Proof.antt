@@ -25,15 +25,23 @@ regex-stop-requires-2 : tie.Need-regex-stop-requires-2
 regex-stop-requires-2 c κs = search needs
 
 returns : tie.Need-returns
-returns c = c .regex-stop2 .ensures ∙ turn-stops _ _ (node-full (now (c .before .before .before .before .before .before .before .args .sheet)) _ _ _ (field-value (up-to 0 4) (now (c .before .before .before .before .before .before .before .args .sheet)) _ (sym (c .before .before .before .before .before .read-field .ensures) ∙ c .before .before .before .tag .given .1)) (c .before .if1 .taken))
+returns c =
+    let told = c .before .before .before in
+    let z = told .before .before .before .before in
+    let bytes = now (z .args .sheet) in
+    let e = field-value (up-to 0 4) bytes _ (sym (told .before .before .read-field .ensures) ∙ told .tag .given .1) in
+    c .regex-stop2 .ensures ∙ turn-stops _ _ (node-full bytes _ _ _ e (c .before .if1 .taken))
 
 class-turn-requires : tie.Need-class-turn-requires
 class-turn-requires c κs = search needs
 
 returns-2 : tie.Need-returns-2
 returns-2 c =
-    c .class-turn .ensures
-    ∙ ap (regex-turned _ _) (sym (node-class (now (c .before .before .before .before .before .before .before .before .args .sheet)) _ _ _ (field-value (up-to 0 4) (now (c .before .before .before .before .before .before .before .before .args .sheet)) _ (sym (c .before .before .before .before .before .before .read-field .ensures) ∙ c .before .before .before .before .tag .given .1)) (c .before .before .if1 .left) (c .before .if2 .taken)))
+    let told = c .before .before .before .before in
+    let z = told .before .before .before .before in
+    let bytes = now (z .args .sheet) in
+    let e = field-value (up-to 0 4) bytes _ (sym (told .before .before .read-field .ensures) ∙ told .tag .given .1) in
+    c .class-turn .ensures ∙ ap (regex-turned _ _) (sym (node-class bytes _ _ _ e (c .before .before .if1 .left) (c .before .if2 .taken)))
 
 with-tag-requires : tie.Need-with-tag-requires
 with-tag-requires c κs = search needs
@@ -46,17 +54,26 @@ regex-next-requires c κs = search needs
 
 returns-3 : tie.Need-returns-3
 returns-3 c =
-    c .regex-next .ensures
-    ∙ plain-goes _ _ (node-empty (now (c .before .before .before .before .before .before .before .before .before .before .args .sheet)) _ _ _ (field-value (up-to 0 4) (now (c .before .before .before .before .before .before .before .before .before .before .args .sheet)) _ (sym (c .before .before .before .before .before .before .before .before .read-field .ensures) ∙ c .before .before .before .before .before .before .tag .given .1)) _ (c .before .before .before .before .if1 .left) (c .before .if3 .taken)) (c .before .before .with-tag .ensures) (omega arith)
+    let tagged = c .before .before in
+    let told = tagged .before .before .before .before in
+    let z = told .before .before .before .before in
+    let bytes = now (z .args .sheet) in
+    let e = field-value (up-to 0 4) bytes _ (sym (told .before .before .read-field .ensures) ∙ told .tag .given .1) in
+    let n = node-empty bytes _ _ _ e _ (tagged .before .before .if1 .left) (c .before .if3 .taken) in
+    c .regex-next .ensures ∙ plain-goes _ _ n (tagged .with-tag .ensures) (omega arith)
 
 regex-next-requires-2 : tie.Need-regex-next-requires-2
 regex-next-requires-2 c κs = search needs
 
 returns-4 : tie.Need-returns-4
 returns-4 c =
-    c .regex-next2 .ensures
-    ∙ plain-goes _ _ (node-star (now (c .before .before .before .before .before .before .before .before .before .before .before .args .sheet)) _ _ _ (field-value (up-to 0 4) (now (c .before .before .before .before .before .before .before .before .before .before .before .args .sheet)) _ (sym (c .before .before .before .before .before .before .before .before .before .read-field .ensures) ∙ c .before .before .before .before .before .before .before .tag .given .1)) _ (c .before .before .before .before .before .if1 .left) (c .before .if4 .taken)) (c .before .before .before .with-tag .ensures)
-    (omega (arith, c .before .before .before .before .before .before .before .before .before .before .before .pre .0))
+    let tagged = c .before .before .before in
+    let told = tagged .before .before .before .before in
+    let z = told .before .before .before .before in
+    let bytes = now (z .args .sheet) in
+    let e = field-value (up-to 0 4) bytes _ (sym (told .before .before .read-field .ensures) ∙ told .tag .given .1) in
+    let n = node-star bytes _ _ _ e _ (tagged .before .before .if1 .left) (c .before .if4 .taken) in
+    c .regex-next2 .ensures ∙ plain-goes _ _ n (tagged .with-tag .ensures) (omega (arith, z .pre .0))
 
 add-regex-next : tie.Need-add-regex-next
 add-regex-next c = search needs
@@ -66,14 +83,21 @@ regex-next-requires-3 c κs = search needs
 
 returns-5 : tie.Need-returns-5
 returns-5 c =
-    c .regex-stop .ensures
-    ∙ turn-stops _ _ (node-unfit (now (c .before .before .before .before .before .before .args .sheet)) _ _ _ (field-unfit (up-to 0 4) (now (c .before .before .before .before .before .before .args .sheet)) _ (sym (c .before .before .before .before .read-field .ensures) ∙ c .before .before .question .given .1)))
+    let told = c .before .before in
+    let z = told .before .before .before .before in
+    let bytes = now (z .args .sheet) in
+    let e = field-unfit (up-to 0 4) bytes _ (sym (told .before .before .read-field .ensures) ∙ told .question .given .1) in
+    c .regex-stop .ensures ∙ turn-stops _ _ (node-unfit bytes _ _ _ e)
 
 returns-6 : tie.Need-returns-6
 returns-6 c =
-    c .regex-next3 .ensures
-    ∙ plain-goes _ _ (node-two (now (c .before .before .before .before .before .before .before .before .before .before .before .args .sheet)) _ _ _ (field-value (up-to 0 4) (now (c .before .before .before .before .before .before .before .before .before .before .before .args .sheet)) _ (sym (c .before .before .before .before .before .before .before .before .before .read-field .ensures) ∙ c .before .before .before .before .before .before .before .tag .given .1)) _ (c .before .before .before .before .before .if1 .left) (c .before .before .if3 .left) (c .before .before .before .before .if2 .left) (c .before .if4 .left)) (c .before .before .before .with-tag .ensures)
-    (omega (arith, c .before .before .before .before .before .before .before .before .before .before .before .pre .0))
+    let tagged = c .before .before .before in
+    let told = tagged .before .before .before .before in
+    let z = told .before .before .before .before in
+    let bytes = now (z .args .sheet) in
+    let e = field-value (up-to 0 4) bytes _ (sym (told .before .before .read-field .ensures) ∙ told .tag .given .1) in
+    let n = node-two bytes _ _ _ e _ (tagged .before .before .if1 .left) (c .before .before .if3 .left) (tagged .before .if2 .left) (c .before .if4 .left) in
+    c .regex-next3 .ensures ∙ plain-goes _ _ n (tagged .with-tag .ensures) (omega (arith, z .pre .0))
 
 pub regex-turn-spec : {M : Type 1} → statement M
 regex-turn-spec =
