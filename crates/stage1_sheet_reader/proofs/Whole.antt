@@ -24,7 +24,8 @@ use Rattle.stage1_sheet_columns.specs.Holds.{items-of-rules, RulesOf, NodesOf}
 use Rattle.stage1_sheet_columns.specs.declared.RuleColumns.{RuleColumns}
 use Rattle.stage1_sheet_reader.specs.Put.{with-all, with-rule, with-read-node, no-rules, no-nodes}
 use Rattle.stage1_sheet_reader.specs.Turns.{Counted, header, header-answer, nodes-to-end}
-use Rattle.stage1_sheet_reader.specs.Answers.{allowance, RulesFit, refused-columns, Finished, Reads}
+use Rattle.stage1_sheet_reader.specs.Answers.{allowance, RulesFit, Finished}
+use Rattle.stage1_sheet_reader.specs.Reads.{refused-columns, Reads}
 use Rattle.stage1_sheet_reader.specs.declared.Header.the-variants.{Counts, Wrong}
 use Rattle.stage1_sheet_reader.specs.declared.SheetColumns.{SheetColumns}
 use Rattle.stage1_sheet_reader.proofs.Holding.{all-rules-held, all-nodes-held}

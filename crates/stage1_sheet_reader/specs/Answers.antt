@@ -1,21 +1,21 @@
--- What the readers answer: for what the definition reads from a place on, the place after it and the columns with it; for a
--- refusal, its question and place. The columns after a refusal are not spoken of.
+-- What the readers of a sheet's parts answer: for what the definition reads from a place on, the place after it and the columns
+-- with it; for a refusal, its question and place, whatever the columns then are.
 use mathlib.Core.Path.{_≡_}
 use mathlib.Core.List.{List, [], _∷_}
 use Prim.Native.Nat.{ℕ, _+_, _-_, _≤_}
 use lib.ListN.{length, getD}
 use Rattle.stage1_sheet.specs.Limits.{most-expression-nodes}
 use Rattle.stage1_sheet.specs.Field.{Reading, stop, got, read-many}
-use Rattle.stage1_sheet.specs.Reading.{regex-items, ReadNode, Allowance, less-rule, read-rule, expression-nodes, Contents}
-use Rattle.stage1_sheet_columns.specs.Holds.{RulesOf, NodesOf}
+use Rattle.stage1_sheet.specs.Reading.{regex-items, ReadNode, Allowance, less-rule, read-rule, expression-nodes}
 use Rattle.stage1_sheet_columns.specs.declared.RuleColumns.{RuleColumns}
 use Rattle.stage1_sheet_columns.specs.declared.NodeColumns.{NodeColumns}
 use Rattle.stage1_sheet_reader.specs.Put.{with-item, with-all, with-rule, with-read-node, no-rules, no-nodes}
+use Rattle.stage1_sheet_reader.specs.Reads.{refused-columns}
 use Rattle.stage1_sheet_reader.specs.declared.Step.{Step}
 use Rattle.stage1_sheet_reader.specs.declared.Step.the-variants.{Next, Stop}
 use Rattle.stage1_sheet_reader.specs.declared.Pending.{Pending}
 use Rattle.stage1_sheet_reader.specs.declared.SheetColumns.{SheetColumns}
-use Rattle.stage1_sheet_reader.specs.declared.Outcome.the-variants.{Done, Refused}
+use Rattle.stage1_sheet_reader.specs.declared.Outcome.the-variants.{Done}
 
 -- The columns do not overflow.
 pub record RulesFit (c : RuleColumns) : Type 0 where
@@ -56,24 +56,8 @@ abbrev pub ReadsExpression : List ℕ → ℕ → ℕ → Step → NodeColumns �
 ReadsExpression bytes at tokens s d =
     Answers (with-all with-read-node) (length bytes) (expression-nodes bytes tokens most-expression-nodes (0 ∷ []) at) no-nodes s d
 
--- A refusal leaves nothing but its question and place.
-abbrev pub refused-columns : ℕ → ℕ → SheetColumns
-refused-columns question place = record { outcome = Refused question place; tokens = 0; rules = no-rules; nodes = no-nodes }
-
 -- The rules as given, and the nodes that were read.
 abbrev pub Finished : Reading (List ReadNode) → ℕ → RuleColumns → SheetColumns → Type 0
 Finished (stop question place) tokens rules r = r ≡ refused-columns question place
 Finished (got nodes end) tokens rules r =
     (r .outcome ≡ Done) × (r .tokens ≡ tokens) × (r .rules ≡ rules) × (r .nodes ≡ with-all with-read-node no-nodes nodes)
-
--- The whole sheet.
-pub record Holds (c : Contents) (r : SheetColumns) : Type 0 where
-  pub done : r .outcome ≡ Done
-  pub tokens-held : r .tokens ≡ c .sheet .tokens
-  pub rules-held : RulesOf (r .rules) (c .sheet .rules) (c .action-places)
-  pub nodes-held : NodesOf (r .nodes) (c .sheet .expression) (c .node-places)
-
--- What the columns say of a sheet that was read, or of a refusal.
-abbrev pub Reads : Reading Contents → SheetColumns → Type 0
-Reads (stop question place) r = r ≡ refused-columns question place
-Reads (got c end) r = Holds c r

@@ -11,7 +11,8 @@ ghost use Rattle.stage1_sheet_reader.specs.Turns.{regex-turn, regex-stop
 ghost use Rattle.stage1_sheet_reader.specs.Turns.{expression-turn, expression-stopped, expression-gone, expression-turned};
 ghost use Rattle.stage1_sheet_reader.specs.Turns.{numbered-turned};
 ghost use Rattle.stage1_sheet_reader.specs.Answers.{RulesFit, PendingFit, ReadsRegex, ReadsRule, ReadsRules, ReadsExpression};
-ghost use Rattle.stage1_sheet_reader.specs.Answers.{refused-columns, Finished, Reads};
+ghost use Rattle.stage1_sheet_reader.specs.Answers.{Finished};
+ghost use Rattle.stage1_sheet_reader.specs.Reads.{refused-columns, Reads};
 use stage0_number::Number;
 use stage1_sheet_columns::NodeColumns;
 use stage1_sheet_columns::RuleColumns;
