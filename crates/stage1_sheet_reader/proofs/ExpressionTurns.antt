@@ -131,11 +131,11 @@ module _ (bytes : List ℕ) (tokens count opened at : ℕ) where
 
 -- ---- what a turn that goes on has read, and left
 
-pub record NodeTurned (c : NodeColumns) (p : Pending) (at : ℕ) (m : Reading ExpressionItem) (r : ExpressionTurn) (next : ℕ) : Type 0 where
-  pub item : ExpressionItem
-  pub read : m ≡ got item next
-  pub nodes-are : r .nodes ≡ with-node c (expression-tag item) (number-after item) at
-  pub pending-is : r .pending ≡ with-parts p (expression-tag item)
+record NodeTurned (c : NodeColumns) (p : Pending) (at : ℕ) (m : Reading ExpressionItem) (r : ExpressionTurn) (next : ℕ) : Type 0 where
+  item : ExpressionItem
+  read : m ≡ got item next
+  nodes-are : r .nodes ≡ with-node c (expression-tag item) (number-after item) at
+  pending-is : r .pending ≡ with-parts p (expression-tag item)
 
 module _ (c : NodeColumns) (p : Pending) (at : ℕ) where
   pub node-stopped : (m : Reading ExpressionItem) {r : ExpressionTurn} {question place : ℕ} → r ≡ expression-turned c p at m → r .step
@@ -145,7 +145,7 @@ module _ (c : NodeColumns) (p : Pending) (at : ℕ) where
   node-stopped (stop q s) {r} e h = let k = ap (λ (t : ExpressionTurn). t .step) e in cc
   node-stopped (got i n) {r} e h = let k = ap (λ (t : ExpressionTurn). t .step) e in let z : _≡_ {A = ℕ} 0 1 = cc in absurd (omega arith)
 
-  pub node-turned : (m : Reading ExpressionItem) {r : ExpressionTurn} {next : ℕ} → r ≡ expression-turned c p at m → r .step ≡ Next next
+  node-turned : (m : Reading ExpressionItem) {r : ExpressionTurn} {next : ℕ} → r ≡ expression-turned c p at m → r .step ≡ Next next
       → NodeTurned c p at m r next
   unfolding expression-turned
   node-turned (stop q s) {r} e h = let k = ap (λ (t : ExpressionTurn). t .step) e in let z : _≡_ {A = ℕ} 0 1 = cc in absurd (omega arith)
@@ -306,7 +306,7 @@ start-fits e h = rw (e, h) record { nodes = omega arith; due = omega arith; open
 
 -- ---- the turns make up the definition's nodes
 
-abbrev pub read-node : ℕ → ExpressionItem → ReadNode
+abbrev read-node : ℕ → ExpressionItem → ReadNode
 read-node at item = record { place = at; item = item }
 
 nodes-turn : (bytes : List ℕ) (tokens left opened : ℕ) (due : List ℕ) (at : ℕ) → expression-nodes bytes tokens left (opened ∷ due) at
@@ -357,31 +357,35 @@ module _ (bytes : List ℕ) (tokens : ℕ) (c : NodeColumns) (p : Pending) (at :
     nodes-stop e = first-node ∙ nodes-turn bytes tokens (64 - c .count) (next-opened p) (due-from (p .count - 1) (p .opened)) at ∙ rw e
 
 -- How it goes on after a turn, from the columns d with the expressions q due.
-pub record NodesAgain (bytes : List ℕ) (tokens : ℕ) (c : NodeColumns) (p : Pending) (at : ℕ) (item : ExpressionItem)
-    (d : NodeColumns) (q : Pending) (next : ℕ) : Type 0 where
+pub record NodesAgain (bytes : List ℕ) (tokens : ℕ) (c : NodeColumns) (p : Pending) (at : ℕ) (d : NodeColumns) (q : Pending) (next : ℕ) : Type 0 where
+  pub node : ReadNode
   pub inside : next ≤ length bytes
   pub fits : PendingFit d q
   pub more : d .count ≡ c .count + 1
   pub room : c .count < 64
-  pub put : d ≡ with-read-node c (read-node at item)
-  pub rest : nodes-from bytes tokens c p at ≡ and-then (nodes-from bytes tokens d q next) (in-front (read-node at item))
+  pub put : d ≡ with-read-node c node
+  pub rest : nodes-from bytes tokens c p at ≡ and-then (nodes-from bytes tokens d q next) (in-front node)
 
-pub node-again : (bytes : List ℕ) (tokens : ℕ) (c : NodeColumns) (p : Pending) (at : ℕ) {r : ExpressionTurn} {next : ℕ} → 0 < p .count
-    → PendingFit c p
-    → (t : NodeTurned c p at (node-from bytes tokens c p at) r next)
-    → NodesAgain bytes tokens c p at (t .item) (r .nodes) (r .pending) next
-unfolding with-read-node
-node-again bytes tokens c p at {r} {next} some f t =
-    let n = outcome-got Any (ExpressionKept bytes (64 - c .count)) (turn-keeps bytes tokens (64 - c .count) (next-opened p) at) (t .read) in
-    let room : c .count < 64 = omega (arith, n .node-allowed) in
-    let left : 64 - c .count - 1 ≡ 64 - (c .count + 1) = omega arith in
-    let parts = due-parts p some (omega (arith, f .due, f .entries)) (t .item) in
-    rw (t .nodes-are, t .pending-is) record {
-      inside = n .inside;
-      fits = fit-parts c p _ _ at some room f (t .item);
-      more = refl;
-      room = room;
-      put = refl;
-      rest = first-node bytes tokens c p at some
-          ∙ nodes-turn bytes tokens (64 - c .count) (next-opened p) (due-from (p .count - 1) (p .opened)) at ∙ rw (t .read, left, ← parts);
-    }
+module _ (bytes : List ℕ) (tokens : ℕ) (c : NodeColumns) (p : Pending) (at : ℕ) {r : ExpressionTurn} {next : ℕ}
+    (some : 0 < p .count) (f : PendingFit c p) where
+  after-node : NodeTurned c p at (node-from bytes tokens c p at) r next → NodesAgain bytes tokens c p at (r .nodes) (r .pending) next
+  unfolding with-read-node
+  after-node t =
+      let n = outcome-got Any (ExpressionKept bytes (64 - c .count)) (turn-keeps bytes tokens (64 - c .count) (next-opened p) at) (t .read) in
+      let room : c .count < 64 = omega (arith, n .node-allowed) in
+      let left : 64 - c .count - 1 ≡ 64 - (c .count + 1) = omega arith in
+      let parts = due-parts p some (omega (arith, f .due, f .entries)) (t .item) in
+      rw (t .nodes-are, t .pending-is) record {
+        node = read-node at (t .item);
+        inside = n .inside;
+        fits = fit-parts c p _ _ at some room f (t .item);
+        more = refl;
+        room = room;
+        put = refl;
+        rest = first-node bytes tokens c p at some
+            ∙ nodes-turn bytes tokens (64 - c .count) (next-opened p) (due-from (p .count - 1) (p .opened)) at ∙ rw (t .read, left, ← parts);
+      }
+
+  pub node-again : r ≡ expression-turned c p at (node-from bytes tokens c p at) → r .step ≡ Next next
+      → NodesAgain bytes tokens c p at (r .nodes) (r .pending) next
+  node-again e h = after-node (node-turned c p at (node-from bytes tokens c p at) e h)

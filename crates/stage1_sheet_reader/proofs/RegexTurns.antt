@@ -46,11 +46,11 @@ pub plain-goes : (c : RuleColumns) (due : ℕ) {m : Reading RegexItem} {tag next
 plain-goes c due n h e = turn-goes c due (n .read) (e ∙ ap (λ (k : ℕ). due - 1 + k) (sym (n .parts-are))) (h ∙ n .put)
 
 -- What a turn that goes on has read, and left.
-pub record Turned (c : RuleColumns) (due : ℕ) (m : Reading RegexItem) (r : RegexTurn) (next : ℕ) : Type 0 where
-  pub item : RegexItem
-  pub read : m ≡ got item next
-  pub due-is : r .due ≡ due - 1 + regex-parts item
-  pub rules-are : r .rules ≡ with-item c item
+record Turned (c : RuleColumns) (due : ℕ) (m : Reading RegexItem) (r : RegexTurn) (next : ℕ) : Type 0 where
+  item : RegexItem
+  read : m ≡ got item next
+  due-is : r .due ≡ due - 1 + regex-parts item
+  rules-are : r .rules ≡ with-item c item
 
 module _ (c : RuleColumns) (due : ℕ) where
   pub turned-stop : (m : Reading RegexItem) {r : RegexTurn} {question place : ℕ} → r ≡ regex-turned c due m → r .step
@@ -65,7 +65,7 @@ module _ (c : RuleColumns) (due : ℕ) where
   unfolding regex-turned
   stopped-rules {m} {r} e s = ap (λ (t : RegexTurn). t .rules) (e ∙ ap (regex-turned c due) s)
 
-  pub turned-next : (m : Reading RegexItem) {r : RegexTurn} {next : ℕ} → r ≡ regex-turned c due m → r .step ≡ Next next
+  turned-next : (m : Reading RegexItem) {r : RegexTurn} {next : ℕ} → r ≡ regex-turned c due m → r .step ≡ Next next
       → Turned c due m r next
   unfolding regex-turned
   turned-next (stop q p) {r} e h = let k = ap (λ (t : RegexTurn). t .step) e in let z : _≡_ {A = ℕ} 0 1 = cc in absurd (omega arith)
@@ -297,25 +297,33 @@ parts-most union-item = omega arith
 parts-most star-item = omega arith
 
 -- How it goes on after a turn, from the columns p with d regexes due.
-pub record Again (bytes : List ℕ) (c : RuleColumns) (at due : ℕ) (item : RegexItem) (p : RuleColumns) (d next : ℕ) : Type 0 where
+pub record Again (bytes : List ℕ) (c : RuleColumns) (at due : ℕ) (p : RuleColumns) (d next : ℕ) : Type 0 where
+  pub item : RegexItem
   pub inside : next ≤ length bytes
   pub due-few : d ≤ p .items + 1
   pub fits : RulesFit p
   pub more : p .items ≡ c .items + 1
   pub room : c .items < 256
+  pub put : p ≡ with-item c item
   pub rest : items-from bytes c at due ≡ and-then (items-from bytes p next d) (in-front item)
 
-pub turn-again : (bytes : List ℕ) (c : RuleColumns) (at due : ℕ) {r : RegexTurn} {next : ℕ} → 0 < due → due ≤ c .items + 1 → RulesFit c
-    → (t : Turned c due (turn-from bytes c at) r next) → Again bytes c at due (t .item) (r .rules) (r .due) next
-turn-again bytes c at due {r} {next} l few f t =
-    let n = node-kept bytes (256 - c .items) (64 - c .classes) at (t .read) in
-    let i = items-put c (t .item) in
-    let p = parts-most (t .item) in
-    rw (t .rules-are, t .due-is) record {
-      inside = n .inside;
-      due-few = omega arith;
-      fits = fit-put bytes c at f (t .read);
-      more = i;
-      room = omega (arith, n .node-allowed);
-      rest = items-next bytes c at due l (t .read);
-    }
+module _ (bytes : List ℕ) (c : RuleColumns) (at due : ℕ) {r : RegexTurn} {next : ℕ}
+    (l : 0 < due) (few : due ≤ c .items + 1) (f : RulesFit c) where
+  after-turn : Turned c due (turn-from bytes c at) r next → Again bytes c at due (r .rules) (r .due) next
+  after-turn t =
+      let n = node-kept bytes (256 - c .items) (64 - c .classes) at (t .read) in
+      let i = items-put c (t .item) in
+      let p = parts-most (t .item) in
+      rw (t .rules-are, t .due-is) record {
+        item = t .item;
+        inside = n .inside;
+        due-few = omega arith;
+        fits = fit-put bytes c at f (t .read);
+        more = i;
+        room = omega (arith, n .node-allowed);
+        put = refl;
+        rest = items-next bytes c at due l (t .read);
+      }
+
+  pub turn-again : r ≡ regex-turned c due (turn-from bytes c at) → r .step ≡ Next next → Again bytes c at due (r .rules) (r .due) next
+  turn-again e h = after-turn (turned-next c due (turn-from bytes c at) e h)

@@ -1,5 +1,5 @@
 -- The laws of reading rules: each way through a rule, what a rule leaves of the allowance, and how rules make up the definition's.
-use mathlib.Core.Path.{_≡_, refl, sym, ap, ap₂, subst, _∙_}
+use mathlib.Core.Path.{_≡_, refl, sym, ap, ap₂, _∙_}
 use mathlib.Core.List.{List, [], _∷_}
 use Prim.Native.Nat.{ℕ, zero, suc, _+_, _-_, _≤_, _<_}
 use native.Mathlib.Omega.{arith}
@@ -10,32 +10,29 @@ use Rattle.stage1_sheet.specs.Items.{RegexItem, item-classes}
 use Rattle.stage1_sheet.specs.Reading.{sheet-field, regex-items, ReadRule, Allowance, less-rule, read-rule}
 use Rattle.stage1_sheet_columns.specs.declared.RuleColumns.{RuleColumns}
 use Rattle.stage1_sheet_reader.specs.Put.{with-action, with-item, with-all, with-rule, no-rules}
-use Rattle.stage1_sheet_reader.specs.Answers.{allowance, Answers, RulesFit}
+use Rattle.stage1_sheet_reader.specs.Answers.{allowance, Says, Answers, RulesFit}
 use Rattle.stage1_sheet_reader.specs.declared.Step.{Step}
-use Rattle.stage1_sheet_reader.specs.declared.Step.the-variants.{Stop}
-use Rattle.stage1_sheet_reader.proofs.Leading.{in-front}
+use Rattle.stage1_sheet_reader.specs.declared.Step.the-variants.{Next, Stop}
+use Rattle.stage1_sheet_reader.proofs.Leading.{in-front, was-read}
 use Rattle.stage1_sheet_reader.proofs.RegexTurns.{items-put, classes-put, count-put}
 
 -- ---- the ways through a rule
 
-module _ (bytes : List ℕ) (tokens : ℕ) (c : RuleColumns) (at most : ℕ) where
-  pub rule-unfit : {question place : ℕ} (d : RuleColumns) → sheet-field (between 0 tokens) bytes at ≡ stop question place
+module _ (bytes : List ℕ) (tokens : ℕ) (c : RuleColumns) (at : ℕ) {most : ℕ} where
+  pub rule-unfit : {question place : ℕ} {d : RuleColumns} → sheet-field (between 0 tokens) bytes at ≡ stop question place
       → Answers with-rule most (read-rule bytes tokens (allowance c) at) c (Stop question place) d
   unfolding read-rule
-  rule-unfit d e = rw e refl
+  rule-unfit e = record { says = rw e refl }
 
-  pub rule-goes : {action next : ℕ} {p : RuleColumns} (s : Step) (d : RuleColumns) → sheet-field (between 0 tokens) bytes at
-      ≡ got action next
-      → p ≡ with-action c action at
-      → Answers (with-all with-item) most (regex-items bytes (256 - p .items) (64 - p .classes) 1 next) p s d
+  pub rule-goes : {action next : ℕ} {p : RuleColumns} {s : Step} {d : RuleColumns} → sheet-field (between 0 tokens) bytes at ≡ got action next
+      → p ≡ with-action c action at → Answers (with-all with-item) most (regex-items bytes (256 - p .items) (64 - p .classes) 1 next) p s d
       → Answers with-rule most (read-rule bytes tokens (allowance c) at) c s d
   unfolding read-rule allowance with-rule
-  rule-goes {action} {next} {p} s d e h k =
-      rw e (go (regex-items bytes (256 - c .items) (64 - c .classes) 1 next)
-      (subst (λ (x : RuleColumns). Answers (with-all with-item) most (regex-items bytes (256 - x .items) (64 - x .classes) 1 next) x s d) h k))
+  rule-goes {action} {next} {p} {s} {d} e h k =
+      record { says = rw e (go (regex-items bytes (256 - c .items) (64 - c .classes) 1 next) (rw h at (k .says))) }
     where
-      go : (m : Reading (List RegexItem)) → Answers (with-all with-item) most m (with-action c action at) s d
-          → Answers with-rule most (and-then m (λ items end. got (record { place = at; action = action; items = items }) end)) c s d
+      go : (m : Reading (List RegexItem)) → Says (with-all with-item) most m (with-action c action at) s d
+          → Says with-rule most (and-then m (λ items end. got (record { place = at; action = action; items = items }) end)) c s d
       go (stop q p) k = k
       go (got items end) k = k
 
@@ -104,9 +101,8 @@ module _ (bytes : List ℕ) (tokens count : ℕ) (c : RuleColumns) (at : ℕ) wh
       go zero h = refl
       go (suc n) h = absurd (omega arith)
 
-  pub rules-next : {r : ReadRule} {next : ℕ} {p : RuleColumns} → c .count < count → read-rule bytes tokens (allowance c) at ≡ got r next
-      → p ≡ with-rule c r
-      → rules-from ≡ and-then (read-many (read-rule bytes tokens) less-rule (allowance p) (count - p .count) next) (in-front r)
+  rules-next : {r : ReadRule} {next : ℕ} {p : RuleColumns} → c .count < count → read-rule bytes tokens (allowance c) at ≡ got r next
+      → p ≡ with-rule c r → rules-from ≡ and-then (read-many (read-rule bytes tokens) less-rule (allowance p) (count - p .count) next) (in-front r)
   unfolding read-many
   rules-next {r} {next} {p} l e h =
       let n : count - c .count - 1 ≡ count - p .count = omega (arith, ap (λ (x : RuleColumns). x .count) h, rule-count c r) in
@@ -118,3 +114,23 @@ module _ (bytes : List ℕ) (tokens count : ℕ) (c : RuleColumns) (at : ℕ) wh
           ≡ and-then (read-many (read-rule bytes tokens) less-rule (less-rule (allowance c) r) (n - 1) next) (in-front r)
       go zero h = absurd (omega arith)
       go (suc n) h = let k : suc n - 1 ≡ n = omega arith in rw (e, k)
+
+-- How it goes on after a rule r, from the columns p.
+pub record RulesAgain (bytes : List ℕ) (tokens count : ℕ) (c : RuleColumns) (at : ℕ) (p : RuleColumns) (next : ℕ) : Type 0 where
+  pub rule : ReadRule
+  pub inside : next ≤ length bytes
+  pub more : p .count ≡ c .count + 1
+  pub put : p ≡ with-rule c rule
+  pub rest : rules-from bytes tokens count c at ≡ and-then (rules-from bytes tokens count p next) (in-front rule)
+
+pub rules-again : {bytes : List ℕ} {tokens : ℕ} (count : ℕ) {c : RuleColumns} {at : ℕ} {s : Step} {p : RuleColumns} {next : ℕ} → c .count < count
+    → Answers with-rule (length bytes) (read-rule bytes tokens (allowance c) at) c s p → s ≡ Next next → RulesAgain bytes tokens count c at p next
+rules-again {bytes} {tokens} count {c} {at} l a e =
+    let w = was-read a e in
+    record {
+      rule = w .what;
+      inside = w .inside;
+      more = ap (λ (x : RuleColumns). x .count) (w .columns) ∙ rule-count c (w .what);
+      put = w .columns;
+      rest = rules-next bytes tokens count c at l (w .read) (w .columns);
+    }

@@ -64,9 +64,16 @@ module _ (bytes : List ℕ) where
       go (got c n) h k = let z : _≡_ {A = ℕ} 0 1 = cc in absurd (omega arith)
 
 -- What the head keeps.
-pub record HeadKept (bytes : List ℕ) (c : Counted) (next : ℕ) : Type 0 where
-  pub tokens-most : c .tokens ≤ 24
-  pub rules-most : c .rules ≤ 32
+record HeadKept (bytes : List ℕ) (c : Counted) (next : ℕ) : Type 0 where
+  tokens-most : c .tokens ≤ 24
+  rules-most : c .rules ≤ 32
+  inside : next ≤ length bytes
+
+-- What the code's head tells.
+pub record HeadRead (bytes : List ℕ) (tokens count next : ℕ) : Type 0 where
+  pub read : header bytes ≡ got (record { tokens = tokens; rules = count }) next
+  pub tokens-most : tokens ≤ 24
+  pub rules-most : count ≤ 32
   pub inside : next ≤ length bytes
 
 module _ (bytes : List ℕ) (b : Bytes bytes) where
@@ -85,18 +92,11 @@ module _ (bytes : List ℕ) (b : Bytes bytes) where
         inside = c .stands .inside;
       })))
 
-  -- What the code's head tells.
-  pub record HeadRead (tokens count next : ℕ) : Type 0 where
-    pub read : header bytes ≡ got (record { tokens = tokens; rules = count }) next
-    pub tokens-most : tokens ≤ 24
-    pub rules-most : count ≤ 32
-    pub inside : next ≤ length bytes
-
-  pub head-read : {tokens count next : ℕ} → header-answer (header bytes) ≡ Counts tokens count next → HeadRead tokens count next
+  pub head-read : {tokens count next : ℕ} → header-answer (header bytes) ≡ Counts tokens count next → HeadRead bytes tokens count next
   unfolding header-answer
   head-read {tokens} {count} {next} e = go (header bytes) refl e
     where
-      go : (m : Reading Counted) → header bytes ≡ m → header-answer m ≡ Counts tokens count next → HeadRead tokens count next
+      go : (m : Reading Counted) → header bytes ≡ m → header-answer m ≡ Counts tokens count next → HeadRead bytes tokens count next
       go (stop q p) h k = let z : _≡_ {A = ℕ} 0 1 = cc in absurd (omega arith)
       go (got c n) h k =
           let t : c .tokens ≡ tokens = cc in

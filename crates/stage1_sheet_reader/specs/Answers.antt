@@ -35,22 +35,25 @@ unfoldable pub allowance : RuleColumns → Allowance
 allowance c = record { nodes = 256 - c .items; classes = 64 - c .classes }
 
 -- A step to a place within the bytes, and columns d that are c with what was read.
-abbrev pub Answers : {A C : Type 0} → (C → A → C) → ℕ → Reading A → C → Step → C → Type 0
-Answers put most (stop question place) c s d = s ≡ Stop question place
-Answers put most (got a end) c s d = (s ≡ Next end) × (d ≡ put c a) × (end ≤ most)
+abbrev pub Says : {A C : Type 0} → (C → A → C) → ℕ → Reading A → C → Step → C → Type 0
+Says put most (stop question place) c s d = s ≡ Stop question place
+Says put most (got a end) c s d = (s ≡ Next end) × (d ≡ put c a) × (end ≤ most)
+
+pub record Answers {A C : Type 0} (put : C → A → C) (most : ℕ) (m : Reading A) (c : C) (s : Step) (d : C) : Type 0 where
+  pub says : Says put most m c s d
 
 -- One regex, one rule, so many rules, and the expression.
-abbrev pub ReadsRegex : List ℕ → ℕ → RuleColumns → Step → RuleColumns → Type 0
-ReadsRegex bytes at c s d =
-    Answers (with-all with-item) (length bytes) (regex-items bytes (256 - c .items) (64 - c .classes) 1 at) c s d × RulesFit d
+pub record ReadsRegex (bytes : List ℕ) (at : ℕ) (c : RuleColumns) (s : Step) (d : RuleColumns) : Type 0 where
+  pub answers : Answers (with-all with-item) (length bytes) (regex-items bytes (256 - c .items) (64 - c .classes) 1 at) c s d
+  pub fits : RulesFit d
 
-abbrev pub ReadsRule : List ℕ → ℕ → ℕ → RuleColumns → Step → RuleColumns → Type 0
-ReadsRule bytes at tokens c s d = Answers with-rule (length bytes) (read-rule bytes tokens (allowance c) at) c s d × RulesFit d
+pub record ReadsRule (bytes : List ℕ) (at tokens : ℕ) (c : RuleColumns) (s : Step) (d : RuleColumns) : Type 0 where
+  pub answers : Answers with-rule (length bytes) (read-rule bytes tokens (allowance c) at) c s d
+  pub fits : RulesFit d
 
-abbrev pub ReadsRules : List ℕ → ℕ → ℕ → ℕ → Step → RuleColumns → Type 0
-ReadsRules bytes at tokens count s d =
-    Answers (with-all with-rule) (length bytes) (read-many (read-rule bytes tokens) less-rule (allowance no-rules) count at) no-rules s d
-    × RulesFit d
+pub record ReadsRules (bytes : List ℕ) (at tokens count : ℕ) (s : Step) (d : RuleColumns) : Type 0 where
+  pub answers : Answers (with-all with-rule) (length bytes) (read-many (read-rule bytes tokens) less-rule (allowance no-rules) count at) no-rules s d
+  pub fits : RulesFit d
 
 abbrev pub ReadsExpression : List ℕ → ℕ → ℕ → Step → NodeColumns → Type 0
 ReadsExpression bytes at tokens s d =

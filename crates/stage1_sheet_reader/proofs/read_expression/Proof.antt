@@ -10,7 +10,7 @@ use Rattle.stage1_sheet.specs.Reading.{expression-nodes}
 use Rattle.stage1_sheet_reader.specs.Put.{with-read-node, no-nodes}
 use Rattle.stage1_sheet_reader.specs.Answers.{PendingFit}
 use Rattle.stage1_sheet_reader.proofs.Leading.{Leads, leads-start, leads-next, leads-stop, leads-end}
-use Rattle.stage1_sheet_reader.proofs.ExpressionTurns.{node-stopped, node-turned, start-fits, nodes-from, nodes-whole, nodes-stop, nodes-end, node-again}
+use Rattle.stage1_sheet_reader.proofs.ExpressionTurns.{node-stopped, start-fits, nodes-from, nodes-whole, nodes-stop, nodes-end, node-again}
 use Rattle.stage1_sheet_reader.proofs.read_expression.Statement.{statement}
 use Rattle.stage1_sheet_reader.proofs.read_expression.Tie as tie
 
@@ -52,10 +52,9 @@ returns c =
     let at-loop = called .before .before .before in
     let z = at-loop .before .before .before .before in
     let l = at-loop .loop in
-    let bytes = now (z .args .sheet) in
     let e = node-stopped (l .nodes) (l .pending) (l .place) _ (called .expression-turn .ensures) (c .enum-told .given .1) in
-    let stops = nodes-stop bytes (z .args .tokens) (l .nodes) (l .pending) (l .place) (called .before .if1 .taken) e in
-    leads-stop (l .inv .2) _ stops (c .enum-told .given .1)
+    let stops = nodes-stop (now (z .args .sheet)) _ (l .nodes) (l .pending) (l .place) (called .before .if1 .taken) e in
+    leads-stop (l .inv .2) stops (c .enum-told .given .1)
 
 enum-known-step : tie.Need-enum-known-step Inv-loop μ-loop
 enum-known-step c = search needs
@@ -66,9 +65,9 @@ loop-less c =
     let at-loop = called .before .before .before in
     let z = at-loop .before .before .before .before in
     let l = at-loop .loop in
-    let bytes = now (z .args .sheet) in
-    let t = node-turned (l .nodes) (l .pending) (l .place) _ (called .expression-turn .ensures) (c .before .step .given .1) in
-    let a = node-again bytes (z .args .tokens) (l .nodes) (l .pending) (l .place) (called .before .if1 .taken) (l .inv .1) t in
+    let t = called .expression-turn .ensures in
+    let some = called .before .if1 .taken in
+    let a = node-again (now (z .args .sheet)) _ (l .nodes) (l .pending) (l .place) some (l .inv .1) t (c .before .step .given .1) in
     omega (arith, a .more, a .room)
 
 loop-again : tie.Need-loop-again Inv-loop μ-loop
@@ -77,9 +76,9 @@ loop-again c =
     let at-loop = called .before .before .before in
     let z = at-loop .before .before .before .before in
     let l = at-loop .loop in
-    let bytes = now (z .args .sheet) in
-    let t = node-turned (l .nodes) (l .pending) (l .place) _ (called .expression-turn .ensures) (c .before .step .given .1) in
-    let a = node-again bytes (z .args .tokens) (l .nodes) (l .pending) (l .place) (called .before .if1 .taken) (l .inv .1) t in
+    let t = called .expression-turn .ensures in
+    let some = called .before .if1 .taken in
+    let a = node-again (now (z .args .sheet)) _ (l .nodes) (l .pending) (l .place) some (l .inv .1) t (c .before .step .given .1) in
     (a .inside, a .fits, leads-next (l .inv .2) (a .rest) (a .put))
 
 returns-2 : tie.Need-returns-2 Inv-loop μ-loop

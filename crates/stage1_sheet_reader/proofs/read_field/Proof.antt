@@ -46,7 +46,8 @@ add-t11 c =
 
 returns-3 : tie.Need-returns-3
 returns-3 c =
-    field-unreadable _ _ (now (c .before .before .before .before .args .sheet)) _ (sym (c .before .before .read-number .ensures) ∙ c .enum-told .given .1)
+    let z = c .before .before .before .before in
+    field-unreadable _ _ (now (z .args .sheet)) _ (sym (c .before .before .read-number .ensures) ∙ c .enum-told .given .1)
 
 returns-4 : tie.Need-returns-4
 returns-4 c =

@@ -9,7 +9,7 @@ use lib.ListN.{length}
 use Rattle.stage1_sheet_reader.specs.Put.{with-item}
 use Rattle.stage1_sheet_reader.specs.Answers.{RulesFit}
 use Rattle.stage1_sheet_reader.proofs.Leading.{Leads, leads-start, leads-next, leads-stop, leads-end}
-use Rattle.stage1_sheet_reader.proofs.RegexTurns.{turned-stop, turned-next, stopped-rules, items-from, items-stop, items-end, turn-again}
+use Rattle.stage1_sheet_reader.proofs.RegexTurns.{turned-stop, stopped-rules, items-from, items-stop, items-end, turn-again}
 use Rattle.stage1_sheet_reader.proofs.read_regex.Statement.{statement}
 use Rattle.stage1_sheet_reader.proofs.read_regex.Tie as tie
 
@@ -36,12 +36,13 @@ returns c =
     let at-loop = called .before .before in
     let z = at-loop .before .before in
     let l = at-loop .loop in
-    let bytes = now (z .args .sheet) in
     let t = called .regex-turn .ensures in
-    let e = turned-stop (l .out) (l .due) _ t (c .enum-told .given .1) in (
-      leads-stop (l .inv .3) _ (items-stop bytes (l .out) (l .place) (l .due) (omega arith) e) (c .enum-told .given .1),
-      subst RulesFit (sym (stopped-rules (l .out) (l .due) t e)) (l .inv .2),
-    )
+    let e = turned-stop (l .out) (l .due) _ t (c .enum-told .given .1) in
+    let stops = items-stop (now (z .args .sheet)) (l .out) (l .place) (l .due) (omega arith) e in
+    record {
+      answers = leads-stop (l .inv .3) stops (c .enum-told .given .1);
+      fits = subst RulesFit (sym (stopped-rules (l .out) (l .due) t e)) (l .inv .2);
+    }
 
 enum-known-step : tie.Need-enum-known-step Inv-loop μ-loop
 enum-known-step c = search needs
@@ -52,9 +53,8 @@ loop-less c =
     let at-loop = called .before .before in
     let z = at-loop .before .before in
     let l = at-loop .loop in
-    let bytes = now (z .args .sheet) in
-    let t = turned-next (l .out) (l .due) _ (called .regex-turn .ensures) (c .before .step .given .1) in
-    let a = turn-again bytes (l .out) (l .place) (l .due) (omega arith) (l .inv .1) (l .inv .2) t in
+    let t = called .regex-turn .ensures in
+    let a = turn-again (now (z .args .sheet)) (l .out) (l .place) (l .due) (omega arith) (l .inv .1) (l .inv .2) t (c .before .step .given .1) in
     omega (arith, a .more, a .room)
 
 loop-again : tie.Need-loop-again Inv-loop μ-loop
@@ -63,16 +63,15 @@ loop-again c =
     let at-loop = called .before .before in
     let z = at-loop .before .before in
     let l = at-loop .loop in
-    let bytes = now (z .args .sheet) in
-    let t = turned-next (l .out) (l .due) _ (called .regex-turn .ensures) (c .before .step .given .1) in
-    let a = turn-again bytes (l .out) (l .place) (l .due) (omega arith) (l .inv .1) (l .inv .2) t in
-    (a .inside, a .due-few, a .fits, leads-next (l .inv .3) (a .rest) (t .rules-are))
+    let t = called .regex-turn .ensures in
+    let a = turn-again (now (z .args .sheet)) (l .out) (l .place) (l .due) (omega arith) (l .inv .1) (l .inv .2) t (c .before .step .given .1) in
+    (a .inside, a .due-few, a .fits, leads-next (l .inv .3) (a .rest) (a .put))
 
 returns-2 : tie.Need-returns-2 Inv-loop μ-loop
 returns-2 c =
     let l = c .before .loop in
     let e = items-end (now (c .before .before .before .args .sheet)) (l .out) (l .place) (l .due) (omega arith) in
-    (leads-end (l .inv .3) e (l .inv .0), l .inv .2)
+    record { answers = leads-end (l .inv .3) e (l .inv .0); fits = l .inv .2 }
 
 pub read-regex-spec : {M : Type 1} → statement M
 read-regex-spec =

@@ -1,11 +1,7 @@
 -- `stage1_sheet_reader::read_rest` meets its contract.
 use borrow.Author.Needs.{needs}
 use mathlib.Core.Path.{refl}
-use mathlib.Core.List.{[], _∷_}
 use denote.Ref.{now}
-use lib.ListN.{length}
-use Rattle.stage1_sheet.specs.Reading.{expression-nodes}
-use Rattle.stage1_sheet_reader.specs.Put.{with-all, with-read-node, no-nodes}
 use Rattle.stage1_sheet_reader.proofs.Leading.{was-read, was-stopped}
 use Rattle.stage1_sheet_reader.proofs.Whole.{rest-stop, rest-over, rest-done}
 use Rattle.stage1_sheet_reader.proofs.read_rest.Statement.{statement}
@@ -30,31 +26,23 @@ returns : tie.Need-returns
 returns c =
     let told = c .before .before .before in
     let z = told .before .before .before .before .before in
-    let x = told .before .before .before .read-expression in
-    let bytes = now (z .args .sheet) in
-    let m = expression-nodes bytes (z .args .tokens) 64 (0 ∷ []) (z .args .at) in
-    let w = was-read (with-all with-read-node) (length bytes) no-nodes (x .result .step) (x .result .nodes) m (x .ensures) (told .step2 .given .1) in
-    rest-over bytes _ _ _ _ (w .read) (c .before .if1 .taken) (c .refused2 .ensures)
+    let x = told .before .before .before .read-expression .ensures in
+    rest-over (now (z .args .sheet)) _ _ _ _ (was-read x (told .step2 .given .1) .read) (c .before .if1 .taken) (c .refused2 .ensures)
 
 returns-2 : tie.Need-returns-2
 returns-2 c =
     let told = c .before .before in
     let z = told .before .before .before .before .before in
-    let x = told .before .before .before .read-expression in
-    let bytes = now (z .args .sheet) in
-    let m = expression-nodes bytes (z .args .tokens) 64 (0 ∷ []) (z .args .at) in
-    let e = was-stopped (with-all with-read-node) (length bytes) no-nodes (x .result .step) (x .result .nodes) m (x .ensures) (told .step .given .1) in
-    rest-stop bytes _ _ _ _ e (c .refused .ensures)
+    let x = told .before .before .before .read-expression .ensures in
+    rest-stop (now (z .args .sheet)) _ _ _ _ (was-stopped x (told .step .given .1)) (c .refused .ensures)
 
 returns-3 : tie.Need-returns-3
 returns-3 c =
     let told = c .before .before in
     let z = told .before .before .before .before .before in
-    let x = told .before .before .before .read-expression in
-    let bytes = now (z .args .sheet) in
-    let m = expression-nodes bytes (z .args .tokens) 64 (0 ∷ []) (z .args .at) in
-    let w = was-read (with-all with-read-node) (length bytes) no-nodes (x .result .step) (x .result .nodes) m (x .ensures) (told .step2 .given .1) in
-    rest-done bytes _ _ _ _ (w .read) (c .if1 .left) (refl, refl, refl, w .columns)
+    let x = told .before .before .before .read-expression .ensures in
+    let w = was-read x (told .step2 .given .1) in
+    rest-done (now (z .args .sheet)) _ _ _ _ (w .read) (c .if1 .left) (refl, refl, refl, w .columns)
 
 pub read-rest-spec : {M : Type 1} → statement M
 read-rest-spec =

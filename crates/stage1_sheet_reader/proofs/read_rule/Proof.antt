@@ -30,7 +30,8 @@ read-regex-requires c κs =
     let told = c .before .before in
     let z = told .before .before .before .before in
     let bytes = now (z .args .sheet) in
-    let e = field-value (up-to-sum 0 (z .args .tokens)) bytes _ (sym (told .before .before .read-field .ensures) ∙ told .action .given .1) in
+    let range = up-to-sum 0 (z .args .tokens) in
+    let e = field-value range bytes _ (sym (told .before .before .read-field .ensures) ∙ told .action .given .1) in
     (field-kept _ bytes _ e .inside, action-fits _ _ _ (c .with-action .ensures) (z .pre .3) (z .pre .4))
 
 returns : tie.Need-returns
@@ -38,17 +39,19 @@ returns c =
     let told = c .before in
     let z = told .before .before .before .before in
     let bytes = now (z .args .sheet) in
-    let e = field-unfit (up-to-sum 0 (z .args .tokens)) bytes _ (sym (told .before .before .read-field .ensures) ∙ told .question .given .1) in
-    (rule-unfit bytes _ _ _ _ _ e, z .pre .4)
+    let range = up-to-sum 0 (z .args .tokens) in
+    let e = field-unfit range bytes _ (sym (told .before .before .read-field .ensures) ∙ told .question .given .1) in
+    record { answers = rule-unfit bytes _ _ _ e; fits = z .pre .4 }
 
 returns-2 : tie.Need-returns-2
 returns-2 c =
     let told = c .before .before .before in
     let z = told .before .before .before .before in
     let bytes = now (z .args .sheet) in
-    let e = field-value (up-to-sum 0 (z .args .tokens)) bytes _ (sym (told .before .before .read-field .ensures) ∙ told .action .given .1) in
-    let r = c .read-regex in
-    (rule-goes bytes _ _ _ _ (r .result .step) (r .result .rules) e (c .before .with-action .ensures) (r .ensures .0), r .ensures .1)
+    let range = up-to-sum 0 (z .args .tokens) in
+    let e = field-value range bytes _ (sym (told .before .before .read-field .ensures) ∙ told .action .given .1) in
+    let r = c .read-regex .ensures in
+    record { answers = rule-goes bytes _ _ _ e (c .before .with-action .ensures) (r .answers); fits = r .fits }
 
 pub read-rule-spec : {M : Type 1} → statement M
 read-rule-spec =

@@ -2,7 +2,7 @@
 -- far, answers the whole.
 use borrow.Author.Needs.{needs}
 use native.Mathlib.Omega.{arith}
-use mathlib.Core.Path.{ap, _∙_}
+use mathlib.Core.Path.{ap}
 use denote.Ref.{now}
 use Prim.Native.Nat.{_-_, _≤_}
 use lib.ListN.{length}
@@ -11,8 +11,8 @@ use Rattle.stage1_sheet.specs.Reading.{less-rule, read-rule}
 use Rattle.stage1_sheet_columns.specs.declared.RuleColumns.{RuleColumns}
 use Rattle.stage1_sheet_reader.specs.Put.{with-rule, no-rules}
 use Rattle.stage1_sheet_reader.specs.Answers.{allowance, RulesFit}
-use Rattle.stage1_sheet_reader.proofs.Leading.{Leads, leads-start, leads-next, leads-stop, leads-end, was-read, was-stopped}
-use Rattle.stage1_sheet_reader.proofs.RuleTurns.{rule-count, no-rules-fit, rules-from, rules-whole, rules-stop, rules-end, rules-next}
+use Rattle.stage1_sheet_reader.proofs.Leading.{Leads, leads-start, leads-next, leads-stop, leads-end, was-stopped}
+use Rattle.stage1_sheet_reader.proofs.RuleTurns.{no-rules-fit, rules-from, rules-whole, rules-stop, rules-end, rules-again}
 use Rattle.stage1_sheet_reader.proofs.read_rules.Statement.{statement}
 use Rattle.stage1_sheet_reader.proofs.read_rules.Tie as tie
 
@@ -53,13 +53,10 @@ returns c =
     let at-loop = called .before .before .before in
     let z = at-loop .before .before .before in
     let l = at-loop .loop in
-    let one = called .read-rule in
-    let bytes = now (z .args .sheet) in
-    let tokens = z .args .tokens in
-    let more = called .before .if1 .taken in
-    let m = read-rule bytes tokens (allowance (l .out)) (l .place) in
-    let e = was-stopped with-rule (length bytes) (l .out) (one .result .step) (one .result .rules) m (one .ensures .0) (c .enum-told .given .1) in
-    (leads-stop (l .inv .3) _ (rules-stop bytes tokens (z .args .count) (l .out) (l .place) more e) (c .enum-told .given .1), one .ensures .1)
+    let one = called .read-rule .ensures in
+    let e = was-stopped (one .answers) (c .enum-told .given .1) in
+    let stops = rules-stop (now (z .args .sheet)) (z .args .tokens) (z .args .count) (l .out) (l .place) (called .before .if1 .taken) e in
+    record { answers = leads-stop (l .inv .3) stops (c .enum-told .given .1); fits = one .fits }
 
 enum-known-step : tie.Need-enum-known-step Inv-loop μ-loop
 enum-known-step c = search needs
@@ -70,14 +67,9 @@ loop-less c =
     let at-loop = called .before .before .before in
     let z = at-loop .before .before .before in
     let l = at-loop .loop in
-    let one = called .read-rule in
-    let bytes = now (z .args .sheet) in
-    let tokens = z .args .tokens in
     let more = called .before .if1 .taken in
-    let m = read-rule bytes tokens (allowance (l .out)) (l .place) in
-    let w = was-read with-rule (length bytes) (l .out) (one .result .step) (one .result .rules) m (one .ensures .0) (c .before .step .given .1) in
-    let n = ap (λ (x : RuleColumns). x .count) (w .columns) ∙ rule-count (l .out) (w .what) in
-    omega (arith, n, more)
+    let a = rules-again (z .args .count) more (called .read-rule .ensures .answers) (c .before .step .given .1) in
+    omega (arith, a .more, more)
 
 loop-again : tie.Need-loop-again Inv-loop μ-loop
 loop-again c =
@@ -85,22 +77,16 @@ loop-again c =
     let at-loop = called .before .before .before in
     let z = at-loop .before .before .before in
     let l = at-loop .loop in
-    let one = called .read-rule in
-    let bytes = now (z .args .sheet) in
-    let tokens = z .args .tokens in
     let more = called .before .if1 .taken in
-    let m = read-rule bytes tokens (allowance (l .out)) (l .place) in
-    let w = was-read with-rule (length bytes) (l .out) (one .result .step) (one .result .rules) m (one .ensures .0) (c .before .step .given .1) in
-    let n = ap (λ (x : RuleColumns). x .count) (w .columns) ∙ rule-count (l .out) (w .what) in
-    let rest = rules-next bytes tokens (z .args .count) (l .out) (l .place) more (w .read) (w .columns) in
-    (w .inside, omega (arith, n, more), one .ensures .1, leads-next (l .inv .3) rest (w .columns))
+    let a = rules-again (z .args .count) more (called .read-rule .ensures .answers) (c .before .step .given .1) in
+    (a .inside, omega (arith, a .more, more), called .read-rule .ensures .fits, leads-next (l .inv .3) (a .rest) (a .put))
 
 returns-2 : tie.Need-returns-2 Inv-loop μ-loop
 returns-2 c =
     let z = c .before .before .before .before .before in
     let l = c .before .before .loop in
     let e = rules-end (now (z .args .sheet)) (z .args .tokens) (z .args .count) (l .out) (l .place) (c .if1 .left) in
-    (leads-end (l .inv .3) e (l .inv .0), l .inv .2)
+    record { answers = leads-end (l .inv .3) e (l .inv .0); fits = l .inv .2 }
 
 pub read-rules-spec : {M : Type 1} → statement M
 read-rules-spec =

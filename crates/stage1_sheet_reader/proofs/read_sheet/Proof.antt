@@ -2,13 +2,19 @@
 use borrow.Author.Needs.{needs}
 use mathlib.Core.Path.{sym, _∙_}
 use denote.Ref.{now}
-use lib.ListN.{length}
 use Rattle.stage1_sheet.specs.FieldLaws.{Bytes}
-use Rattle.stage1_sheet_reader.specs.Put.{with-all, with-rule, no-rules}
 use Rattle.stage1_sheet_reader.proofs.Leading.{was-read, was-stopped}
-use Rattle.stage1_sheet_reader.proofs.Whole.{head-wrong, head-read, rules-part, sheet-head, sheet-rules, sheet-rest}
+use Rattle.stage1_sheet_reader.proofs.Whole.{HeadRead, head-wrong, head-read, sheet-head, sheet-rules, sheet-rest}
 use Rattle.stage1_sheet_reader.proofs.read_sheet.Statement.{statement}
 use Rattle.stage1_sheet_reader.proofs.read_sheet.Tie as tie
+
+-- At the place where the head is known.
+bytes-told : (told : tie.After-tokens) → Bytes (now (told .before .before .before .before .args .sheet))
+bytes-told told i = told .before .before .before .shared-slice-known .given i .fits
+
+head-told : (told : tie.After-tokens) → let k = told .tokens .given .0 in
+    HeadRead (now (told .before .before .before .before .args .sheet)) (k .0) (k .1 .0) (k .1 .1 .0)
+head-told told = head-read _ (bytes-told told) (sym (told .before .before .read-header .ensures) ∙ told .tokens .given .1)
 
 read-header-requires : tie.Need-read-header-requires
 read-header-requires c κs = search needs
@@ -26,9 +32,7 @@ read-rules-requires : tie.Need-read-rules-requires
 read-rules-requires c κs =
     let told = c .before in
     let z = told .before .before .before .before in
-    let bytes = now (z .args .sheet) in
-    let b : Bytes bytes = λ i. told .before .before .before .shared-slice-known .given i .fits in
-    let h = head-read bytes b (sym (told .before .before .read-header .ensures) ∙ told .tokens .given .1) in
+    let h = head-told told in
     (h .inside, z .pre, h .tokens-most, h .rules-most)
 
 enum-known-step : tie.Need-enum-known-step
@@ -46,14 +50,7 @@ read-rest-requires c κs =
     let called = stepped .before .before .before in
     let told = called .before .before in
     let z = told .before .before .before .before in
-    let bytes = now (z .args .sheet) in
-    let b : Bytes bytes = λ i. told .before .before .before .shared-slice-known .given i .fits in
-    let h = head-read bytes b (sym (told .before .before .read-header .ensures) ∙ told .tokens .given .1) in
-    let x = called .read-rules in
-    let k = told .tokens .given .0 in
-    let m = rules-part bytes (record { tokens = k .0; rules = k .1 .0 }) (k .1 .1 .0) in
-    let w = was-read (with-all with-rule) (length bytes) no-rules (x .result .step) (x .result .rules) m (x .ensures .0) (stepped .step2 .given .1) in
-    (w .inside, z .pre)
+    (was-read (called .read-rules .ensures .answers) (stepped .step2 .given .1) .inside, z .pre)
 
 returns : tie.Need-returns
 returns c =
@@ -69,14 +66,9 @@ returns-2 c =
     let called = stepped .before .before .before in
     let told = called .before .before in
     let z = told .before .before .before .before in
-    let bytes = now (z .args .sheet) in
-    let b : Bytes bytes = λ i. told .before .before .before .shared-slice-known .given i .fits in
-    let h = head-read bytes b (sym (told .before .before .read-header .ensures) ∙ told .tokens .given .1) in
-    let x = called .read-rules in
-    let k = told .tokens .given .0 in
-    let m = rules-part bytes (record { tokens = k .0; rules = k .1 .0 }) (k .1 .1 .0) in
-    let e = was-stopped (with-all with-rule) (length bytes) no-rules (x .result .step) (x .result .rules) m (x .ensures .0) (stepped .step .given .1) in
-    sheet-rules bytes _ (h .read) e (c .refused2 .ensures)
+    let h = head-told told in
+    let e = was-stopped (called .read-rules .ensures .answers) (stepped .step .given .1) in
+    sheet-rules (now (z .args .sheet)) _ (h .read) e (c .refused2 .ensures)
 
 returns-3 : tie.Need-returns-3
 returns-3 c =
@@ -84,14 +76,10 @@ returns-3 c =
     let called = stepped .before .before .before in
     let told = called .before .before in
     let z = told .before .before .before .before in
-    let bytes = now (z .args .sheet) in
-    let b : Bytes bytes = λ i. told .before .before .before .shared-slice-known .given i .fits in
-    let h = head-read bytes b (sym (told .before .before .read-header .ensures) ∙ told .tokens .given .1) in
-    let x = called .read-rules in
-    let k = told .tokens .given .0 in
-    let m = rules-part bytes (record { tokens = k .0; rules = k .1 .0 }) (k .1 .1 .0) in
-    let w = was-read (with-all with-rule) (length bytes) no-rules (x .result .step) (x .result .rules) m (x .ensures .0) (stepped .step2 .given .1) in
-    sheet-rest bytes _ (h .read) b (h .inside) (w .inside) (w .read) (w .columns) (x .ensures .1) (c .read-rest .ensures)
+    let h = head-told told in
+    let x = called .read-rules .ensures in
+    let w = was-read (x .answers) (stepped .step2 .given .1) in
+    sheet-rest (now (z .args .sheet)) _ (h .read) (bytes-told told) (h .inside) (w .inside) (w .read) (w .columns) (x .fits) (c .read-rest .ensures)
 
 pub read-sheet-spec : {M : Type 1} → statement M
 read-sheet-spec =

@@ -96,7 +96,8 @@ returns-6 c =
     let z = told .before .before .before .before in
     let bytes = now (z .args .sheet) in
     let e = field-value (up-to 0 4) bytes _ (sym (told .before .before .read-field .ensures) ∙ told .tag .given .1) in
-    let n = node-two bytes _ _ _ e _ (tagged .before .before .if1 .left) (c .before .before .if3 .left) (tagged .before .if2 .left) (c .before .if4 .left) in
+    let n =
+    node-two bytes _ _ _ e _ (tagged .before .before .if1 .left) (c .before .before .if3 .left) (tagged .before .if2 .left) (c .before .if4 .left) in
     c .regex-next3 .ensures ∙ plain-goes _ _ n (tagged .with-tag .ensures) (omega (arith, z .pre .0))
 
 pub regex-turn-spec : {M : Type 1} → statement M
