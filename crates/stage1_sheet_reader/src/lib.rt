@@ -112,6 +112,7 @@ fn read_field(sheet: &[u8], at: usize, least: u8, limit: u64) -> Field
     }
 }
 
+// The columns with one regex node more.
 fn with_tag(rules: RuleColumns, tag: u8) -> RuleColumns
     requires { ⌜ rules .items < 256 ⌝ }
     ensures { λ r. ⌜ r ≡ with-tag rules tag ⌝ }
@@ -123,6 +124,7 @@ fn with_tag(rules: RuleColumns, tag: u8) -> RuleColumns
     out
 }
 
+// The columns with one class more.
 fn with_class(rules: RuleColumns, low: u8, high: u8) -> RuleColumns
     requires { ⌜ rules .classes < 64 ⌝ }
     ensures { λ r. ⌜ r ≡ with-class rules low high ⌝ }
@@ -135,6 +137,7 @@ fn with_class(rules: RuleColumns, low: u8, high: u8) -> RuleColumns
     out
 }
 
+// The columns with one rule more, whose regex is still to come.
 fn with_action(rules: RuleColumns, action: u8, place: u16) -> RuleColumns
     requires { ⌜ rules .count < 32 ⌝ }
     ensures { λ r. ⌜ r ≡ with-action rules action place ⌝ }
@@ -147,6 +150,7 @@ fn with_action(rules: RuleColumns, action: u8, place: u16) -> RuleColumns
     out
 }
 
+// The columns with one expression node more.
 fn with_node(nodes: NodeColumns, tag: u8, number: u8, place: u16) -> NodeColumns
     requires { ⌜ nodes .count < 64 ⌝ }
     ensures { λ r. ⌜ r ≡ with-node nodes tag number place ⌝ }
@@ -186,6 +190,7 @@ fn with_parts(pending: Pending, tag: u8) -> Pending
     out
 }
 
+// A refusal, with the columns as they are.
 fn regex_stop(question: u8, place: usize, due: usize, rules: RuleColumns) -> RegexTurn
     ensures { λ r. ⌜ r ≡ regex-stopped rules due question place ⌝ }
 {
@@ -196,6 +201,7 @@ fn regex_stop(question: u8, place: usize, due: usize, rules: RuleColumns) -> Reg
     }
 }
 
+// A node read, with the columns that have it.
 fn regex_next(place: usize, due: usize, rules: RuleColumns) -> RegexTurn
     ensures { λ r. ⌜ r ≡ regex-gone rules due place ⌝ }
 {
@@ -297,6 +303,7 @@ fn read_rule(sheet: &[u8], at: usize, tokens: u8, rules: RuleColumns) -> RulesRe
     }
 }
 
+// Columns with no rule.
 fn no_rules() -> RuleColumns
     ensures { λ r. ⌜ r ≡ no-rules ⌝ }
 {
@@ -336,6 +343,7 @@ fn read_rules(sheet: &[u8], at: usize, tokens: u8, count: u8) -> RulesRead
     }
 }
 
+// A refusal, with the columns as they are.
 fn expression_stop(
     question: u8,
     place: usize,
@@ -351,6 +359,7 @@ fn expression_stop(
     }
 }
 
+// A node read, with the columns that have it and the expressions then due.
 fn expression_next(place: usize, nodes: NodeColumns, pending: Pending) -> ExpressionTurn
     ensures { λ r. ⌜ r ≡ expression-gone nodes pending place ⌝ }
 {
@@ -418,6 +427,7 @@ fn expression_turn(
     }
 }
 
+// Columns with no node.
 fn no_nodes() -> NodeColumns
     ensures { λ r. ⌜ r ≡ no-nodes ⌝ }
 {
@@ -429,6 +439,7 @@ fn no_nodes() -> NodeColumns
     }
 }
 
+// One expression due, with no fixed point open.
 fn one_pending() -> Pending
     ensures { λ r. ⌜ r ≡ one-pending ⌝ }
 {
@@ -480,6 +491,7 @@ fn read_header(sheet: &[u8]) -> Header
     }
 }
 
+// A refusal of the whole sheet.
 fn refused(question: u8, place: usize) -> SheetColumns
     ensures { λ r. ⌜ r ≡ refused-columns question place ⌝ }
 {
