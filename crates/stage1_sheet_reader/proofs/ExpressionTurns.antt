@@ -1,0 +1,391 @@
+-- The laws of an expression node's turn: each way through it, what it leaves, and how the turns make up the definition's nodes.
+use mathlib.Core.Path.{_≡_, refl, sym, ap, ap₂, _∙_}
+use mathlib.Core.Bool.{Bool, true, false, cond}
+use mathlib.Core.List.{List, [], _∷_, _++_}
+use mathlib.Core.Logic.{⊎-elim}
+use Prim.Native.Nat.{ℕ, zero, suc, _+_, _-_, _≤_, _<_}
+use native.Mathlib.Numerals.{add-one}
+use native.Mathlib.Omega.{arith}
+use lib.Dec.{eqb, ltb, eqb·suc-zero}
+use lib.ListN.{length, getD, set, length-set, replicate}
+use lib.Seq.{getD-set-same, getD-set-other, set-out}
+use borrow.Author.Tests.{eq-eqb, ne-eqb}
+use Rattle.stage0_laws.specs.Order.{compare-cases, lt-or-le}
+use Rattle.stage1_sheet.specs.Field.{Reading, stop, got, and-then, between}
+use Rattle.stage1_sheet.specs.FieldLaws.{Outcome, then-outcome, outcome-got, true-between}
+use Rattle.stage1_sheet.specs.Items.{ExpressionItem, epsilon-item, bottom-item, token-item, sequence-item, alternative-item, fixed-point-item, variable-item, part-depths}
+use Rattle.stage1_sheet.specs.Reading.{sheet-field, ReadNode, expression-item, expression-nodes}
+use Rattle.stage1_sheet.specs.ExpressionItems.{expression-tag}
+use Rattle.stage1_sheet_columns.specs.Holds.{number-after}
+use Rattle.stage1_sheet_columns.specs.declared.NodeColumns.{NodeColumns}
+use Rattle.stage1_sheet_reader.specs.Put.{with-node, with-read-node, due-from, due-of, next-opened, with-parts, no-nodes, one-pending}
+use Rattle.stage1_sheet_reader.specs.Turns.{in-range, expression-stopped, expression-gone, expression-turn, expression-turned, numbered-turned}
+use Rattle.stage1_sheet_reader.specs.Answers.{PendingFit}
+use Rattle.stage1_sheet_reader.specs.declared.Step.the-variants.{Next, Stop}
+use Rattle.stage1_sheet_reader.specs.declared.Pending.{Pending}
+use Rattle.stage1_sheet_reader.specs.declared.ExpressionTurn.{ExpressionTurn}
+use Rattle.stage1_sheet_reader.proofs.Leading.{in-front}
+use Rattle.stage1_sheet_reader.proofs.Fields.{below, field-same, FieldKept, field-kept, Any, field-inside, pred-suc}
+
+-- ---- a turn in columns, by what was read
+
+module _ (c : NodeColumns) (p : Pending) (at : ℕ) where
+  module _ {m : Reading ExpressionItem} where
+    pub node-stops : {question place : ℕ} → m ≡ stop question place → expression-stopped c p question place ≡ expression-turned c p at m
+    unfolding expression-turned
+    node-stops e = rw e
+
+  module _ (tag : ℕ) {m : Reading ℕ} where
+    pub numbered-stops : {question place : ℕ} → m ≡ stop question place → expression-stopped c p question place
+        ≡ numbered-turned c p at tag m
+    unfolding numbered-turned
+    numbered-stops e = rw e
+
+    pub numbered-goes : {number next : ℕ} {n : NodeColumns} {q : Pending} → m ≡ got number next → n ≡ with-node c tag number at → q
+        ≡ with-parts p tag
+        → expression-gone n q next ≡ numbered-turned c p at tag m
+    unfolding numbered-turned
+    numbered-goes e h k = rw (e, h, k)
+
+  -- A number after its tag is the definition's token or variable.
+  pub numbered-is : (make : ℕ → ExpressionItem) (tag : ℕ) → ((k : ℕ) → expression-tag (make k) ≡ tag)
+      → ((k : ℕ) → number-after (make k) ≡ k)
+      → (m : Reading ℕ) → numbered-turned c p at tag m ≡ expression-turned c p at (and-then m (λ k end. got (make k) end))
+  unfolding numbered-turned expression-turned
+  numbered-is make tag t n (stop q s) = refl
+  numbered-is make tag t n (got k end) = rw (t k, n k)
+
+-- ---- the ways through an expression node
+
+-- A node that is only its tag.
+pub record PlainItem (tag : ℕ) (m : Reading ExpressionItem) (next : ℕ) : Type 0 where
+  pub item : ExpressionItem
+  pub read : m ≡ got item next
+  pub same-tag : expression-tag item ≡ tag
+  pub no-number : number-after item ≡ 0
+
+pub plain-item-goes : (c : NodeColumns) (p : Pending) (at : ℕ) {m : Reading ExpressionItem} {tag next : ℕ} {n : NodeColumns} {q : Pending}
+    → PlainItem tag m next
+    → n ≡ with-node c tag 0 at → q ≡ with-parts p tag → expression-gone n q next ≡ expression-turned c p at m
+unfolding expression-turned
+plain-item-goes c p at i h k = rw (i .read, i .same-tag, i .no-number, h, k)
+
+module _ (bytes : List ℕ) (tokens count opened at : ℕ) where
+  pub node-unfit : {question place : ℕ} → sheet-field (between 0 6) bytes at ≡ stop question place
+      → expression-turn bytes tokens (64 - count) opened at ≡ stop question place
+  unfolding expression-turn
+  node-unfit e = rw e
+
+  module _ {tag next : ℕ} (e : sheet-field (between 0 6) bytes at ≡ got tag next) where
+    pub node-full : 64 ≤ count → expression-turn bytes tokens (64 - count) opened at ≡ stop 5 at
+    unfolding expression-turn
+    node-full h = rw (e, eq-eqb (64 - count) 0 (omega arith))
+
+    module _ (h : count < 64) where
+      node-tag : expression-turn bytes tokens (64 - count) opened at ≡ expression-item bytes tokens opened tag next
+      unfolding expression-turn
+      node-tag = rw (e, ne-eqb (64 - count) 0 (λ z. omega arith))
+
+      pub node-token : tag ≡ 2 → expression-turn bytes tokens (64 - count) opened at
+          ≡ and-then (sheet-field (λ k. ltb k tokens) bytes next) (λ k end. got (token-item k) end)
+      unfolding expression-item
+      node-token t = node-tag ∙ rw t
+
+      pub node-variable : tag ≡ 6 → expression-turn bytes tokens (64 - count) opened at
+          ≡ and-then (sheet-field (λ k. ltb k opened) bytes next) (λ k end. got (variable-item k) end)
+      unfolding expression-item
+      node-variable t = node-tag ∙ rw t
+
+      pub node-plain : (tag ≡ 2 → ⊥) → (tag ≡ 6 → ⊥) → PlainItem tag (expression-turn bytes tokens (64 - count) opened at) next
+      unfolding expression-item expression-tag number-after
+      node-plain n2 n6 = go tag refl
+        where
+          most : tag ≤ 6
+          most = true-between 0 6 tag (field-kept (between 0 6) bytes at e .holds) .1
+
+          go : (t : ℕ) → tag ≡ t → PlainItem tag (expression-turn bytes tokens (64 - count) opened at) next
+          go zero s = record { item = epsilon-item; read = node-tag ∙ rw s; same-tag = sym s; no-number = refl }
+          go (suc zero) s = record { item = bottom-item; read = node-tag ∙ rw s; same-tag = sym s; no-number = refl }
+          go (suc (suc zero)) s = absurd (n2 s)
+          go (suc (suc (suc zero))) s = record { item = sequence-item; read = node-tag ∙ rw s; same-tag = sym s; no-number = refl }
+          go (suc (suc (suc (suc zero)))) s = record { item = alternative-item; read = node-tag ∙ rw s; same-tag = sym s; no-number = refl }
+          go (suc (suc (suc (suc (suc zero))))) s = record { item = fixed-point-item; read = node-tag ∙ rw s; same-tag = sym s; no-number = refl }
+          go (suc (suc (suc (suc (suc (suc zero)))))) s = absurd (n6 s)
+          go (suc (suc (suc (suc (suc (suc (suc t))))))) s = absurd (omega (arith, most))
+
+      -- A token's and a variable's number, with the code's range.
+      module _ (c : NodeColumns) (p : Pending) where
+        pub token-turn : tag ≡ 2 → numbered-turned c p at 2 (sheet-field (in-range 0 tokens) bytes next)
+            ≡ expression-turned c p at (expression-turn bytes tokens (64 - count) opened at)
+        unfolding expression-tag number-after
+        token-turn t =
+            ap (numbered-turned c p at 2) (field-same (below tokens) bytes next)
+            ∙ numbered-is c p at token-item 2 (λ k. refl) (λ k. refl) _ ∙ ap (expression-turned c p at) (sym (node-token t))
+
+        pub variable-turn : tag ≡ 6 → numbered-turned c p at 6 (sheet-field (in-range 0 opened) bytes next)
+            ≡ expression-turned c p at (expression-turn bytes tokens (64 - count) opened at)
+        unfolding expression-tag number-after
+        variable-turn t =
+            ap (numbered-turned c p at 6) (field-same (below opened) bytes next)
+            ∙ numbered-is c p at variable-item 6 (λ k. refl) (λ k. refl) _ ∙ ap (expression-turned c p at) (sym (node-variable t))
+
+-- ---- what a turn that goes on has read, and left
+
+record NodeTurned (c : NodeColumns) (p : Pending) (at : ℕ) (m : Reading ExpressionItem) (r : ExpressionTurn) (next : ℕ) : Type 0 where
+  item : ExpressionItem
+  read : m ≡ got item next
+  nodes-are : r .nodes ≡ with-node c (expression-tag item) (number-after item) at
+  pending-is : r .pending ≡ with-parts p (expression-tag item)
+
+module _ (c : NodeColumns) (p : Pending) (at : ℕ) where
+  pub node-stopped : (m : Reading ExpressionItem) {r : ExpressionTurn} {question place : ℕ} → r ≡ expression-turned c p at m → r .step
+      ≡ Stop question place
+      → m ≡ stop question place
+  unfolding expression-turned
+  node-stopped (stop q s) {r} e h = let k = ap (λ (t : ExpressionTurn). t .step) e in cc
+  node-stopped (got i n) {r} e h = let k = ap (λ (t : ExpressionTurn). t .step) e in let z : _≡_ {A = ℕ} 0 1 = cc in absurd (omega arith)
+
+  node-turned : (m : Reading ExpressionItem) {r : ExpressionTurn} {next : ℕ} → r ≡ expression-turned c p at m → r .step ≡ Next next
+      → NodeTurned c p at m r next
+  unfolding expression-turned
+  node-turned (stop q s) {r} e h = let k = ap (λ (t : ExpressionTurn). t .step) e in let z : _≡_ {A = ℕ} 0 1 = cc in absurd (omega arith)
+  node-turned (got i n) {r} {next} e h =
+      let k = ap (λ (t : ExpressionTurn). t .step) e in
+      let same : n ≡ next = cc in
+      record {
+        item = i;
+        read = ap (got i) same;
+        nodes-are = ap (λ (t : ExpressionTurn). t .nodes) e;
+        pending-is = ap (λ (t : ExpressionTurn). t .pending) e;
+      }
+
+-- A node was still allowed, and the place after it lies within the bytes.
+record ExpressionKept (bytes : List ℕ) (left : ℕ) (item : ExpressionItem) (next : ℕ) : Type 0 where
+  node-allowed : 0 < left
+  inside : next ≤ length bytes
+
+module _ (bytes : List ℕ) where
+  item-keeps : (tokens left opened tag next : ℕ) → next ≤ length bytes
+      → Outcome Any (ExpressionKept bytes (suc left)) (expression-item bytes tokens opened tag next)
+  unfolding expression-item
+  item-keeps tokens left opened tag next h = go (eqb tag 0) (eqb tag 1) (eqb tag 2) (eqb tag 3) (eqb tag 4) (eqb tag 5)
+    where
+      numbered : (bound : ℕ) (make : ℕ → ExpressionItem)
+          → Outcome Any (ExpressionKept bytes (suc left)) (and-then (sheet-field (λ k. ltb k bound) bytes next) (λ k end. got (make k) end))
+      numbered bound make =
+          then-outcome Any (FieldKept (λ k. ltb k bound) bytes) (ExpressionKept bytes (suc left)) (sheet-field (λ k. ltb k bound) bytes next) _
+          (field-inside (λ k. ltb k bound) bytes next) (λ k end f. record { node-allowed = omega arith; inside = f .inside })
+
+      plain : (item : ExpressionItem) → ExpressionKept bytes (suc left) item next
+      plain item = record { node-allowed = omega arith; inside = h }
+
+      go : (a b d f g i : Bool) → Outcome Any (ExpressionKept bytes (suc left))
+          (cond a (got epsilon-item next) (cond b (got bottom-item next)
+          (cond d (and-then (sheet-field (λ k. ltb k tokens) bytes next) (λ k end. got (token-item k) end))
+          (cond f (got sequence-item next) (cond g (got alternative-item next) (cond i (got fixed-point-item next)
+          (and-then (sheet-field (λ n. ltb n opened) bytes next) (λ n end. got (variable-item n) end))))))))
+      go true b d f g i = plain epsilon-item
+      go false true d f g i = plain bottom-item
+      go false false true f g i = numbered tokens token-item
+      go false false false true g i = plain sequence-item
+      go false false false false true i = plain alternative-item
+      go false false false false false true = plain fixed-point-item
+      go false false false false false false = numbered opened variable-item
+
+  turn-keeps : (tokens left opened at : ℕ) → Outcome Any (ExpressionKept bytes left) (expression-turn bytes tokens left opened at)
+  unfolding expression-turn Any
+  turn-keeps tokens zero opened at =
+      then-outcome Any (FieldKept (between 0 6) bytes) (ExpressionKept bytes zero) (sheet-field (between 0 6) bytes at) _
+      (field-inside (between 0 6) bytes at) (λ tag next f. tt)
+  turn-keeps tokens (suc left) opened at =
+      rw (eqb·suc-zero left)
+      (then-outcome Any (FieldKept (between 0 6) bytes) (ExpressionKept bytes (suc left)) (sheet-field (between 0 6) bytes at) _
+      (field-inside (between 0 6) bytes at) (λ tag next f. item-keeps tokens left opened tag next (f .inside)))
+
+-- ---- the expressions due
+
+-- A store past the top is not among them.
+due-set : (n : ℕ) (l : List ℕ) (i x : ℕ) → n ≤ i → due-from n (set l i x) ≡ due-from n l
+unfolding due-from
+due-set zero l i x h = refl
+due-set (suc n) l i x h = ap₂ _∷_ (getD-set-other l i n x 0 (λ e. omega arith)) (due-set n l i x (omega arith))
+
+module _ (p : Pending) (some : 0 < p .count) where
+  -- What is due after the next one.
+  abbrev others : List ℕ
+  others = due-from (p .count - 1) (p .opened)
+
+  due-first : due-of p ≡ next-opened p ∷ others
+  unfolding due-from
+  due-first = let e : p .count ≡ suc (p .count - 1) = omega arith in ap (λ (n : ℕ). due-from n (p .opened)) e
+
+  module _ (room : p .count < length (p .opened)) where
+    one-more : due-from (p .count) (set (p .opened) (p .count - 1) (next-opened p + 1)) ≡ suc (next-opened p) ∷ others
+    unfolding due-from
+    one-more =
+        let n = p .count - 1 in
+        let e : p .count ≡ suc n = omega arith in
+        ap (λ (k : ℕ). due-from k (set (p .opened) n (next-opened p + 1))) e
+        ∙ ap₂ _∷_ (getD-set-same (p .opened) n (next-opened p + 1) 0 (omega arith) ∙ add-one (next-opened p))
+        (due-set n (p .opened) n (next-opened p + 1) (omega arith))
+
+    two-more : due-from (p .count + 1) (set (p .opened) (p .count) (next-opened p)) ≡ next-opened p ∷ next-opened p ∷ others
+    unfolding due-from
+    two-more =
+        ap (λ (k : ℕ). due-from k (set (p .opened) (p .count) (next-opened p))) (add-one (p .count))
+        ∙ ap₂ _∷_ (getD-set-same (p .opened) (p .count) (next-opened p) 0 room)
+        (due-set (p .count) (p .opened) (p .count) (next-opened p) (omega arith) ∙ due-first)
+
+    due-parts : (item : ExpressionItem) → due-of (with-parts p (expression-tag item)) ≡ part-depths item (next-opened p) ++ others
+    unfolding with-parts expression-tag part-depths
+    due-parts epsilon-item = refl
+    due-parts bottom-item = refl
+    due-parts (token-item k) = refl
+    due-parts sequence-item = two-more
+    due-parts alternative-item = two-more
+    due-parts fixed-point-item = one-more
+    due-parts (variable-item n) = refl
+
+-- ---- that they fit
+
+set-most : (l : List ℕ) (i x most : ℕ) → x ≤ most → ((j : ℕ) → getD l j 0 ≤ most) → (j : ℕ) → getD (set l i x) j 0 ≤ most
+set-most l i x most h f j =
+    ⊎-elim (λ k. rw (getD-set-other l i j x 0 (λ e. omega arith)) (f j))
+    (⊎-elim (λ e. same e) (λ k. rw (getD-set-other l i j x 0 (λ e. omega arith)) (f j))) (compare-cases j i)
+  where
+    same : j ≡ i → getD (set l i x) j 0 ≤ most
+    same e = rw e (⊎-elim (λ k. rw (getD-set-same l i x 0 k) h) (λ k. rw (set-out l i x k) (f i)) (lt-or-le i (length l)))
+
+module _ (c : NodeColumns) (p : Pending) (tag number at : ℕ) (some : 0 < p .count) (room : c .count < 64) (f : PendingFit c p) where
+  -- One expression fewer is due.
+  fewer : PendingFit (with-node c tag number at) (record { count = p .count - 1; opened = p .opened })
+  fewer = record { nodes = omega arith; due = omega (arith, f .due); opened = λ i. omega (arith, f .opened i); entries = f .entries }
+
+  -- One more is due, as deep as the next one.
+  one-added : PendingFit (with-node c tag number at) (record { count = p .count + 1; opened = set (p .opened) (p .count) (next-opened p) })
+  one-added = record {
+    nodes = omega arith;
+    due = omega (arith, f .due);
+    opened = set-most (p .opened) (p .count) (next-opened p) (c .count + 1)
+        (omega (arith, f .opened (p .count - 1))) (λ i. omega (arith, f .opened i));
+    entries = length-set (p .opened) (p .count) (next-opened p) ∙ f .entries;
+  }
+
+  -- As many are due, the next one inside one more fixed point.
+  deeper : PendingFit (with-node c tag number at) (record { count = p .count; opened = set (p .opened) (p .count - 1) (next-opened p + 1) })
+  deeper = record {
+    nodes = omega arith;
+    due = omega (arith, f .due);
+    opened = set-most (p .opened) (p .count - 1) (next-opened p + 1) (c .count + 1)
+        (omega (arith, f .opened (p .count - 1))) (λ i. omega (arith, f .opened i));
+    entries = length-set (p .opened) (p .count - 1) (next-opened p + 1) ∙ f .entries;
+  }
+
+  fit-parts : (item : ExpressionItem) → PendingFit (with-node c tag number at) (with-parts p (expression-tag item))
+  unfolding with-parts expression-tag
+  fit-parts epsilon-item = fewer
+  fit-parts bottom-item = fewer
+  fit-parts (token-item k) = fewer
+  fit-parts sequence-item = one-added
+  fit-parts alternative-item = one-added
+  fit-parts fixed-point-item = deeper
+  fit-parts (variable-item n) = fewer
+
+-- What the parts of a node ask of the expressions due.
+pub parts-room : (c : NodeColumns) (p : Pending) → c .count < 64 → 0 < p .count → PendingFit c p
+    → (0 < p .count) × (p .count ≤ 64) × (getD (p .opened) (p .count - 1) 0 ≤ 64)
+parts-room c p h some f = (some, omega (arith, f .due), omega (arith, f .opened (p .count - 1)))
+
+zeros : (n i : ℕ) → getD (replicate n 0) i 0 ≤ 0
+zeros zero i = omega arith
+zeros (suc n) zero = omega arith
+zeros (suc n) (suc i) = zeros n i
+
+pub start-fits : {c : NodeColumns} {p : Pending} → c ≡ no-nodes → p ≡ one-pending → PendingFit c p
+start-fits e h = rw (e, h) record { nodes = omega arith; due = omega arith; opened = zeros 65; entries = refl }
+
+-- ---- the turns make up the definition's nodes
+
+abbrev read-node : ℕ → ExpressionItem → ReadNode
+read-node at item = record { place = at; item = item }
+
+nodes-turn : (bytes : List ℕ) (tokens left opened : ℕ) (due : List ℕ) (at : ℕ) → expression-nodes bytes tokens left (opened ∷ due) at
+    ≡ and-then (expression-turn bytes tokens left opened at)
+    (λ item after. and-then (expression-nodes bytes tokens (left - 1) (part-depths item opened ++ due) after) (in-front (read-node at item)))
+unfolding expression-nodes expression-turn
+nodes-turn bytes tokens zero opened due at = go (sheet-field (between 0 6) bytes at)
+  where
+    go : (m : Reading ℕ) → _≡_ {A = Reading (List ReadNode)} (and-then m (λ tag next. stop 5 at))
+        (and-then (and-then m (λ tag next. stop 5 at))
+        (λ item after. and-then (expression-nodes bytes tokens (zero - 1) (part-depths item opened ++ due) after) (in-front (read-node at item))))
+    go (stop q p) = refl
+    go (got tag next) = refl
+nodes-turn bytes tokens (suc left) opened due at = simp (eqb·suc-zero, pred-suc) (go (sheet-field (between 0 6) bytes at))
+  where
+    go : (m : Reading ℕ)
+        → _≡_ {A = Reading (List ReadNode)} (and-then m (λ tag next. and-then (expression-item bytes tokens opened tag next)
+        (λ item after. and-then (expression-nodes bytes tokens left (part-depths item opened ++ due) after) (in-front (read-node at item)))))
+        (and-then (and-then m (λ tag next. expression-item bytes tokens opened tag next))
+        (λ item after. and-then (expression-nodes bytes tokens left (part-depths item opened ++ due) after) (in-front (read-node at item))))
+    go (stop q p) = refl
+    go (got tag next) = refl
+
+module _ (bytes : List ℕ) (tokens : ℕ) (c : NodeColumns) (p : Pending) (at : ℕ) where
+  abbrev pub node-from : Reading ExpressionItem
+  node-from = expression-turn bytes tokens (64 - c .count) (next-opened p) at
+
+  abbrev pub nodes-from : Reading (List ReadNode)
+  nodes-from = expression-nodes bytes tokens (64 - c .count) (due-of p) at
+
+  pub nodes-whole : c ≡ no-nodes → p ≡ one-pending → nodes-from ≡ expression-nodes bytes tokens 64 (0 ∷ []) at
+  unfolding due-from
+  nodes-whole e h = rw (e, h)
+
+  pub nodes-end : p .count ≡ 0 → nodes-from ≡ got [] at
+  unfolding expression-nodes due-from
+  nodes-end e = rw e (go (64 - c .count))
+    where
+      go : (left : ℕ) → expression-nodes bytes tokens left [] at ≡ got [] at
+      go zero = refl
+      go (suc left) = refl
+
+  module _ (some : 0 < p .count) where
+    first-node : nodes-from ≡ expression-nodes bytes tokens (64 - c .count) (next-opened p ∷ due-from (p .count - 1) (p .opened)) at
+    first-node = ap (λ (l : List ℕ). expression-nodes bytes tokens (64 - c .count) l at) (due-first p some)
+
+    pub nodes-stop : {question place : ℕ} → node-from ≡ stop question place → nodes-from ≡ stop question place
+    nodes-stop e = first-node ∙ nodes-turn bytes tokens (64 - c .count) (next-opened p) (due-from (p .count - 1) (p .opened)) at ∙ rw e
+
+-- How it goes on after a turn, from the columns d with the expressions q due.
+pub record NodesAgain (bytes : List ℕ) (tokens : ℕ) (c : NodeColumns) (p : Pending) (at : ℕ) (d : NodeColumns) (q : Pending) (next : ℕ) : Type 0 where
+  pub node : ReadNode
+  pub inside : next ≤ length bytes
+  pub fits : PendingFit d q
+  pub more : d .count ≡ c .count + 1
+  pub room : c .count < 64
+  pub put : d ≡ with-read-node c node
+  pub rest : nodes-from bytes tokens c p at ≡ and-then (nodes-from bytes tokens d q next) (in-front node)
+
+module _ (bytes : List ℕ) (tokens : ℕ) (c : NodeColumns) (p : Pending) (at : ℕ) {r : ExpressionTurn} {next : ℕ}
+    (some : 0 < p .count) (f : PendingFit c p) where
+  after-node : NodeTurned c p at (node-from bytes tokens c p at) r next → NodesAgain bytes tokens c p at (r .nodes) (r .pending) next
+  unfolding with-read-node
+  after-node t =
+      let n = outcome-got Any (ExpressionKept bytes (64 - c .count)) (turn-keeps bytes tokens (64 - c .count) (next-opened p) at) (t .read) in
+      let room : c .count < 64 = omega (arith, n .node-allowed) in
+      let left : 64 - c .count - 1 ≡ 64 - (c .count + 1) = omega arith in
+      let parts = due-parts p some (omega (arith, f .due, f .entries)) (t .item) in
+      rw (t .nodes-are, t .pending-is) record {
+        node = read-node at (t .item);
+        inside = n .inside;
+        fits = fit-parts c p _ _ at some room f (t .item);
+        more = refl;
+        room = room;
+        put = refl;
+        rest = first-node bytes tokens c p at some
+            ∙ nodes-turn bytes tokens (64 - c .count) (next-opened p) (due-from (p .count - 1) (p .opened)) at ∙ rw (t .read, left, ← parts);
+      }
+
+  pub node-again : r ≡ expression-turned c p at (node-from bytes tokens c p at) → r .step ≡ Next next
+      → NodesAgain bytes tokens c p at (r .nodes) (r .pending) next
+  node-again e h = after-node (node-turned c p at (node-from bytes tokens c p at) e h)

@@ -1,0 +1,55 @@
+-- `stage1_sheet_reader::with_parts` meets its contract.
+use borrow.Author.Needs.{needs}
+use borrow.Author.Tests.{eq-eqb, ne-eqb, lt-ltb, le-ltb}
+use Rattle.stage1_sheet_reader.specs.Put.{with-parts}
+use Rattle.stage1_sheet_reader.proofs.with_parts.Statement.{statement}
+use Rattle.stage1_sheet_reader.proofs.with_parts.Tie as tie
+
+sub-last : tie.Need-sub-last
+sub-last c = search needs
+
+element-copy-out-opened : tie.Need-element-copy-out-opened
+element-copy-out-opened c = search needs
+
+add-out : tie.Need-add-out
+add-out c = search needs
+
+element-write-out : tie.Need-element-write-out
+element-write-out c = search needs
+
+returns : tie.Need-returns
+unfolding with-parts
+returns c = simp (eq-eqb _ _ (c .if1 .taken))
+
+returns-2 : tie.Need-returns-2
+unfolding with-parts
+returns-2 c = simp (ne-eqb _ _ (c .before .if1 .left), lt-ltb _ _ (c .if2 .taken))
+
+returns-3 : tie.Need-returns-3
+unfolding with-parts
+returns-3 c = simp (ne-eqb _ _ (c .before .before .if1 .left), le-ltb _ _ (c .before .if2 .left), eq-eqb _ _ (c .if3 .taken))
+
+element-write-out-2 : tie.Need-element-write-out-2
+element-write-out-2 c = search needs
+
+add-out-2 : tie.Need-add-out-2
+add-out-2 c = search needs
+
+returns-4 : tie.Need-returns-4
+unfolding with-parts
+returns-4 c = simp (ne-eqb _ _ (c .before .before .if1 .left), le-ltb _ _ (c .before .if2 .left), ne-eqb _ _ (c .if3 .left))
+
+pub with-parts-spec : {M : Type 1} → statement M
+with-parts-spec =
+    tie.close
+    (tie.spec
+    sub-last
+    element-copy-out-opened
+    add-out
+    element-write-out
+    returns
+    returns-2
+    returns-3
+    element-write-out-2
+    add-out-2
+    returns-4)

@@ -1,0 +1,66 @@
+-- What the readers of a sheet's parts answer: for what the definition reads from a place on, the place after it and the columns
+-- with it; for a refusal, its question and place, whatever the columns then are.
+use mathlib.Core.Path.{_≡_}
+use mathlib.Core.List.{List, [], _∷_}
+use Prim.Native.Nat.{ℕ, _+_, _-_, _≤_}
+use lib.ListN.{length, getD}
+use Rattle.stage1_sheet.specs.Limits.{most-expression-nodes}
+use Rattle.stage1_sheet.specs.Field.{Reading, stop, got, read-many}
+use Rattle.stage1_sheet.specs.Reading.{regex-items, ReadNode, Allowance, less-rule, read-rule, expression-nodes}
+use Rattle.stage1_sheet_columns.specs.declared.RuleColumns.{RuleColumns}
+use Rattle.stage1_sheet_columns.specs.declared.NodeColumns.{NodeColumns}
+use Rattle.stage1_sheet_reader.specs.Put.{with-item, with-all, with-rule, with-read-node, no-rules, no-nodes}
+use Rattle.stage1_sheet_reader.specs.Reads.{refused-columns}
+use Rattle.stage1_sheet_reader.specs.declared.Step.{Step}
+use Rattle.stage1_sheet_reader.specs.declared.Step.the-variants.{Next, Stop}
+use Rattle.stage1_sheet_reader.specs.declared.Pending.{Pending}
+use Rattle.stage1_sheet_reader.specs.declared.SheetColumns.{SheetColumns}
+use Rattle.stage1_sheet_reader.specs.declared.Outcome.the-variants.{Done}
+
+-- The columns do not overflow.
+pub record RulesFit (c : RuleColumns) : Type 0 where
+  pub rules : c .count ≤ 32
+  pub nodes : c .items ≤ 256
+  pub classes : c .classes ≤ 64
+
+-- The nodes read so far, and the expressions due, of which each node adds at most one, as it opens at most one fixed point.
+pub record PendingFit (c : NodeColumns) (p : Pending) : Type 0 where
+  pub nodes : c .count ≤ 64
+  pub due : p .count ≤ c .count + 1
+  pub opened : (i : ℕ) → getD (p .opened) i 0 ≤ c .count
+  pub entries : length (p .opened) ≡ 65
+
+-- The nodes and classes that the columns leave.
+unfoldable pub allowance : RuleColumns → Allowance
+allowance c = record { nodes = 256 - c .items; classes = 64 - c .classes }
+
+-- A step to a place within the bytes, and columns d that are c with what was read.
+abbrev pub Says : {A C : Type 0} → (C → A → C) → ℕ → Reading A → C → Step → C → Type 0
+Says put most (stop question place) c s d = s ≡ Stop question place
+Says put most (got a end) c s d = (s ≡ Next end) × (d ≡ put c a) × (end ≤ most)
+
+pub record Answers {A C : Type 0} (put : C → A → C) (most : ℕ) (m : Reading A) (c : C) (s : Step) (d : C) : Type 0 where
+  pub says : Says put most m c s d
+
+-- One regex, one rule, so many rules, and the expression.
+pub record ReadsRegex (bytes : List ℕ) (at : ℕ) (c : RuleColumns) (s : Step) (d : RuleColumns) : Type 0 where
+  pub answers : Answers (with-all with-item) (length bytes) (regex-items bytes (256 - c .items) (64 - c .classes) 1 at) c s d
+  pub fits : RulesFit d
+
+pub record ReadsRule (bytes : List ℕ) (at tokens : ℕ) (c : RuleColumns) (s : Step) (d : RuleColumns) : Type 0 where
+  pub answers : Answers with-rule (length bytes) (read-rule bytes tokens (allowance c) at) c s d
+  pub fits : RulesFit d
+
+pub record ReadsRules (bytes : List ℕ) (at tokens count : ℕ) (s : Step) (d : RuleColumns) : Type 0 where
+  pub answers : Answers (with-all with-rule) (length bytes) (read-many (read-rule bytes tokens) less-rule (allowance no-rules) count at) no-rules s d
+  pub fits : RulesFit d
+
+abbrev pub ReadsExpression : List ℕ → ℕ → ℕ → Step → NodeColumns → Type 0
+ReadsExpression bytes at tokens s d =
+    Answers (with-all with-read-node) (length bytes) (expression-nodes bytes tokens most-expression-nodes (0 ∷ []) at) no-nodes s d
+
+-- The rules as given, and the nodes that were read.
+abbrev pub Finished : Reading (List ReadNode) → ℕ → RuleColumns → SheetColumns → Type 0
+Finished (stop question place) tokens rules r = r ≡ refused-columns question place
+Finished (got nodes end) tokens rules r =
+    (r .outcome ≡ Done) × (r .tokens ≡ tokens) × (r .rules ≡ rules) × (r .nodes ≡ with-all with-read-node no-nodes nodes)

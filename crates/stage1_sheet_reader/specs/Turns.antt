@@ -1,0 +1,91 @@
+-- One turn of each reader, as the code takes it: a field, a regex node, an expression node. Which nodes come after one another
+-- is the definition's to say, to which the proofs lead each turn.
+use mathlib.Core.Bool.{Bool, cond, _&&_}
+use mathlib.Core.List.{List, [], _∷_}
+use Prim.Native.Nat.{ℕ, _+_, _-_}
+use lib.Dec.{eqb, ltb, leb}
+use lib.ListN.{length}
+use Rattle.stage1_sheet.specs.Limits.{most-tokens, most-rules, most-expression-nodes}
+use Rattle.stage1_sheet.specs.Field.{Reading, stop, got, and-then, between}
+use Rattle.stage1_sheet.specs.Items.{RegexItem, regex-parts, ExpressionItem}
+use Rattle.stage1_sheet.specs.Reading.{sheet-field, regex-item, ReadNode, expression-item, expression-nodes}
+use Rattle.stage1_sheet.specs.ExpressionItems.{expression-tag}
+use Rattle.stage1_sheet_columns.specs.Holds.{number-after}
+use Rattle.stage1_sheet_columns.specs.declared.RuleColumns.{RuleColumns}
+use Rattle.stage1_sheet_columns.specs.declared.NodeColumns.{NodeColumns}
+use Rattle.stage1_sheet_reader.specs.declared.Field.{Field}
+use Rattle.stage1_sheet_reader.specs.declared.Field.the-variants.{Value, Unfit}
+use Rattle.stage1_sheet_reader.specs.declared.Header.{Header}
+use Rattle.stage1_sheet_reader.specs.declared.Header.the-variants.{Counts, Wrong}
+use Rattle.stage1_sheet_reader.specs.declared.Step.the-variants.{Next, Stop}
+use Rattle.stage1_sheet_reader.specs.declared.RegexTurn.{RegexTurn}
+use Rattle.stage1_sheet_reader.specs.declared.Pending.{Pending}
+use Rattle.stage1_sheet_reader.specs.declared.ExpressionTurn.{ExpressionTurn}
+use Rattle.stage1_sheet_reader.specs.Put.{with-item, with-node, with-parts}
+
+-- From the least on, below the limit.
+unfoldable pub in-range : ℕ → ℕ → ℕ → Bool
+in-range least limit v = leb least v && ltb v limit
+
+unfoldable pub field-answer : Reading ℕ → Field
+field-answer (stop question place) = Unfit question place
+field-answer (got v next) = Value v next
+
+-- "version, 1; token count T, 1 to 24; rule count R, 1 to 32"
+pub record Counted : Type 0 where
+  pub tokens : ℕ
+  pub rules : ℕ
+
+unfoldable pub header : List ℕ → Reading Counted
+header bytes =
+    and-then (sheet-field (between 1 1) bytes 0)
+    (λ version at-tokens. and-then (sheet-field (between 1 most-tokens) bytes at-tokens)
+    (λ tokens at-count. and-then (sheet-field (between 1 most-rules) bytes at-count)
+    (λ count at-rules. got (record { tokens = tokens; rules = count }) at-rules)))
+
+unfoldable pub header-answer : Reading Counted → Header
+header-answer (stop question place) = Wrong question place
+header-answer (got c next) = Counts (c .tokens) (c .rules) next
+
+-- The expression's nodes, after which the bytes end.
+unfoldable pub nodes-to-end : List ℕ → ℕ → ℕ → Reading (List ReadNode)
+nodes-to-end bytes tokens at =
+    and-then (expression-nodes bytes tokens most-expression-nodes (0 ∷ []) at)
+    (λ nodes end. cond (eqb end (length bytes)) (got nodes end) (stop 6 end))
+
+-- A regex node, while so many nodes and classes are allowed: its tag's field, then the limit on nodes, then what the tag asks.
+unfoldable pub regex-turn : List ℕ → ℕ → ℕ → ℕ → Reading RegexItem
+regex-turn bytes left classes at =
+    and-then (sheet-field (between 0 4) bytes at) (λ tag next. cond (eqb left 0) (stop 5 at) (regex-item bytes classes at tag next))
+
+abbrev pub regex-stopped : RuleColumns → ℕ → ℕ → ℕ → RegexTurn
+regex-stopped c due question place = record { step = Stop question place; due = due; rules = c }
+
+abbrev pub regex-gone : RuleColumns → ℕ → ℕ → RegexTurn
+regex-gone c due next = record { step = Next next; due = due; rules = c }
+
+-- What a turn leaves of the columns, and of the regexes due, of which the node is one.
+unfoldable pub regex-turned : RuleColumns → ℕ → Reading RegexItem → RegexTurn
+regex-turned c due (stop question place) = regex-stopped c due question place
+regex-turned c due (got item next) = regex-gone (with-item c item) (due - 1 + regex-parts item) next
+
+-- An expression node inside so many open fixed points, while so many nodes are allowed.
+unfoldable pub expression-turn : List ℕ → ℕ → ℕ → ℕ → ℕ → Reading ExpressionItem
+expression-turn bytes tokens left opened at =
+    and-then (sheet-field (between 0 6) bytes at) (λ tag next. cond (eqb left 0) (stop 5 at) (expression-item bytes tokens opened tag next))
+
+abbrev pub expression-stopped : NodeColumns → Pending → ℕ → ℕ → ExpressionTurn
+expression-stopped c p question place = record { step = Stop question place; nodes = c; pending = p }
+
+abbrev pub expression-gone : NodeColumns → Pending → ℕ → ExpressionTurn
+expression-gone c p next = record { step = Next next; nodes = c; pending = p }
+
+unfoldable pub expression-turned : NodeColumns → Pending → ℕ → Reading ExpressionItem → ExpressionTurn
+expression-turned c p at (stop question place) = expression-stopped c p question place
+expression-turned c p at (got item next) =
+    expression-gone (with-node c (expression-tag item) (number-after item) at) (with-parts p (expression-tag item)) next
+
+-- The same for a tag with a number after it, which is given.
+unfoldable pub numbered-turned : NodeColumns → Pending → ℕ → ℕ → Reading ℕ → ExpressionTurn
+numbered-turned c p at tag (stop question place) = expression-stopped c p question place
+numbered-turned c p at tag (got number next) = expression-gone (with-node c tag number at) (with-parts p tag) next
