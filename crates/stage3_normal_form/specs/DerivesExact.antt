@@ -22,7 +22,7 @@ abbrev pub HasWord : Language → Type 0
 HasWord L = (w : List ℕ) × L w
 
 -- A round's flag of a node is what the node's equation gives from the flags before it.
-next-derives-at : (ns : List Node) (flags : List Bool) (n : ℕ) → derives-at (next-derives ns flags) n ≡ node-derives flags (node-at ns n)
+pub next-derives-at : (ns : List Node) (flags : List Bool) (n : ℕ) → derives-at (next-derives ns flags) n ≡ node-derives flags (node-at ns n)
 unfolding next-derives node-derives
 next-derives-at ns flags n = List·getD-map (node-derives flags) ns n bottom-node
 
@@ -89,7 +89,7 @@ missing-less (true ∷ xs) (false ∷ ys) e h d = absurd (h 0 tt)
 missing-less (false ∷ xs) (true ∷ ys) e h d = let a = missing-falls xs ys (omega arith) (λ n. h (suc n)) in omega arith
 missing-less (false ∷ xs) (false ∷ ys) e h d = let a = missing-less xs ys (omega arith) (λ n. h (suc n)) d in omega arith
 
-same-flags-path : (xs ys : List Bool) → same-flags xs ys ≡ true → xs ≡ ys
+pub same-flags-path : (xs ys : List Bool) → same-flags xs ys ≡ true → xs ≡ ys
 unfolding same-flags
 same-flags-path [] [] e = refl
 same-flags-path [] (y ∷ ys) e = absurd (subst T (sym e) tt)

@@ -19,3 +19,5 @@ pub mod Tails
 pub mod Examples
 pub mod TypesExact
 pub mod Expansion
+pub mod RightParts
+pub mod ProductionWalk

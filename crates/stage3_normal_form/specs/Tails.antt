@@ -131,7 +131,7 @@ module _ (ns : List Node) (Q : Production → Type 0)
   next-productions rs f n (fixed-point-node b) e q m = f b q m
   next-productions rs f n (variable-node b guarded) e q m = f b q m
 
-  every-production : (k n : ℕ) (q : Production) → q of row-of (rows-after k ns) n → Q q
+  pub every-production : (k n : ℕ) (q : Production) → q of row-of (rows-after k ns) n → Q q
   unfolding rows-after
   every-production zero n q m = no-row (length ns) n q m
   every-production (suc k) n q m =

@@ -2,19 +2,19 @@
 -- Nothing here speaks of numbering or of an image.
 use mathlib.Core.Path.{_≡_, refl, sym, ap, subst, _∙_}
 use mathlib.Core.Bool.{Bool, true, false}
-use mathlib.Core.List.{List, [], _∷_, _++_, map, List·Memᴰ, List·Memᴰ·head, List·Memᴰ·tail, List·Memᴰ·not-nil, List·Memᴰ·cases-cons, Memᴰ·cast}
-use mathlib.Core.Logic.{_⊎_, inl, inr, ⊎-elim}
+use mathlib.Core.List.{List, [], _∷_, List·Memᴰ, List·Memᴰ·head, List·Memᴰ·tail, List·Memᴰ·not-nil, List·Memᴰ·cases-cons}
+use mathlib.Core.Logic.{⊎-elim}
 use mathlib.Core.Option.{Option, none, some}
 use Prim.Native.Nat.{ℕ, zero, suc, _+_, _≤_, _<_}
 use native.Mathlib.Omega.{arith}
-use lib.Dec.{T, eqb, eqb→eq}
+use lib.Dec.{eqb, eqb→eq}
 use lib.ListN.{length}
 use borrow.Author.Tests.{eq-eqb, ne-eqb}
 use Rattle.stage0_laws.specs.Truth.{true-holds}
 use Rattle.stage1_sheet.specs.Sheet.{Rule}
-use Rattle.stage3_normal_form.specs.Productions.{Production, Row}
+use Rattle.stage3_normal_form.specs.Productions.{Production}
 use Rattle.stage4_lexer.specs.Words.{RuleAt, first-rule, later-rule}
-use Rattle.stage5_image.specs.Fusion.{production-of, by-rule, fused-from, fused-row, fused}
+use Rattle.stage5_image.specs.Fusion.{production-of, by-rule, fused-from}
 use Rattle.stage5_image.specs.ImageRanges.{Rising}
 use Rattle.stage5_image.specs.Unfolding.{Returns}
 
@@ -31,7 +31,8 @@ production-found t [] = λ p m e. List·Memᴰ·not-nil m
 production-found t (q ∷ ps) = go (production-of t ps) (production-found t ps) (eqb (q .head) t) refl
   where
     later : (o : Option Production) → (q .head ≡ t → ⊥) → Found t ps o → Found t (q ∷ ps) o
-    later none other f = λ p m e. ⊎-elim (λ same. other (ap (λ (z : Production). z .head) (sym same) ∙ e)) (λ k. f p k e) (List·Memᴰ·cases-cons m)
+    later none other f = λ p m e. ⊎-elim (λ same. other (ap (λ (z : Production). z .head) (sym same) ∙ e)) (λ k. f p k e)
+        (List·Memᴰ·cases-cons m)
     later (some p) other f = (List·Memᴰ·tail (f .0), f .1)
 
     go : (o : Option Production) → Found t ps o → (b : Bool) → eqb (q .head) t ≡ b → Found t (q ∷ ps) (elim b [ true ↦ some q | false ↦ o ])
@@ -45,12 +46,14 @@ abbrev pub as-rule : ℕ → Option Production → Option Production
 as-rule r none = none
 as-rule r (some p) = some (record { head = r; tail = p .tail })
 
-by-rule-other : (r s : ℕ) (o : Option Production) (ps : List Production) → (r ≡ s → ⊥) → production-of s (by-rule r o ps) ≡ production-of s ps
+by-rule-other : (r s : ℕ) (o : Option Production) (ps : List Production) → (r ≡ s → ⊥)
+    → production-of s (by-rule r o ps) ≡ production-of s ps
 unfolding by-rule production-of
 by-rule-other r s none ps h = refl
 by-rule-other r s (some p) ps h = rw (ne-eqb r s h, production-of)
 
-by-rule-same : (r : ℕ) (o : Option Production) (ps : List Production) → production-of r ps ≡ none → production-of r (by-rule r o ps) ≡ as-rule r o
+by-rule-same : (r : ℕ) (o : Option Production) (ps : List Production) → production-of r ps ≡ none
+    → production-of r (by-rule r o ps) ≡ as-rule r o
 unfolding by-rule production-of
 by-rule-same r none ps e = e
 by-rule-same r (some p) ps e = rw (eq-eqb r r refl, production-of)
@@ -61,7 +64,10 @@ unfolding fused-from
 fused-later rule rules r s ps h = go (rule .action)
   where
     go : (a : ℕ)
-        → production-of s (elim a [ zero ↦ fused-from rules (suc r) ps | suc k ↦ by-rule r (production-of k ps) (fused-from rules (suc r) ps) ])
+        → production-of s (elim a [
+          | zero ↦ fused-from rules (suc r) ps
+          | suc k ↦ by-rule r (production-of k ps) (fused-from rules (suc r) ps)
+        ])
         ≡ production-of s (fused-from rules (suc r) ps)
     go zero = refl
     go (suc k) = by-rule-other r s (production-of k ps) (fused-from rules (suc r) ps) h
@@ -84,16 +90,19 @@ unfolding fused-from production-of
 fused-earlier [] r s ps h = refl
 fused-earlier (rule ∷ rules) r s ps h = fused-later rule rules r s ps (omega arith) ∙ fused-earlier rules (suc r) s ps (omega arith)
 
-fused-at : {rules : List Rule} {i : ℕ} {rule : Rule} → RuleAt rules i rule → (r s t : ℕ) (ps : List Production) → s ≡ r + i → rule .action ≡ suc t
+fused-at : {rules : List Rule} {i : ℕ} {rule : Rule} → RuleAt rules i rule → (r s t : ℕ) (ps : List Production) → s ≡ r + i
+    → rule .action ≡ suc t
     → production-of s (fused-from rules r ps) ≡ as-rule s (production-of t ps)
 fused-at (first-rule {r = rule} {rs = rules}) r s t ps h e =
     ap (production-of s) (fused-returns rule rules r t ps e)
-    ∙ subst (λ (z : ℕ). production-of s (by-rule z (production-of t ps) (fused-from rules (suc r) ps)) ≡ as-rule s (production-of t ps)) (let same : s ≡ r = omega arith in same)
+    ∙ subst (λ (z : ℕ). production-of s (by-rule z (production-of t ps) (fused-from rules (suc r) ps)) ≡ as-rule s (production-of t ps))
+    (let same : s ≡ r = omega arith in same)
     (by-rule-same s (production-of t ps) (fused-from rules (suc r) ps) (fused-earlier rules (suc r) s ps (omega arith)))
 fused-at (later-rule {s = rule} {rs = rules} a) r s t ps h e =
     fused-later rule rules r s ps (omega arith) ∙ fused-at a (suc r) s t ps (omega arith) e
 
-fused-skip-at : {rules : List Rule} {i : ℕ} {rule : Rule} → RuleAt rules i rule → (r s : ℕ) (ps : List Production) → s ≡ r + i → rule .action ≡ 0
+fused-skip-at : {rules : List Rule} {i : ℕ} {rule : Rule} → RuleAt rules i rule → (r s : ℕ) (ps : List Production) → s ≡ r + i
+    → rule .action ≡ 0
     → production-of s (fused-from rules r ps) ≡ none
 fused-skip-at (first-rule {r = rule} {rs = rules}) r s ps h e =
     ap (production-of s) (fused-skips rule rules r ps e) ∙ fused-earlier rules (suc r) s ps (omega arith)
@@ -115,7 +124,8 @@ pub skipping-production : {rules : List Rule} {r : ℕ} {rule : Rule} → RuleAt
     → production-of r (fused-from rules 0 ps) ≡ none
 skipping-production {rules} {r} {rule} h e ps = fused-skip-at h 0 r ps (omega arith) e
 
-pub no-rule-production : (rules : List Rule) (r : ℕ) (ps : List Production) → length rules ≤ r → production-of r (fused-from rules 0 ps) ≡ none
+pub no-rule-production : (rules : List Rule) (r : ℕ) (ps : List Production) → length rules ≤ r
+    → production-of r (fused-from rules 0 ps) ≡ none
 no-rule-production rules r ps h = fused-past rules 0 r ps (omega arith)
 
 -- ---- where a fused production comes from
@@ -141,7 +151,8 @@ later-fused rule rules r ps p f = record {
   same-tail = f .same-tail;
 }
 
-pub fused-of : (rules : List Rule) (r : ℕ) (ps : List Production) (p : Production) → List·Memᴰ p (fused-from rules r ps) → FusedOf rules r ps p
+pub fused-of : (rules : List Rule) (r : ℕ) (ps : List Production) (p : Production) → List·Memᴰ p (fused-from rules r ps)
+    → FusedOf rules r ps p
 unfolding fused-from by-rule
 fused-of [] r ps p m = absurd (List·Memᴰ·not-nil m)
 fused-of (rule ∷ rules) r ps p m = go (λ k. later-fused rule rules r ps p (fused-of rules (suc r) ps p k)) (rule .action) refl m
@@ -199,7 +210,10 @@ fused-count (rule ∷ rules) r ps = go (rule .action) (fused-count rules (suc r)
     found (some q) h = omega arith
 
     go : (a : ℕ) → length (fused-from rules (suc r) ps) ≤ length rules
-        → length {A = Production} (elim a [ zero ↦ fused-from rules (suc r) ps | suc k ↦ by-rule r (production-of k ps) (fused-from rules (suc r) ps) ])
+        → length {A = Production} (elim a [
+          | zero ↦ fused-from rules (suc r) ps
+          | suc k ↦ by-rule r (production-of k ps) (fused-from rules (suc r) ps)
+        ])
         ≤ suc (length rules)
     go zero h = omega arith
     go (suc k) h = found (production-of k ps) h

@@ -1,35 +1,30 @@
 -- The image of a sheet that keeps the limits, whose rules match only non-empty words and whose expression has a type: it is in
 -- range, it is read back from its bytes, and its start unfolds to the rule sequences that the sheet denotes (demand 2).
-use mathlib.Core.Path.{_≡_, refl, sym, ap, subst, _∙_}
-use mathlib.Core.List.{List, [], _∷_, map, List·Memᴰ}
+use mathlib.Core.Path.{_≡_, sym, ap, subst}
+use mathlib.Core.List.{List, [], _∷_}
 use mathlib.Core.Logic.{_↔_}
-use mathlib.Core.Option.{Option, none}
-use Prim.Native.Nat.{ℕ, zero, suc, _+_, _^_, _≤_, _<_}
+use mathlib.Core.Option.{none}
+use Prim.Native.Nat.{ℕ, _^_, _<_}
 use native.Mathlib.Omega.{arith}
 use lib.ListN.{length, length-map}
 use Rattle.stage0_laws.specs.Lists.{All}
-use Rattle.stage1_sheet.specs.Limits.{most-rules, most-expression-nodes}
 use Rattle.stage1_sheet.specs.Expression.{Expression, size}
-use Rattle.stage1_sheet.specs.Sheet.{Rule, Sheet}
+use Rattle.stage1_sheet.specs.Sheet.{Sheet}
 use Rattle.stage1_sheet.specs.WellFormed.{WithinLimits, Closed}
 use Rattle.stage1_sheet.specs.Field.{got}
-use Rattle.stage2_types.specs.Denotation.{Denotes}
 use Rattle.stage2_types.specs.Types.{LanguageType, _⊢_∶_}
-use Rattle.stage3_normal_form.specs.Productions.{Production, Row, row-of}
+use Rattle.stage3_normal_form.specs.Productions.{Production, row-of}
 use Rattle.stage3_normal_form.specs.NormalForm.{normal-form}
 use Rattle.stage3_normal_form.specs.NormalFormLaws.{normal-form-length, normal-form-fits}
 use Rattle.stage3_normal_form.specs.Expansion.{normalization-sound}
-use Rattle.stage3_normal_form.specs.Pending.{Fits}
 use Rattle.stage3_normal_form.specs.Tails.{sequence-count-bound, normal-form-in-range, tails-at-most}
-use Rattle.stage4_lexer.specs.Positions.{Position, positions, first-positions, empty-match}
-use Rattle.stage4_lexer.specs.PositionBounds.{PositionsInRange, ByteClass, positions-in-range}
-use Rattle.stage5_image.specs.Fusion.{fused}
-use Rattle.stage5_image.specs.Image.{Image, image-of, image-bytes, skips-rule}
+use Rattle.stage4_lexer.specs.Positions.{Position, positions, empty-match}
+use Rattle.stage4_lexer.specs.PositionBounds.{ByteClass, positions-in-range}
+use Rattle.stage5_image.specs.Image.{image-of, image-bytes, skips-rule}
 use Rattle.stage5_image.specs.ImageRanges.{PositionInRange, InRange}
-use Rattle.stage5_image.specs.ImageReading.{most-tail, read-image}
+use Rattle.stage5_image.specs.ImageReading.{read-image}
 use Rattle.stage5_image.specs.ImageRoundTrip.{read-back}
 use Rattle.stage5_image.specs.Members.{all-member}
-use Rattle.stage5_image.specs.Numbering.{tail-members, numbered}
 use Rattle.stage5_image.specs.NumberingLaws.{TailsInside, of-tail-members}
 use Rattle.stage5_image.specs.RowRanges.{TailsShort, rows-in-range, some-image-rows, image-row-count}
 use Rattle.stage5_image.specs.Unfolding.{StartUnfolds, DenotedRules}
@@ -65,13 +60,17 @@ image-denotes s c d ks =
 
 -- ---- ranges
 
-position-ranges : (rules count : ℕ) (ps : List Position) → All ByteClass ps → All (λ p. p .rule < rules) ps → All (λ p. p .follow < 2 ^ count) ps
+position-ranges : (rules count : ℕ) (ps : List Position) → All ByteClass ps → All (λ p. p .rule < rules) ps
+    → All (λ p. p .follow < 2 ^ count) ps
     → All (PositionInRange rules count) ps
 position-ranges rules count [] b r f = tt
-position-ranges rules count (p ∷ ps) b r f =
-    (record { low-high = b .0 .0; high-byte = b .0 .1; rule-below = r .0; follow-below = f .0 }, position-ranges rules count ps (b .1) (r .1) (f .1))
+position-ranges rules count (p ∷ ps) b r f = (
+  record { low-high = b .0 .0; high-byte = b .0 .1; rule-below = r .0; follow-below = f .0 },
+  position-ranges rules count ps (b .1) (r .1) (f .1),
+)
 
-pub image-in-range : (s : Sheet) {a : LanguageType} → WithinLimits s → empty-match (s .rules) 0 ≡ none → [] ⊢ s .expression ∶ a → InRange (image-of s)
+pub image-in-range : (s : Sheet) {a : LanguageType} → WithinLimits s → empty-match (s .rules) 0 ≡ none → [] ⊢ s .expression ∶ a
+    → InRange (image-of s)
 unfolding image-of
 image-in-range s w m d =
     let e = s .expression in
@@ -88,7 +87,8 @@ image-in-range s w m d =
       some-positions = p .count-least;
       position-count = p .count-most;
       positions-in-range = subst (λ (r : ℕ). All (PositionInRange r (length (positions (s .rules)))) (positions (s .rules))) (sym l)
-          (position-ranges (length (s .rules)) (length (positions (s .rules))) (positions (s .rules)) (p .byte-classes) (p .rules-under) (p .follows-under));
+          (position-ranges (length (s .rules)) (length (positions (s .rules))) (positions (s .rules)) (p .byte-classes) (p .rules-under)
+          (p .follows-under));
       never-falling = p .rules-rising;
       first-below = p .first-under;
       some-rows = some-image-rows (s .rules) (normal-form e) inside (normal-form-some e) short rm;

@@ -1,7 +1,7 @@
 -- The numbers of the parts of an image, one part at a time, as the reader takes them; that they are the image's numbers.
 use mathlib.Core.Path.{_≡_, refl, ap}
 use mathlib.Core.Bool.{Bool}
-use mathlib.Core.List.{List, [], _∷_, _++_, map}
+use mathlib.Core.List.{List, [], _∷_, _++_}
 use Prim.Native.Nat.{ℕ}
 use lib.ListN.{length}
 use Rattle.stage3_normal_form.specs.Productions.{Production, Row}

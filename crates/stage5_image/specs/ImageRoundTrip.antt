@@ -1,12 +1,12 @@
 -- Round trip: an image in range, written as bytes, is read back as it was, to its last byte; and bytes are readable exactly if
 -- they are those of an image in range. What reading any bytes gives is said in ReadableImages.
-use mathlib.Core.Path.{_≡_, refl, sym, ap, ap₂, subst, _∙_}
+use mathlib.Core.Path.{_≡_, refl, sym, ap, subst, _∙_}
 use mathlib.Core.Bool.{Bool, true, false, not, _&&_, cond}
-use mathlib.Core.List.{List, [], _∷_, _++_, map, append-nil, append-assoc}
+use mathlib.Core.List.{List, [], _∷_, _++_}
 use mathlib.Core.Logic.{_↔_}
-use Prim.Native.Nat.{ℕ, zero, suc, _+_, _^_, _≤_, _<_}
+use Prim.Native.Nat.{ℕ, suc, _^_, _≤_, _<_}
 use native.Mathlib.Omega.{arith}
-use lib.Dec.{eqb, ltb, leb, le→leb, lt→ltb}
+use lib.Dec.{ltb, leb, le→leb, lt→ltb}
 use lib.ListN.{length, getD}
 use lib.Pow.{pow-mono}
 use borrow.Author.Tests.{eq-eqb, lt-ltb}
@@ -19,22 +19,9 @@ use Rattle.stage1_sheet.specs.FieldLaws.{Bytes, Stands, after, stands-first, st
 use Rattle.stage3_normal_form.specs.Productions.{Production, Row}
 use Rattle.stage4_lexer.specs.Positions.{Position}
 use Rattle.stage4_lexer.specs.PositionBounds.{NeverFalling}
-use Rattle.stage5_image.specs.Image.{Image, flag, flag-numbers, position-numbers, production-numbers, row-numbers, image-numbers, image-bytes}
+use Rattle.stage5_image.specs.Image.{Image, flag, flag-numbers, position-numbers, image-numbers, image-bytes}
 use Rattle.stage5_image.specs.ImageReading.{most-tail, image-field, read-flag, read-list, read-position, read-production, read-row, image-end, read-image}
-use Rattle.stage5_image.specs.ImageNumbers.{
-  all-numbers,
-  just,
-  flag-number,
-  one-position-numbers,
-  one-production-numbers,
-  one-row-numbers,
-  tail-is,
-  flags-are,
-  positions-are,
-  productions-are,
-  rows-are,
-  EachFrom,
-}
+use Rattle.stage5_image.specs.ImageNumbers.{all-numbers, just, flag-number, one-position-numbers, one-production-numbers, one-row-numbers, tail-is, flags-are, positions-are, productions-are, rows-are, EachFrom}
 use Rattle.stage5_image.specs.ReadableImages.{read-in-range, read-exact}
 use Rattle.stage5_image.specs.ImageRanges.{PositionInRange, ProductionInRange, Rising, RowInRange, InRange}
 
@@ -70,7 +57,8 @@ module _ (bytes : List ℕ) where
   many-stands numbers one update Good step [] s at mid g st = got-end [] at mid st
   many-stands numbers one update Good step (a ∷ l) s at mid g st =
       then-stands (numbers a) (all-numbers numbers l) (one s at) a at mid _ (got (a ∷ l) mid) (λ m. step s a at m (g .0)) st
-      (λ m rest. ap (λ (z : Reading _). and-then z (λ l end. got (a ∷ l) end)) (many-stands numbers one update Good step l (update s a) m mid (g .1) rest))
+      (λ m rest. ap (λ (z : Reading _). and-then z (λ l end. got (a ∷ l) end))
+      (many-stands numbers one update Good step l (update s a) m mid (g .1) rest))
 
   list-stands : {A : Type 0} (numbers : A → List ℕ) (one : ℕ → Reading A) (Good : A → Type 0)
       → ((a : A) (at mid : ℕ) → Good a → Stands bytes at (numbers a) mid → one at ≡ got a mid)
@@ -106,12 +94,14 @@ module _ (bytes : List ℕ) where
       then-field _ at (p .low) _ mid _ (got p mid) (omega arith) (between-true 0 most-byte (p .low) (omega arith) (omega arith)) s
       (λ m₁ s₁. then-field _ m₁ (p .high) _ mid _ (got p mid) (omega arith) (between-true (p .low) most-byte (p .high) lh hb) s₁
       (λ m₂ s₂. then-field _ m₂ (p .rule) _ mid _ (got p mid) (omega arith)
-      (holds-true (leb before (p .rule) && ltb (p .rule) rules) (and-both (leb before (p .rule)) (ltb (p .rule) rules) (le→leb before (p .rule) r) (lt→ltb (p .rule) rules rb))) s₂
+      (holds-true (leb before (p .rule) && ltb (p .rule) rules)
+      (and-both (leb before (p .rule)) (ltb (p .rule) rules) (le→leb before (p .rule) r) (lt→ltb (p .rule) rules rb))) s₂
       (λ m₃ s₃. then-flag m₃ (p .last) _ mid _ (got p mid) s₃
       (λ m₄ s₄. then-field _ m₄ (p .follow) [] mid _ (got p mid) (omega arith) (lt-ltb (p .follow) (2 ^ count) fb) s₄
       (λ m₅ s₅. got-end p m₅ mid s₅)))))
 
-  production-stands : (skips : List Bool) (count least : ℕ) (p : Production) (at mid : ℕ) → length skips ≤ most-rules → count ≤ most-expression-nodes
+  production-stands : (skips : List Bool) (count least : ℕ) (p : Production) (at mid : ℕ) → length skips ≤ most-rules
+      → count ≤ most-expression-nodes
       → least ≤ p .head → ProductionInRange skips count p → Stands bytes at (one-production-numbers p) mid
       → read-production bytes skips count least at ≡ got p mid
   unfolding read-production
@@ -165,18 +155,26 @@ module _ (bytes : List ℕ) where
       then-field _ 0 1 _ end _ (got i end) (omega arith) (between-true 1 1 1 (omega arith) (omega arith)) s
       (λ m₁ s₁. then-field _ m₁ R _ end _ (got i end) (omega arith) (between-true 1 most-rules R (g .some-rules) rc) s₁
       (λ m₂ s₂. then-stands (flag-numbers (i .skips)) _ (read-list (read-flag bytes) R m₂) (i .skips) m₂ end _ (got i end)
-      (λ m t. list-stands flag-number (read-flag bytes) (λ b. Unit) (λ b from to h. flag-stands from b to) (i .skips) m₂ m (all-flags (i .skips))
+      (λ m t. list-stands flag-number (read-flag bytes) (λ b. Unit) (λ b from to h. flag-stands from b to) (i .skips) m₂ m
+      (all-flags (i .skips))
       (subst (λ (l : List ℕ). Stands bytes m₂ l m) (sym (flags-are (i .skips))) t)) s₂
       (λ m₃ s₃. then-field _ m₃ P _ end _ (got i end) (omega arith) (between-true 1 most-classes P (g .some-positions) pc) s₃
-      (λ m₄ s₄. then-stands (position-numbers (i .positions)) _ (read-many (read-position bytes R P) (λ before p. p .rule) 0 P m₄) (i .positions) m₄ end _ (got i end)
-      (λ m t. many-stands one-position-numbers (read-position bytes R P) (λ before p. p .rule) (λ before p. (before ≤ p .rule) × PositionInRange R P p)
+      (λ m₄ s₄. then-stands (position-numbers (i .positions)) _ (read-many (read-position bytes R P) (λ before p. p .rule) 0 P m₄)
+      (i .positions) m₄ end _ (got i end)
+      (λ m t. many-stands one-position-numbers (read-position bytes R P) (λ before p. p .rule)
+      (λ before p. (before ≤ p .rule) × PositionInRange R P p)
       (λ before p from to h. position-stands R P before p from to rc pc (h .0) (h .1))
       (i .positions) 0 m₄ m (each 0 (i .positions) (g .never-falling) (g .positions-in-range))
       (subst (λ (l : List ℕ). Stands bytes m₄ l m) (sym (positions-are (i .positions))) t)) s₄
       (λ m₅ s₅. then-field _ m₅ (i .first) _ end _ (got i end) (omega arith) (lt-ltb (i .first) (2 ^ P) fb) s₅
       (λ m₆ s₆. then-field _ m₆ N _ end _ (got i end) (omega arith) (between-true 1 most-expression-nodes N (g .some-rows) nc) s₆
       (λ m₇ s₇.
-      ap (λ (z : Reading (List Row)). and-then z (λ rows end. image-end bytes (record { skips = i .skips; positions = i .positions; first = i .first; rows = rows }) end))
+      ap (λ (z : Reading (List Row)). and-then z (λ rows end. image-end bytes (record {
+        skips = i .skips;
+        positions = i .positions;
+        first = i .first;
+        rows = rows;
+      }) end))
       (list-stands one-row-numbers (read-row bytes (i .skips) N) (RowInRange (i .skips) N)
       (λ row from to h. row-stands (i .skips) N row from to rc nc h) (i .rows) m₇ end (g .rows-in-range)
       (subst (λ (l : List ℕ). Stands bytes m₇ l end) (sym (rows-are (i .rows))) s₇))
@@ -186,8 +184,10 @@ module _ (bytes : List ℕ) where
       all-flags [] = tt
       all-flags (b ∷ bs) = (tt, all-flags bs)
 
-      each : (before : ℕ) (ps : List Position) → NeverFalling before ps → All (PositionInRange (length (i .skips)) (length (i .positions))) ps
-          → EachFrom (λ before p. (before ≤ p .rule) × PositionInRange (length (i .skips)) (length (i .positions)) p) (λ before p. p .rule) before ps
+      each : (before : ℕ) (ps : List Position) → NeverFalling before ps
+          → All (PositionInRange (length (i .skips)) (length (i .positions))) ps
+          → EachFrom (λ before p. (before ≤ p .rule) × PositionInRange (length (i .skips)) (length (i .positions)) p)
+          (λ before p. p .rule) before ps
       each before [] r h = tt
       each before (p ∷ ps) r h = ((r .0, h .0), each (p .rule) ps (r .1) (h .1))
 
@@ -197,7 +197,8 @@ unfolding image-bytes
 read-back i g = image-stands (image-bytes i) i g (stands-whole (image-bytes i) (image-numbers i) .1 refl)
 
 -- Bytes are readable as an image exactly if they are the bytes of an image in range.
-pub readable-iff : (bytes : List ℕ) → Bytes bytes → (i : Image) → (read-image bytes ≡ got i (length bytes)) ↔ (InRange i × (bytes ≡ image-bytes i))
+pub readable-iff : (bytes : List ℕ) → Bytes bytes → (i : Image)
+    → (read-image bytes ≡ got i (length bytes)) ↔ (InRange i × (bytes ≡ image-bytes i))
 readable-iff bytes b i = (
   λ e. (read-in-range bytes i (length bytes) e .0, read-exact bytes b i (length bytes) e),
   λ g. subst (λ (l : List ℕ). read-image l ≡ got i (length l)) (sym (g .1)) (read-back i (g .0)),

@@ -9,6 +9,8 @@ pub mod Compile
 pub mod Computing
 pub mod ImageRanges
 pub mod FusionLaws
+pub mod MetNodes
+pub mod DistinctNodes
 pub mod NumberingLaws
 pub mod Members
 pub mod Simulation
@@ -18,4 +20,6 @@ pub mod ReadableImages
 pub mod ImageRoundTrip
 pub mod RowRanges
 pub mod ImageLaws
+pub mod ImageLength
 pub mod CompileLaws
+pub mod CompileQuestions

@@ -1,6 +1,6 @@
 -- What holds of every member of a list: by membership, of joined lists and of mapped ones. Laws of lists in general.
-use mathlib.Core.Path.{_≡_, refl, sym, ap, subst}
-use mathlib.Core.List.{List, [], _∷_, _++_, map, List·Memᴰ, List·Memᴰ·head, List·Memᴰ·tail, List·Memᴰ·not-nil, List·Memᴰ·cases-cons, Memᴰ·of-map}
+use mathlib.Core.Path.{refl, sym, subst}
+use mathlib.Core.List.{List, [], _∷_, _++_, map, flatMap, List·Memᴰ, List·Memᴰ·head, List·Memᴰ·tail, List·Memᴰ·not-nil, List·Memᴰ·cases-cons, List·Memᴰ·append-cases}
 use mathlib.Core.Logic.{⊎-elim}
 use Prim.Native.Nat.{ℕ, zero, suc, _<_}
 use native.Mathlib.Omega.{arith}
@@ -36,3 +36,12 @@ pub member-at : {A : Type 0} (l : List A) (i : ℕ) (d : A) → i < length l →
 member-at [] i d h = absurd (not-suc-le-zero h)
 member-at (a ∷ l) zero d h = List·Memᴰ·head refl
 member-at (a ∷ l) (suc i) d h = List·Memᴰ·tail (member-at l i d (omega arith))
+
+-- A member of joined lists is a member of one of them.
+pub of-flatMap : {A B : Type 0} (f : A → List B) (l : List A) (b : B) → List·Memᴰ b (flatMap f l)
+    → (a : A) × List·Memᴰ a l × List·Memᴰ b (f a)
+unfolding flatMap
+of-flatMap f [] b m = absurd (List·Memᴰ·not-nil m)
+of-flatMap f (a ∷ l) b m =
+    ⊎-elim (λ k. (a, List·Memᴰ·head refl, k)) (λ k. let r = of-flatMap f l b k in (r .0, List·Memᴰ·tail (r .1), r .2))
+    (List·Memᴰ·append-cases (f a) m)

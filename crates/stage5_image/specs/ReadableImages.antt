@@ -1,59 +1,28 @@
 -- What reading bytes as an image gives: an image in range whose numbers are those bytes, with nothing after; or 13 at a place
 -- within the bytes or at their end.
-use mathlib.Core.Path.{_≡_, refl, sym, ap, ap₂, subst, subst₂, _∙_}
+use mathlib.Core.Path.{_≡_, refl, sym, ap, subst, subst₂, _∙_}
 use mathlib.Core.Bool.{Bool, true, false, not, _&&_, cond}
-use mathlib.Core.List.{List, [], _∷_, _++_, append-nil, append-assoc}
-use mathlib.Core.Logic.{_↔_}
+use mathlib.Core.List.{List, [], _∷_, _++_}
 use Prim.Native.Nat.{ℕ, zero, suc, _+_, _^_, _≤_, _<_}
 use native.Mathlib.Omega.{arith}
-use lib.Dec.{eqb, ltb, leb, leb→le, ltb→lt}
+use lib.Dec.{eqb, ltb, leb, leb→le}
 use lib.ListN.{length, getD}
 use borrow.Author.Tests.{eqb-true, ltb-true}
 use Rattle.stage0_laws.specs.Lists.{All}
 use Rattle.stage0_laws.specs.Truth.{true-holds, and-true-first, and-true-second}
 use Rattle.stage0_number.specs.Number.{decode}
-use Rattle.stage0_number.specs.Laws.{Within, decode-within}
+use Rattle.stage0_number.specs.Laws.{decode-within}
 use Rattle.stage0_number.specs.declared.Number.{Number}
 use Rattle.stage0_number.specs.declared.Number.the-variants.{Read, Refused}
 use Rattle.stage1_sheet.specs.Limits.{most-rules, most-classes, most-expression-nodes, most-byte}
-use Rattle.stage1_sheet.specs.Spelling.{spell}
-use Rattle.stage1_sheet.specs.Field.{Reading, stop, got, and-then, between, field-of, read-field, read-many}
-use Rattle.stage1_sheet.specs.FieldLaws.{
-  Bytes,
-  Stands,
-  stands-none,
-  stands-append,
-  stands-whole,
-  Outcome,
-  refused,
-  accepted,
-  then-outcome,
-  outcome-imply,
-  outcome-got,
-  outcome-stop,
-  FieldRead,
-  field-outcome,
-  true-between,
-}
-use Rattle.stage3_normal_form.specs.Productions.{Production, Row}
+use Rattle.stage1_sheet.specs.Field.{Reading, stop, got, between, field-of, read-field, read-many}
+use Rattle.stage1_sheet.specs.FieldLaws.{Bytes, Stands, stands-none, stands-append, stands-whole, Outcome, refused, accepted, then-outcome, outcome-imply, outcome-got, outcome-stop, field-outcome, true-between}
+use Rattle.stage3_normal_form.specs.Productions.{Production}
 use Rattle.stage4_lexer.specs.Positions.{Position}
 use Rattle.stage4_lexer.specs.PositionBounds.{NeverFalling}
-use Rattle.stage5_image.specs.Image.{Image, flag, flag-numbers, position-numbers, production-numbers, row-numbers, image-numbers, image-bytes}
+use Rattle.stage5_image.specs.Image.{Image, flag, image-numbers, image-bytes}
 use Rattle.stage5_image.specs.ImageReading.{most-tail, image-field, read-flag, read-list, read-position, read-production, read-row, image-end, read-image}
-use Rattle.stage5_image.specs.ImageNumbers.{
-  all-numbers,
-  just,
-  flag-number,
-  one-position-numbers,
-  one-production-numbers,
-  one-row-numbers,
-  tail-is,
-  flags-are,
-  positions-are,
-  productions-are,
-  rows-are,
-  EachFrom,
-}
+use Rattle.stage5_image.specs.ImageNumbers.{all-numbers, just, flag-number, one-position-numbers, one-production-numbers, one-row-numbers, tail-is, flags-are, positions-are, productions-are, rows-are, EachFrom}
 use Rattle.stage5_image.specs.ImageRanges.{PositionInRange, ProductionInRange, Rising, RowInRange, InRange}
 
 -- Numbers were read from a place on: their end lies within the bytes, and if these are bytes, the numbers stand there.
@@ -79,13 +48,6 @@ module _ (bytes : List ℕ) where
   taken-as : {ms ns : List ℕ} {at end : ℕ} → ms ≡ ns → Taken bytes at ms end → Taken bytes at ns end
   taken-as {ms} {ns} {at} {end} e t = subst (λ (l : List ℕ). Taken bytes at l end) e t
 
-  -- Going on with what was given.
-  then-gives : {A B : Type 0} (Good : A → Type 0) (numbers : A → List ℕ) (at : ℕ) (r : Reading A) (next : A → ℕ → Reading B) (Q : B → ℕ → Type 0)
-      → Gives Good numbers at r → ((a : A) (mid : ℕ) → Good a → Taken bytes at (numbers a) mid → Outcome (Refusal bytes) Q (next a mid))
-      → Outcome (Refusal bytes) Q (and-then r next)
-  then-gives Good numbers at r next Q h k =
-      then-outcome h (λ a mid g. k a mid (g .0) (g .1))
-
   field-gives : (allowed : ℕ → Bool) (at : ℕ) → at ≤ length bytes → Gives (λ v. allowed v ≡ true) just at (image-field allowed bytes at)
   unfolding image-field read-field field-of
   field-gives allowed at h = go (decode bytes at) refl
@@ -100,7 +62,8 @@ module _ (bytes : List ℕ) where
         a,
         record {
           inside = decode-within bytes at e .inside;
-          stands = λ b. stands v (at + used) b (ap (field-of 13 13 allowed at) e ∙ ap (λ (c : Bool). cond c (got v (at + used)) (stop 13 at)) a);
+          stands = λ b.
+              stands v (at + used) b (ap (field-of 13 13 allowed at) e ∙ ap (λ (c : Bool). cond c (got v (at + used)) (stop 13 at)) a);
         },
       )
       chosen v used e false a = refused 13 at (refl, h)
@@ -109,11 +72,11 @@ module _ (bytes : List ℕ) where
       go Refused e = refused 13 at (refl, h)
       go (Read v used) e = chosen v used e (allowed v) refl
 
-  flag-gives : (at : ℕ) → at ≤ length bytes → Gives (λ (b : Bool). Unit {0}) flag-number at (read-flag bytes at)
+  flag-gives : (at : ℕ) → at ≤ length bytes → Gives (λ b. Unit {0}) flag-number at (read-flag bytes at)
   unfolding read-flag flag
   flag-gives at h =
-      then-gives (λ v. between 0 1 v ≡ true) just at (image-field (between 0 1) bytes at) _ (λ b end. Unit {0} × Taken bytes at (flag-number b) end) (field-gives (between 0 1) at h)
-      (λ v mid a t. accepted (eqb v 1) mid (tt, taken-as (ap (λ (n : ℕ). n ∷ []) (same v (true-between 0 1 v a .1))) t))
+      then-outcome (field-gives (between 0 1) at h)
+      (λ v mid g. accepted (eqb v 1) mid (tt, taken-as (ap just (same v (true-between 0 1 v (g .0) .1))) (g .1)))
     where
       same : (v : ℕ) → v ≤ 1 → v ≡ flag (eqb v 1)
       same zero h = refl
@@ -127,13 +90,12 @@ module _ (bytes : List ℕ) where
   unfolding read-many
   many-gives Good numbers one update step zero s at h = accepted [] at ((refl, tt), taken-none at h)
   many-gives Good numbers one update step (suc n) s at h =
-      then-gives (Good s) numbers at (one s at) _ (λ l end. ((length l ≡ suc n) × EachFrom Good update s l) × Taken bytes at (all-numbers numbers l) end) (step s at h)
-      (λ a mid g t. then-gives (λ l. (length l ≡ n) × EachFrom Good update (update s a) l) (all-numbers numbers) mid (read-many one update (update s a) n mid) _
-      (λ l end. ((length l ≡ suc n) × EachFrom Good update s l) × Taken bytes at (all-numbers numbers l) end)
-      (many-gives Good numbers one update step n (update s a) mid (t .inside))
-      (λ l end gs ts. accepted (a ∷ l) end ((ap suc (gs .0), (g, gs .1)), taken-append t ts)))
+      then-outcome (step s at h)
+      (λ a mid g. then-outcome (many-gives Good numbers one update step n (update s a) mid (g .1 .inside))
+      (λ l end gs. accepted (a ∷ l) end ((ap suc (gs .0 .0), (g .0, gs .0 .1)), taken-append (g .1) (gs .1))))
 
-  list-gives : {A : Type 0} (Good : A → Type 0) (numbers : A → List ℕ) (one : ℕ → Reading A) → ((at : ℕ) → at ≤ length bytes → Gives Good numbers at (one at))
+  list-gives : {A : Type 0} (Good : A → Type 0) (numbers : A → List ℕ) (one : ℕ → Reading A)
+      → ((at : ℕ) → at ≤ length bytes → Gives Good numbers at (one at))
       → (n at : ℕ) → at ≤ length bytes → Gives (λ l. (length l ≡ n) × All Good l) (all-numbers numbers) at (read-list one n at)
   unfolding read-list
   list-gives Good numbers one step n at h =
@@ -144,62 +106,65 @@ module _ (bytes : List ℕ) where
       each [] g = tt
       each (a ∷ l) g = (g .0, each l (g .1))
 
-  -- One number, and then the rest.
-  then-field : {B : Type 0} (allowed : ℕ → Bool) (at : ℕ) (next : ℕ → ℕ → Reading B) (Q : B → ℕ → Type 0) → at ≤ length bytes
-      → ((v mid : ℕ) → allowed v ≡ true → Taken bytes at (v ∷ []) mid → Outcome (Refusal bytes) Q (next v mid))
-      → Outcome (Refusal bytes) Q (and-then (image-field allowed bytes at) next)
-  then-field allowed at next Q h k = then-gives (λ v. allowed v ≡ true) just at (image-field allowed bytes at) next Q (field-gives allowed at h) k
+  -- ---- positions
+
+  abbrev GoodPosition : ℕ → ℕ → ℕ → Position → Type 0
+  GoodPosition rules count before p = (before ≤ p .rule) × PositionInRange rules count p
 
   position-gives : (rules count before at : ℕ) → at ≤ length bytes
-      → Gives (λ p. (before ≤ p .rule) × PositionInRange rules count p) one-position-numbers at (read-position bytes rules count before at)
+      → Gives (GoodPosition rules count before) one-position-numbers at (read-position bytes rules count before at)
   unfolding read-position
   position-gives rules count before at h =
-      let Q : Position → ℕ → Type 0 = λ p end. ((before ≤ p .rule) × PositionInRange rules count p) × Taken bytes at (one-position-numbers p) end in
-      then-field _ at _ Q h
-      (λ low m₁ a₁ t₁. then-field _ m₁ _ Q (t₁ .inside)
-      (λ high m₂ a₂ t₂. then-field _ m₂ _ Q (t₂ .inside)
-      (λ rule m₃ a₃ t₃. then-gives (λ b. Unit {0}) flag-number m₃ (read-flag bytes m₃) _ Q (flag-gives m₃ (t₃ .inside))
-      (λ last m₄ a₄ t₄. then-field _ m₄ _ Q (t₄ .inside)
-      (λ follow m₅ a₅ t₅.
-      let range = true-between low most-byte high a₂ in
+      then-outcome (field-gives _ at h)
+      (λ low m₁ g₁. then-outcome (field-gives _ m₁ (g₁ .1 .inside))
+      (λ high m₂ g₂. then-outcome (field-gives _ m₂ (g₂ .1 .inside))
+      (λ rule m₃ g₃. then-outcome (flag-gives m₃ (g₃ .1 .inside))
+      (λ last m₄ g₄. then-outcome (field-gives _ m₄ (g₄ .1 .inside))
+      (λ follow m₅ g₅.
+      let range = true-between low most-byte high (g₂ .0) in
+      let rising = leb→le before rule (true-holds (leb before rule) (and-true-first (leb before rule) (ltb rule rules) (g₃ .0))) in
       accepted _ m₅ (
         (
-          leb→le before rule (true-holds (leb before rule) (and-true-first (leb before rule) (ltb rule rules) a₃)),
+          rising,
           record {
             low-high = range .0;
             high-byte = range .1;
-            rule-below = ltb-true rule rules (and-true-second (leb before rule) (ltb rule rules) a₃);
-            follow-below = ltb-true follow (2 ^ count) a₅;
+            rule-below = ltb-true rule rules (and-true-second (leb before rule) (ltb rule rules) (g₃ .0));
+            follow-below = ltb-true follow (2 ^ count) (g₅ .0);
           },
         ),
-        taken-append t₁ (taken-append t₂ (taken-append t₃ (taken-append t₄ t₅))),
+        taken-append (g₁ .1) (taken-append (g₂ .1) (taken-append (g₃ .1) (taken-append (g₄ .1) (g₅ .1)))),
       ))))))
 
+  -- ---- productions and rows
+
+  abbrev GoodProduction : List Bool → ℕ → ℕ → Production → Type 0
+  GoodProduction skips count least p = (least ≤ p .head) × ProductionInRange skips count p
+
   production-gives : (skips : List Bool) (count least at : ℕ) → at ≤ length bytes
-      → Gives (λ p. (least ≤ p .head) × ProductionInRange skips count p) one-production-numbers at (read-production bytes skips count least at)
+      → Gives (GoodProduction skips count least) one-production-numbers at (read-production bytes skips count least at)
   unfolding read-production
   production-gives skips count least at h =
-      let Q : Production → ℕ → Type 0 = λ p end. ((least ≤ p .head) × ProductionInRange skips count p) × Taken bytes at (one-production-numbers p) end in
-      then-field _ at _ Q h
-      (λ rule m₁ a₁ t₁. then-field _ m₁ _ Q (t₁ .inside)
-      (λ size m₂ a₂ t₂. then-gives (λ l. (length l ≡ size) × All (λ n. ltb n count ≡ true) l) (all-numbers just) m₂
-      (read-list (image-field (λ v. ltb v count) bytes) size m₂) _ Q
-      (list-gives (λ n. ltb n count ≡ true) just (image-field (λ v. ltb v count) bytes) (field-gives (λ v. ltb v count)) size m₂ (t₂ .inside))
-      (λ tail m₃ g t₃.
-      let below = and-true-second (leb least rule) (ltb rule (length skips) && not (getD skips rule true)) a₁ in
-      let short : size ≤ most-tail = true-between 0 most-tail size a₂ .1 in
-      let same = g .0 in
+      then-outcome (field-gives _ at h)
+      (λ rule m₁ g₁. then-outcome (field-gives _ m₁ (g₁ .1 .inside))
+      (λ size m₂ g₂. then-outcome (list-gives (λ n. ltb n count ≡ true) just _ (field-gives _) size m₂ (g₂ .1 .inside))
+      (λ tail m₃ g₃.
+      let inside = ltb rule (length skips) && not (getD skips rule true) in
+      let below : (ltb rule (length skips) && not (getD skips rule true)) ≡ true = and-true-second (leb least rule) inside (g₁ .0) in
+      let rising = leb→le least rule (true-holds (leb least rule) (and-true-first (leb least rule) inside (g₁ .0))) in
+      let short : size ≤ most-tail = true-between 0 most-tail size (g₂ .0) .1 in
+      let same = g₃ .0 .0 in
       accepted _ m₃ (
         (
-          leb→le least rule (true-holds (leb least rule) (and-true-first (leb least rule) (ltb rule (length skips) && not (getD skips rule true)) a₁)),
+          rising,
           record {
             rule-below = ltb-true rule (length skips) (and-true-first (ltb rule (length skips)) (not (getD skips rule true)) below);
             not-skipping = negated (getD skips rule true) (and-true-second (ltb rule (length skips)) (not (getD skips rule true)) below);
             tail-length = omega arith;
-            members-below = each tail (g .1);
+            members-below = each tail (g₃ .0 .1);
           },
         ),
-        taken-append t₁ (taken-append (taken-as (ap just (sym same)) t₂) (taken-as (tail-is tail) t₃)),
+        taken-append (g₁ .1) (taken-append (taken-as (ap just (sym same)) (g₂ .1)) (taken-as (tail-is tail) (g₃ .1))),
       ))))
     where
       negated : (b : Bool) → not b ≡ true → b ≡ false
@@ -210,33 +175,31 @@ module _ (bytes : List ℕ) where
       each [] g = tt
       each (n ∷ l) g = (ltb-true n count (g .0), each l (g .1))
 
-  row-gives : (skips : List Bool) (count at : ℕ) → at ≤ length bytes → Gives (RowInRange skips count) one-row-numbers at (read-row bytes skips count at)
+  row-gives : (skips : List Bool) (count at : ℕ) → at ≤ length bytes
+      → Gives (RowInRange skips count) one-row-numbers at (read-row bytes skips count at)
   unfolding read-row
   row-gives skips count at h =
-      let Q : Row → ℕ → Type 0 = λ r end. RowInRange skips count r × Taken bytes at (one-row-numbers r) end in
-      let Good : ℕ → Production → Type 0 = λ least p. (least ≤ p .head) × ProductionInRange skips count p in
-      then-gives (λ b. Unit {0}) flag-number at (read-flag bytes at) _ Q (flag-gives at h)
-      (λ empty m₁ a₁ t₁. then-field _ m₁ _ Q (t₁ .inside)
-      (λ size m₂ a₂ t₂. then-gives (λ l. (length l ≡ size) × EachFrom Good (λ least p. suc (p .head)) 0 l) (all-numbers one-production-numbers) m₂
-      (read-many (read-production bytes skips count) (λ least p. suc (p .head)) 0 size m₂) _ Q
-      (many-gives Good one-production-numbers (read-production bytes skips count) (λ least p. suc (p .head)) (production-gives skips count) size 0 m₂ (t₂ .inside))
-      (λ ps m₃ g t₃.
-      let few : size ≤ most-rules = true-between 0 most-rules size a₂ .1 in
-      let same = g .0 in
+      then-outcome (flag-gives at h)
+      (λ empty m₁ g₁. then-outcome (field-gives _ m₁ (g₁ .1 .inside))
+      (λ size m₂ g₂. then-outcome (many-gives (GoodProduction skips count) one-production-numbers _ _ (production-gives skips count) size 0 m₂ (g₂ .1 .inside))
+      (λ ps m₃ g₃.
+      let few : size ≤ most-rules = true-between 0 most-rules size (g₂ .0) .1 in
+      let same = g₃ .0 .0 in
       accepted _ m₃ (
-        record { production-count = omega arith; productions-in-range = ranges 0 ps (g .1); rising = rises 0 ps (g .1) },
-        taken-append t₁ (taken-append (taken-as (ap just (sym same)) t₂) (taken-as (productions-are ps) t₃)),
+        record { production-count = omega arith; productions-in-range = ranges 0 ps (g₃ .0 .1); rising = rises 0 ps (g₃ .0 .1) },
+        taken-append (g₁ .1) (taken-append (taken-as (ap just (sym same)) (g₂ .1)) (taken-as (productions-are ps) (g₃ .1))),
       ))))
     where
-      ranges : (least : ℕ) (ps : List Production)
-          → EachFrom (λ least p. (least ≤ p .head) × ProductionInRange skips count p) (λ least p. suc (p .head)) least ps → All (ProductionInRange skips count) ps
+      ranges : (least : ℕ) (ps : List Production) → EachFrom (GoodProduction skips count) (λ least p. suc (p .head)) least ps
+          → All (ProductionInRange skips count) ps
       ranges least [] g = tt
       ranges least (p ∷ ps) g = (g .0 .1, ranges (suc (p .head)) ps (g .1))
 
-      rises : (least : ℕ) (ps : List Production)
-          → EachFrom (λ least p. (least ≤ p .head) × ProductionInRange skips count p) (λ least p. suc (p .head)) least ps → Rising least ps
+      rises : (least : ℕ) (ps : List Production) → EachFrom (GoodProduction skips count) (λ least p. suc (p .head)) least ps → Rising least ps
       rises least [] g = tt
       rises least (p ∷ ps) g = (g .0 .0, rises (suc (p .head)) ps (g .1))
+
+  -- ---- the image
 
   -- What a readable image is: in range, to the last byte, and its numbers are the bytes.
   record Readable (i : Image) (end : ℕ) : Type 0 where
@@ -253,56 +216,52 @@ module _ (bytes : List ℕ) where
       go true e = accepted i end (record { in-range = g; whole = eqb-true end (length bytes) e; taken = t })
       go false e = refused 13 end (refl, t .inside)
 
-  position-ranges : (R P before : ℕ) (ps : List Position)
-      → EachFrom (λ before p. (before ≤ p .rule) × PositionInRange R P p) (λ before p. p .rule) before ps → All (PositionInRange R P) ps
+  position-ranges : (R P before : ℕ) (ps : List Position) → EachFrom (GoodPosition R P) (λ before p. p .rule) before ps
+      → All (PositionInRange R P) ps
   position-ranges R P before [] g = tt
   position-ranges R P before (p ∷ ps) g = (g .0 .1, position-ranges R P (p .rule) ps (g .1))
 
-  position-rules : (R P before : ℕ) (ps : List Position)
-      → EachFrom (λ before p. (before ≤ p .rule) × PositionInRange R P p) (λ before p. p .rule) before ps → NeverFalling before ps
+  position-rules : (R P before : ℕ) (ps : List Position) → EachFrom (GoodPosition R P) (λ before p. p .rule) before ps → NeverFalling before ps
   position-rules R P before [] g = tt
   position-rules R P before (p ∷ ps) g = (g .0 .0, position-rules R P (p .rule) ps (g .1))
 
   image-gives : Outcome (Refusal bytes) Readable (read-image bytes)
   unfolding read-image image-numbers
   image-gives =
-      then-field _ 0 _ Readable (omega arith)
-      (λ version m₁ a₁ t₁. then-field _ m₁ _ Readable (t₁ .inside)
-      (λ R m₂ a₂ t₂. then-gives (λ l. (length l ≡ R) × All (λ b. Unit {0}) l) (all-numbers flag-number) m₂ (read-list (read-flag bytes) R m₂) _ Readable
-      (list-gives (λ b. Unit {0}) flag-number (read-flag bytes) flag-gives R m₂ (t₂ .inside))
-      (λ skips m₃ g₃ t₃. then-field _ m₃ _ Readable (t₃ .inside)
-      (λ P m₄ a₄ t₄. then-gives (λ l. (length l ≡ P) × EachFrom (λ before p. (before ≤ p .rule) × PositionInRange R P p) (λ before p. p .rule) 0 l)
-      (all-numbers one-position-numbers) m₄ (read-many (read-position bytes R P) (λ before p. p .rule) 0 P m₄) _ Readable
-      (many-gives (λ before p. (before ≤ p .rule) × PositionInRange R P p) one-position-numbers (read-position bytes R P) (λ before p. p .rule) (position-gives R P) P 0 m₄ (t₄ .inside))
-      (λ ps m₅ g₅ t₅. then-field _ m₅ _ Readable (t₅ .inside)
-      (λ first m₆ a₆ t₆. then-field _ m₆ _ Readable (t₆ .inside)
-      (λ N m₇ a₇ t₇. then-gives (λ l. (length l ≡ N) × All (RowInRange skips N) l) (all-numbers one-row-numbers) m₇ (read-list (read-row bytes skips N) N m₇) _ Readable
-      (list-gives (RowInRange skips N) one-row-numbers (read-row bytes skips N) (row-gives skips N) N m₇ (t₇ .inside))
-      (λ rows m₈ g₈ t₈.
-      let one = true-between 1 1 version a₁ in
-      let rules = true-between 1 most-rules R a₂ in
-      let positions = true-between 1 most-classes P a₄ in
-      let nonterminals = true-between 1 most-expression-nodes N a₇ in
-      let same-R : R ≡ length skips = sym (g₃ .0) in
-      let same-P : P ≡ length ps = sym (g₅ .0) in
-      let same-N : N ≡ length rows = sym (g₈ .0) in
-      let first-small = ltb-true first (2 ^ P) a₆ in
+      then-outcome (field-gives _ 0 (omega arith))
+      (λ version m₁ g₁. then-outcome (field-gives _ m₁ (g₁ .1 .inside))
+      (λ R m₂ g₂. then-outcome (list-gives (λ b. Unit {0}) flag-number _ flag-gives R m₂ (g₂ .1 .inside))
+      (λ skips m₃ g₃. then-outcome (field-gives _ m₃ (g₃ .1 .inside))
+      (λ P m₄ g₄. then-outcome (many-gives (GoodPosition R P) one-position-numbers _ _ (position-gives R P) P 0 m₄ (g₄ .1 .inside))
+      (λ ps m₅ g₅. then-outcome (field-gives _ m₅ (g₅ .1 .inside))
+      (λ first m₆ g₆. then-outcome (field-gives _ m₆ (g₆ .1 .inside))
+      (λ N m₇ g₇. then-outcome (list-gives (RowInRange skips N) one-row-numbers _ (row-gives skips N) N m₇ (g₇ .1 .inside))
+      (λ rows m₈ g₈.
+      let one = true-between 1 1 version (g₁ .0) in
+      let rules = true-between 1 most-rules R (g₂ .0) in
+      let positions = true-between 1 most-classes P (g₄ .0) in
+      let nonterminals = true-between 1 most-expression-nodes N (g₇ .0) in
+      let same-R : R ≡ length skips = sym (g₃ .0 .0) in
+      let same-P : P ≡ length ps = sym (g₅ .0 .0) in
+      let same-N : N ≡ length rows = sym (g₈ .0 .0) in
+      let first-small = ltb-true first (2 ^ P) (g₆ .0) in
       ended (record { skips = skips; positions = ps; first = first; rows = rows }) m₈
       (record {
         some-rules = omega arith;
         rule-count = omega arith;
         some-positions = omega arith;
         position-count = omega arith;
-        positions-in-range = subst₂ (λ (r p : ℕ). All (PositionInRange r p) ps) same-R same-P (position-ranges R P 0 ps (g₅ .1));
-        never-falling = position-rules R P 0 ps (g₅ .1);
+        positions-in-range = subst₂ (λ (r p : ℕ). All (PositionInRange r p) ps) same-R same-P (position-ranges R P 0 ps (g₅ .0 .1));
+        never-falling = position-rules R P 0 ps (g₅ .0 .1);
         first-below = subst (λ (p : ℕ). first < 2 ^ p) same-P first-small;
         some-rows = omega arith;
         row-count = omega arith;
-        rows-in-range = subst (λ (n : ℕ). All (RowInRange skips n) rows) same-N (g₈ .1);
+        rows-in-range = subst (λ (n : ℕ). All (RowInRange skips n) rows) same-N (g₈ .0 .1);
       })
-      (taken-append (taken-as (ap just (let z : version ≡ 1 = omega arith in z)) t₁) (taken-append (taken-as (ap just same-R) t₂)
-      (taken-append (taken-as (flags-are skips) t₃) (taken-append (taken-as (ap just same-P) t₄) (taken-append (taken-as (positions-are ps) t₅)
-      (taken-append t₆ (taken-append (taken-as (ap just same-N) t₇) (taken-as (rows-are rows) t₈))))))))))))))))
+      (taken-append (taken-as (ap just (let z : version ≡ 1 = omega arith in z)) (g₁ .1)) (taken-append (taken-as (ap just same-R) (g₂ .1))
+      (taken-append (taken-as (flags-are skips) (g₃ .1)) (taken-append (taken-as (ap just same-P) (g₄ .1))
+      (taken-append (taken-as (positions-are ps) (g₅ .1)) (taken-append (g₆ .1)
+      (taken-append (taken-as (ap just same-N) (g₇ .1)) (taken-as (rows-are rows) (g₈ .1)))))))))))))))))
 
 -- Whatever is read as an image is in range, and reading ends at the last byte.
 pub read-in-range : (bytes : List ℕ) (i : Image) (end : ℕ) → read-image bytes ≡ got i end → InRange i × (end ≡ length bytes)

@@ -1,16 +1,13 @@
 -- The rows that fusion, reaching and numbering make are in range, for any rows by token whose tails are short and inside.
 use mathlib.Core.Path.{_≡_, refl, sym, ap, subst, _∙_}
-use mathlib.Core.Bool.{Bool, true, false}
-use mathlib.Core.List.{List, [], _∷_, map, List·Memᴰ, List·Memᴰ·not-nil, List·Memᴰ·cases-cons}
-use mathlib.Core.Logic.{⊎-elim}
-use Prim.Native.Nat.{ℕ, zero, suc, _+_, _≤_, _<_}
+use mathlib.Core.Bool.{true, false}
+use mathlib.Core.List.{List, [], _∷_, map, List·Memᴰ}
+use Prim.Native.Nat.{ℕ, suc, _≤_, _<_}
 use native.Mathlib.Omega.{arith}
-use lib.Dec.{eqb, eqb-refl}
 use lib.ListN.{getD, length, length-map}
 use borrow.Author.Tests.{ne-eqb}
 use Rattle.stage0_laws.specs.Lists.{All}
-use Rattle.stage0_laws.specs.Truth.{or-left, or-right}
-use Rattle.stage1_sheet.specs.Limits.{most-rules, most-expression-nodes}
+use Rattle.stage1_sheet.specs.Limits.{most-rules}
 use Rattle.stage1_sheet.specs.Sheet.{Rule}
 use Rattle.stage3_normal_form.specs.Productions.{Production, Row, row-of}
 use Rattle.stage4_lexer.specs.Words.{RuleAt, first-rule, later-rule}
@@ -20,10 +17,10 @@ use Rattle.stage5_image.specs.Image.{skips-rule}
 use Rattle.stage5_image.specs.ImageRanges.{ProductionInRange, Rising, RowInRange}
 use Rattle.stage5_image.specs.ImageReading.{most-tail}
 use Rattle.stage5_image.specs.Members.{all-of, all-member, all-map}
-use Rattle.stage5_image.specs.Numbering.{is-met, reached, number-of, renumbered, renumbered-row, numbered}
-use Rattle.stage5_image.specs.NumberingLaws.{Met, TailsInside, Reached, reached-is, numbered-count, row-at-number, met-member}
-use Rattle.stage5_image.specs.Simulation.{Simulates, image-simulates, fused-row-of, fused-inside, fused-length, reached-fused}
-use Rattle.stage5_image.specs.Unfolding.{Returns}
+use Rattle.stage5_image.specs.Numbering.{reached, number-of, renumbered, renumbered-row, numbered}
+use Rattle.stage5_image.specs.MetNodes.{Met, met-member}
+use Rattle.stage5_image.specs.NumberingLaws.{TailsInside, numbered-count, row-at-number}
+use Rattle.stage5_image.specs.Simulation.{image-simulates, fused-row-of, fused-length, reached-fused}
 
 -- Every production's tail has a length that an image can hold.
 abbrev pub TailsShort : List Row → Type 0
@@ -53,7 +50,8 @@ module _ (rules : List Rule) (rows : List Row) (inside : TailsInside rows) (some
   met = reached (fused rules rows)
 
   -- A node's productions in the image, as fusion and numbering made them.
-  made : (n : ℕ) → Met n met → (row-of image (number-of met n)) .productions ≡ map (renumbered met) (fused-from rules 0 ((row-of rows n) .productions))
+  made : (n : ℕ) → Met n met
+      → (row-of image (number-of met n)) .productions ≡ map (renumbered met) (fused-from rules 0 ((row-of rows n) .productions))
   unfolding renumbered-row fused-row
   made n t =
       ap (λ (w : Row). w .productions) (row-at-number (fused rules rows) n t)
@@ -73,7 +71,8 @@ module _ (rules : List Rule) (rows : List Row) (inside : TailsInside rows) (some
         tail-length = subst (λ (tail : List ℕ). length tail ≤ most-tail) (sym (o .3)) (omega arith);
         members-below = subst (All (λ n. n < length image)) (sym (o .3))
             (all-map (λ n. n < length image) (number-of met) (o .0 .tail)
-            (all-of (λ n. number-of met n < length image) (o .0 .tail) (λ x k. s .number-below x (all-member (λ x. Met x met) (o .0 .tail) (o .4) x k))));
+            (all-of (λ n. number-of met n < length image) (o .0 .tail)
+            (λ x k. s .number-below x (all-member (λ x. Met x met) (o .0 .tail) (o .4) x k))));
       }
 
   row-range : (n : ℕ) → Met n met → RowInRange (map skips-rule rules) (length image) (row-of image (number-of met n))
@@ -94,7 +93,8 @@ module _ (rules : List Rule) (rows : List Row) (inside : TailsInside rows) (some
       (λ n m. let t = met-member n met m in
       subst (RowInRange (map skips-rule rules) (length image)) (row-at-number (fused rules rows) n t) (row-range n t))))
     where
-      made-all : numbered (fused rules rows) ≡ map (renumbered-row (fused rules rows) (reached (fused rules rows))) (reached (fused rules rows))
+      made-all : numbered (fused rules rows)
+          ≡ map (renumbered-row (fused rules rows) (reached (fused rules rows))) (reached (fused rules rows))
       made-all = unfold numbered in refl
 
   pub some-image-rows : 1 ≤ length (numbered (fused rules rows))

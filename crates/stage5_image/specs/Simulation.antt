@@ -2,9 +2,9 @@
 -- Stated for any rows whose tail members are rows' numbers. Nothing here speaks of texts or of what is pending.
 use mathlib.Core.Path.{_≡_, refl, sym, ap, subst, _∙_}
 use mathlib.Core.Bool.{Bool, true, false}
-use mathlib.Core.List.{List, [], _∷_, _++_, map, List·Memᴰ, List·Memᴰ·not-nil, Memᴰ·cast, Memᴰ·map, Memᴰ·of-map}
+use mathlib.Core.List.{List, [], _∷_, map, List·Memᴰ, Memᴰ·of-map}
 use mathlib.Core.Option.{Option, none, some}
-use Prim.Native.Nat.{ℕ, zero, suc, _+_, _≤_, _<_}
+use Prim.Native.Nat.{ℕ, zero, suc, _+_, _<_}
 use native.Mathlib.Omega.{arith}
 use lib.Dec.{eqb}
 use lib.ListN.{getD, length, length-map, List·getD-map}
@@ -14,18 +14,9 @@ use Rattle.stage3_normal_form.specs.Productions.{Production, Row, no-production
 use Rattle.stage5_image.specs.Fusion.{production-of, by-rule, fused-from, fused-row, fused}
 use Rattle.stage5_image.specs.FusionLaws.{Found, production-found, as-rule, rule-production, FusedOf, fused-of}
 use Rattle.stage5_image.specs.Members.{all-of}
-use Rattle.stage5_image.specs.Numbering.{tail-members, reached, number-of, renumbered, renumbered-row, numbered}
-use Rattle.stage5_image.specs.NumberingLaws.{
-  Met,
-  TailsInside,
-  Reached,
-  reached-is,
-  row-at-number,
-  tail-member,
-  of-tail-members,
-  numbered-count,
-  number-below as node-number,
-}
+use Rattle.stage5_image.specs.Numbering.{reached, number-of, renumbered, renumbered-row, numbered}
+use Rattle.stage5_image.specs.MetNodes.{Met, number-below as node-number}
+use Rattle.stage5_image.specs.NumberingLaws.{TailsInside, Reached, reached-is, row-at-number, tail-member, of-tail-members, numbered-count}
 use Rattle.stage5_image.specs.Unfolding.{Returns}
 
 -- ---- fusion of all rows
@@ -36,7 +27,10 @@ fused-none [] r = refl
 fused-none (rule ∷ rules) r = go (rule .action) (fused-none rules (suc r))
   where
     go : (a : ℕ) → fused-from rules (suc r) [] ≡ []
-        → _≡_ {A = List Production} (elim a [ zero ↦ fused-from rules (suc r) [] | suc k ↦ by-rule r (production-of k []) (fused-from rules (suc r) []) ]) []
+        → _≡_ {A = List Production} (elim a [
+          | zero ↦ fused-from rules (suc r) []
+          | suc k ↦ by-rule r (production-of k []) (fused-from rules (suc r) [])
+        ]) []
     go zero e = e
     go (suc k) e = e
 
@@ -52,7 +46,7 @@ unfolding fused
 fused-length rules rows = length-map rows (fused-row rules)
 
 -- A production of a node's fused row.
-fused-member : (rules : List Rule) (rows : List Row) (n : ℕ) (p : Production) → List·Memᴰ p ((row-of (fused rules rows) n) .productions)
+pub fused-member : (rules : List Rule) (rows : List Row) (n : ℕ) (p : Production) → List·Memᴰ p ((row-of (fused rules rows) n) .productions)
     → FusedOf rules 0 ((row-of rows n) .productions) p
 unfolding fused-row
 fused-member rules rows n p m =
@@ -64,7 +58,8 @@ fused-inside rules rows inside n x m =
     let t = of-tail-members x ((row-of (fused rules rows) n) .productions) m in
     let f = fused-member rules rows n (t .0) (t .1) in
     let l = fused-length rules rows in
-    let b : x < length rows = inside n x (tail-member (f .source) x ((row-of rows n) .productions) (f .member) (subst (λ (t : List ℕ). List·Memᴰ x t) (f .same-tail) (t .2))) in
+    let b : x < length rows = inside n x (tail-member (f .source) x ((row-of rows n) .productions) (f .member)
+    (subst (λ (t : List ℕ). List·Memᴰ x t) (f .same-tail) (t .2))) in
     omega arith
 
 -- ---- what the image's rows do
@@ -90,12 +85,14 @@ pub record Simulates (rules : List Rule) (rows image : List Row) (number : ℕ �
   pub same-empty : (n : ℕ) → Known n → (row-of image (number n)) .empty ≡ (row-of rows n) .empty
   -- a rule that returns t has the production of t, its tail in numbers
   pub same-production : (n : ℕ) → Known n → (r t : ℕ) → Returns rules r t
-      → tail-of (production-of r ((row-of image (number n)) .productions)) ≡ tail-numbers number (production-of t ((row-of rows n) .productions))
+      → tail-of (production-of r ((row-of image (number n)) .productions)) ≡ tail-numbers number
+      (production-of t ((row-of rows n) .productions))
   -- that tail is known too
   pub closed : (n : ℕ) → Known n → (r t : ℕ) → Returns rules r t → TailKnown Known (production-of t ((row-of rows n) .productions))
   -- every production of the image's row is of a rule that returns the token of one of the node's productions
   pub sources : (n : ℕ) → Known n → (p : Production) → List·Memᴰ p ((row-of image (number n)) .productions)
-      → (q : Production) × List·Memᴰ q ((row-of rows n) .productions) × Returns rules (p .head) (q .head) × (p .tail ≡ map number (q .tail)) × All Known (q .tail)
+      → (q : Production) × List·Memᴰ q ((row-of rows n) .productions) × Returns rules (p .head) (q .head) ×
+      (p .tail ≡ map number (q .tail)) × All Known (q .tail)
 
 -- A renumbered row's production of a rule.
 renumbered-production : (number : List ℕ) (r : ℕ) (ps : List Production)
@@ -151,15 +148,19 @@ module _ (rules : List Rule) (rows : List Row) (inside : TailsInside rows) (some
       go none f = tt
       go (some p) f =
           all-of (λ x. Met x met) (p .tail)
-          (λ x m. reached-fused .closed n t x (tail-member (record { head = r; tail = p .tail }) x ((row-of all-fused n) .productions) (f .0) m))
+          (λ x m. reached-fused .closed n t x (tail-member (record { head = r; tail = p .tail }) x ((row-of all-fused n) .productions)
+          (f .0) m))
 
   sources : (n : ℕ) → Met n met → (p : Production) → List·Memᴰ p ((row-of (numbered all-fused) (number-of met n)) .productions)
-      → (q : Production) × List·Memᴰ q ((row-of rows n) .productions) × Returns rules (p .head) (q .head) × (p .tail ≡ map (number-of met) (q .tail)) × All (λ x. Met x met) (q .tail)
+      → (q : Production) × List·Memᴰ q ((row-of rows n) .productions) × Returns rules (p .head) (q .head) ×
+      (p .tail ≡ map (number-of met) (q .tail)) × All (λ x. Met x met) (q .tail)
   unfolding renumbered-row renumbered
   sources n t p m =
-      let o = Memᴰ·of-map (renumbered met) ((row-of all-fused n) .productions) (subst (λ (w : Row). List·Memᴰ p (w .productions)) (image-row n t) m) in
+      let o = Memᴰ·of-map (renumbered met) ((row-of all-fused n) .productions)
+      (subst (λ (w : Row). List·Memᴰ p (w .productions)) (image-row n t) m) in
       let f = fused-member rules rows n (o .0) (o .1) in
-      let at : p .head ≡ f .offset = ap (λ (z : Production). z .head) (sym (o .2)) ∙ f .rule ∙ (let z : 0 + f .offset ≡ f .offset = omega arith in z) in (
+      let at : p .head ≡ f .offset = ap (λ (z : Production). z .head) (sym (o .2)) ∙ f .rule ∙
+      (let z : 0 + f .offset ≡ f .offset = omega arith in z) in (
         f .source,
         f .member,
         subst (λ (z : ℕ). Returns rules z (f .source .head)) (sym at) (f .returned),
@@ -170,7 +171,8 @@ module _ (rules : List Rule) (rows : List Row) (inside : TailsInside rows) (some
       )
 
   -- The image's rows, made by fusion, reaching and numbering, do what the rows by token do.
-  pub image-simulates : Simulates rules rows (numbered (fused rules rows)) (number-of (reached (fused rules rows))) (λ n. Met n (reached (fused rules rows)))
+  pub image-simulates : Simulates rules rows (numbered (fused rules rows)) (number-of (reached (fused rules rows)))
+      (λ n. Met n (reached (fused rules rows)))
   unfolding renumbered-row fused-row
   image-simulates = record {
     start-known = reached-fused .starts;
@@ -183,7 +185,8 @@ module _ (rules : List Rule) (rows : List Row) (inside : TailsInside rows) (some
   }
 
 -- A number that returns no token, of a rule that skips or of none, has no production.
-pub no-token-production : {rules : List Rule} {rows image : List Row} {number : ℕ → ℕ} {Known : ℕ → Type 0} → Simulates rules rows image number Known
+pub no-token-production : {rules : List Rule} {rows image : List Row} {number : ℕ → ℕ} {Known : ℕ → Type 0}
+    → Simulates rules rows image number Known
     → (n : ℕ) → Known n → (r : ℕ) → ((t : ℕ) → Returns rules r t → ⊥) → production-of r ((row-of image (number n)) .productions) ≡ none
 no-token-production {rules} {rows} {image} {number} {Known} s n k r none-returned =
     go (production-of r ((row-of image (number n)) .productions)) (production-found r ((row-of image (number n)) .productions))

@@ -1,17 +1,15 @@
 -- What rows unfold to: the image's rows to the rule sequences that spell what the rows by token unfold to. That a row has at most
 -- one production a token is a hypothesis here; what the rows by token unfold to is said in the normal form's stage.
 use mathlib.Core.Path.{_≡_, refl, sym, ap, ap₂, subst, _∙_}
-use mathlib.Core.Bool.{Bool, true, false}
-use mathlib.Core.List.{List, [], _∷_, _++_, map, map-append, append-nil, append-assoc, nil≢cons, cons≢nil, head-eq-of-cons-eq, tail-eq-of-cons-eq, List·Memᴰ, Memᴰ·cast}
-use mathlib.Core.Logic.{_⊎_, inl, inr, _↔_, ⊎-elim}
+use mathlib.Core.Bool.{true}
+use mathlib.Core.List.{List, [], _∷_, _++_, map, map-append, nil≢cons, cons≢nil, head-eq-of-cons-eq, tail-eq-of-cons-eq, List·Memᴰ}
+use mathlib.Core.Logic.{_↔_}
 use mathlib.Core.Option.{Option, none, some}
-use Prim.Native.Nat.{ℕ, zero, suc, _+_, _≤_, _<_}
+use Prim.Native.Nat.{ℕ, _<_}
 use native.Mathlib.Omega.{arith}
-use lib.ListN.{getD, length, length-append}
+use lib.ListN.{length}
 use Rattle.stage0_laws.specs.Lists.{All}
-use Rattle.stage0_laws.specs.Truth.{holds-true, true-holds}
-use Rattle.stage1_sheet.specs.Sheet.{Rule, Sheet}
-use Rattle.stage2_types.specs.Denotation.{Language, followed-by, Denotes}
+use Rattle.stage1_sheet.specs.Sheet.{Rule}
 use Rattle.stage3_normal_form.specs.Productions.{Production, Row, row-of}
 use Rattle.stage3_normal_form.specs.Expansion.{Expands, complete, expand-empty, expand-token}
 use Rattle.stage5_image.specs.Fusion.{production-of, fused}
@@ -20,7 +18,7 @@ use Rattle.stage5_image.specs.Members.{all-append}
 use Rattle.stage5_image.specs.Numbering.{numbered}
 use Rattle.stage5_image.specs.NumberingLaws.{TailsInside}
 use Rattle.stage5_image.specs.Simulation.{Simulates, tail-of, tail-numbers, TailKnown, image-simulates}
-use Rattle.stage5_image.specs.Unfolding.{Unfolds, none-pending, by-epsilon, by-production, StartUnfolds, Returns, SpellsTokens, no-tokens, one-more, DenotedRules}
+use Rattle.stage5_image.specs.Unfolding.{Unfolds, none-pending, by-epsilon, by-production, StartUnfolds, Returns, SpellsTokens, no-tokens, one-more}
 
 -- In each row at most one production begins with a token.
 abbrev pub OnePerToken : List Row → Type 0
@@ -34,15 +32,19 @@ SpellsUnfolded rules rows pending ks = (ts : List ℕ) × Unfolds rows pending t
 
 -- ---- from the image's rows to the rows by token
 
-module _ (rules : List Rule) (rows image : List Row) (number : ℕ → ℕ) (Known : ℕ → Type 0) (s : Simulates rules rows image number Known) where
+module _ (rules : List Rule) (rows image : List Row) (number : ℕ → ℕ) (Known : ℕ → Type 0)
+    (s : Simulates rules rows image number Known) where
   to-tokens : {pending' ks : List ℕ} → Unfolds image pending' ks → (pending : List ℕ) → pending' ≡ map number pending → All Known pending
       → SpellsUnfolded rules rows pending ks
   to-tokens none-pending [] e k = ([], none-pending, no-tokens)
   to-tokens none-pending (n ∷ pending) e k = absurd (nil≢cons e)
   to-tokens (by-epsilon empty u) [] e k = absurd (cons≢nil e)
   to-tokens (by-epsilon {n = m} empty u) (n ∷ pending) e k =
-      let r = to-tokens u pending (tail-eq-of-cons-eq e) (k .1) in
-      (r .0, by-epsilon (sym (s .same-empty n (k .0)) ∙ subst (λ (z : ℕ). (row-of image z) .empty ≡ true) (head-eq-of-cons-eq e) empty) (r .1), r .2)
+      let r = to-tokens u pending (tail-eq-of-cons-eq e) (k .1) in (
+        r .0,
+        by-epsilon (sym (s .same-empty n (k .0)) ∙ subst (λ (z : ℕ). (row-of image z) .empty ≡ true) (head-eq-of-cons-eq e) empty) (r .1),
+        r .2,
+      )
   to-tokens (by-production m u) [] e k = absurd (cons≢nil e)
   to-tokens (by-production {pending = rest'} {p = p} m u) (n ∷ pending) e k =
       let o = s .sources n (k .0) p (subst (λ (z : ℕ). List·Memᴰ p ((row-of image z) .productions)) (head-eq-of-cons-eq e) m) in
@@ -53,12 +55,15 @@ module _ (rules : List Rule) (rows image : List Row) (number : ℕ → ℕ) (Kno
       (q .head ∷ r .0, by-production (o .1) (r .1), one-more (o .2) (r .2))
 
   -- One production taken: the rule's production in the image is the token's, which is the only one.
-  taken : OnePerToken rows → (n : ℕ) (q : Production) (r : ℕ) (pending ks : List ℕ) → Known n → All Known pending → List·Memᴰ q ((row-of rows n) .productions)
+  taken : OnePerToken rows → (n : ℕ) (q : Production) (r : ℕ) (pending ks : List ℕ) → Known n → All Known pending
+      → List·Memᴰ q ((row-of rows n) .productions)
       → Returns rules r (q .head) → (All Known (q .tail ++ pending) → Unfolds image (map number (q .tail ++ pending)) ks)
       → Unfolds image (number n ∷ map number pending) (r ∷ ks)
   taken one n q r pending ks kn kp m h rest =
-      go (production-of (q .head) ((row-of rows n) .productions)) (production-found (q .head) ((row-of rows n) .productions)) (s .closed n kn r (q .head) h)
-      (production-of r ((row-of image (number n)) .productions)) (production-found r ((row-of image (number n)) .productions)) (s .same-production n kn r (q .head) h)
+      go (production-of (q .head) ((row-of rows n) .productions)) (production-found (q .head) ((row-of rows n) .productions))
+      (s .closed n kn r (q .head) h)
+      (production-of r ((row-of image (number n)) .productions)) (production-found r ((row-of image (number n)) .productions))
+      (s .same-production n kn r (q .head) h)
     where
       go : (o : Option Production) → Found (q .head) ((row-of rows n) .productions) o → TailKnown Known o
           → (i : Option Production) → Found r ((row-of image (number n)) .productions) i → tail-of i ≡ tail-numbers number o
@@ -72,9 +77,11 @@ module _ (rules : List Rule) (rows image : List Row) (number : ℕ → ℕ) (Kno
           ap (λ (l : List ℕ). l ++ map number pending) (tails ∙ ap (map number) same) ∙ sym (map-append number (q .tail) pending) in
           subst (λ (z : ℕ). Unfolds image (number n ∷ map number pending) (z ∷ ks)) (g .1)
           (by-production (g .0)
-          (subst (λ (l : List ℕ). Unfolds image l ks) (sym joined) (rest (all-append Known (q .tail) pending (subst (All Known) same k) kp))))
+          (subst (λ (l : List ℕ). Unfolds image l ks) (sym joined)
+          (rest (all-append Known (q .tail) pending (subst (All Known) same k) kp))))
 
-  from-tokens : OnePerToken rows → {pending ts : List ℕ} → Unfolds rows pending ts → {ks : List ℕ} → SpellsTokens rules ks ts → All Known pending
+  from-tokens : OnePerToken rows → {pending ts : List ℕ} → Unfolds rows pending ts → {ks : List ℕ} → SpellsTokens rules ks ts
+      → All Known pending
       → Unfolds image (map number pending) ks
   from-tokens one none-pending no-tokens k = none-pending
   from-tokens one (by-epsilon {n = n} empty u) sp k = by-epsilon (s .same-empty n (k .0) ∙ empty) (from-tokens one u sp (k .1))

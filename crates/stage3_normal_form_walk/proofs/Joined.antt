@@ -1,0 +1,112 @@
+-- The walk over the columns of a typed expression is the definition's walk, so it finds the normal form's production.
+use mathlib.Core.Path.{_≡_, refl, sym, ap, ap₂, _∙_}
+use mathlib.Core.Bool.{true, false, cond}
+use mathlib.Core.List.{List, [], _∷_}
+use mathlib.Core.Option.{Option, none, some}
+use Prim.Native.Nat.{ℕ, zero, suc, _≤_, _<_}
+use native.Mathlib.Omega.{arith}
+use lib.ListN.{getD, length, drop, length-drop}
+use borrow.Author.Tests.{lt-ltb}
+use Rattle.stage0_laws.specs.Bits.{bit}
+use Rattle.stage1_sheet.specs.Expression.{Expression, size}
+use Rattle.stage2_types.specs.Types.{_⊢_∶_}
+use Rattle.stage2_types.specs.Nodes.{Node, epsilon-node, bottom-node, token-node, sequence-node, alternative-node, fixed-point-node, variable-node, nodes}
+use Rattle.stage2_types.specs.LeastTypes.{type-of, next-types, least-types}
+use Rattle.stage2_types.specs.LeastTypeLaws.{least-solves}
+use Rattle.stage2_types.specs.Typing.{no-fault-typed}
+use Rattle.stage2_types_columns.specs.Held.{held-node}
+use Rattle.stage3_normal_form.specs.Productions.{Production, row-of}
+use Rattle.stage3_normal_form.specs.Derives.{derives-at, derives}
+use Rattle.stage3_normal_form.specs.NormalForm.{normal-form}
+use Rattle.stage3_normal_form.specs.Places.{node-at}
+use Rattle.stage3_normal_form.specs.ProductionWalk.{walk-step, walk, walk-of, with-head, walk-finds, walk-short, first-has-not, LinksBelow, links-below}
+use Rattle.stage5_image.specs.Fusion.{production-of}
+use Rattle.stage3_normal_form_walk.specs.Columns.{ColumnsOf, tail-held, production-held}
+use Rattle.stage3_normal_form_walk.specs.ColumnLaws.{beginning-is-production}
+use Rattle.stage3_normal_form_walk.specs.ColumnWalk.{walked, column-node, column-first, column-walk}
+use Rattle.stage3_normal_form_walk.specs.declared.Tail.{Tail}
+use Rattle.stage3_normal_form_walk.specs.declared.Walked.{Walked}
+
+module _ (tag link first : List ℕ) (productive : ℕ) (e : Expression) (c : ColumnsOf tag link first productive e) (t : ℕ) where
+  abbrev walks : ℕ → ℕ → List ℕ → Option (List ℕ)
+  walks = column-walk tag link (c .guarded) first productive t
+
+  abbrev column-step : (ℕ → List ℕ → Option (List ℕ)) → Node → List ℕ → Option (List ℕ)
+  column-step = walk-step (column-node tag link (c .guarded)) (column-first first) (bit productive) t
+
+  abbrev own-step : (ℕ → List ℕ → Option (List ℕ)) → Node → List ℕ → Option (List ℕ)
+  own-step = walk-step (node-at (nodes e)) (λ n. (type-of (least-types e) n) .first) (derives-at (derives e)) t
+
+  node-same : (n : ℕ) → n < size e → column-node tag link (c .guarded) n ≡ node-at (nodes e) n
+  unfolding column-node
+  node-same n l = let s = c .nodes-most in
+      ap (λ b. cond b (held-node tag link (c .guarded) n) bottom-node) (lt-ltb n 64 (omega arith)) ∙ c .nodes-held n l
+
+  first-same : (n : ℕ) → n < size e → column-first first n ≡ (type-of (least-types e) n) .first
+  unfolding column-first
+  first-same n l = let s = c .nodes-most in
+      ap (λ b. cond b (getD first n 0) 0) (lt-ltb n 64 (omega arith)) ∙ c .first-held n l
+
+  -- One step, if the walks from the nodes that it may lead to are the same.
+  step-same : (k : ℕ) → ((n : ℕ) (rights : List ℕ) → n < size e → walks k n rights ≡ walk-of e t k n rights)
+      → (x : Node) → LinksBelow (size e) x → (rights : List ℕ)
+      → column-step (walks k) x rights ≡ own-step (walk-of e t k) x rights
+  unfolding walk-step
+  step-same k h epsilon-node b rights = refl
+  step-same k h bottom-node b rights = refl
+  step-same k h (token-node i) b rights = refl
+  step-same k h (sequence-node l r) b rights = ap₂ (λ x o. cond x o none) (c .productive-held r) (h l (r ∷ rights) (b .0))
+  step-same k h (alternative-node l r) b rights =
+      ap (λ s. cond (bit s t) (walks k l rights) (walks k r rights)) (first-same l (b .0))
+      ∙ ap₂ (λ x y. cond (bit ((type-of (least-types e) l) .first) t) x y) (h l rights (b .0)) (h r rights (b .1))
+  step-same k h (fixed-point-node i) b rights = h i rights b
+  step-same k h (variable-node f guarded) b rights = h f rights b
+
+  walk-same : (k n : ℕ) (rights : List ℕ) → n < size e → walks k n rights ≡ walk-of e t k n rights
+  unfolding walk
+  walk-same zero n rights l = refl
+  walk-same (suc k) n rights l = ap (λ x. column-step (walks k) x rights) (node-same n l)
+      ∙ step-same k (walk-same k) (node-at (nodes e) n) (links-below e n) rights
+
+  typed : [] ⊢ e ∶ type-of (least-types e) 0
+  typed = no-fault-typed (c .tokens) (c .tokens-most) e (c .closed) (c .no-fault)
+
+  solves : least-types e ≡ next-types (nodes e) (least-types e)
+  solves = least-solves (c .tokens) (c .tokens-most) e (c .closed)
+
+  module _ (n : ℕ) (l : n < size e) where
+    abbrev Right : Option Production → Type 0
+    Right o = o ≡ production-of t ((row-of (normal-form e) n) .productions)
+
+    walk-right : Right (with-head t (walks 64 n []))
+    walk-right = ap (with-head t) (walk-same 64 n [] l) ∙ (walk-finds typed solves t n 64 (c .nodes-most)
+        ∙ beginning-is-production t ((row-of (normal-form e) n) .productions))
+
+    -- No production, since the token is outside FIRST.
+    pub right-outside : (r : Tail) → r .found ≡ false → bit (column-first first n) t ≡ false → Right (production-held t r)
+    unfolding production-held tail-held
+    right-outside r f b = rw f (sym (first-has-not typed solves t n (ap (λ s. bit s t) (sym (first-same n l)) ∙ b))
+        ∙ beginning-is-production t ((row-of (normal-form e) n) .productions))
+
+    -- No production, since the walk did not end at the token.
+    pub right-none : (r : Tail) (w : Walked) → r .found ≡ false → w .found ≡ false → walked w ≡ walks 64 n []
+        → Right (production-held t r)
+    unfolding production-held tail-held walked
+    right-none r w f g h =
+        rw f (ap (with-head t) (ap (λ b. cond b (some (drop (w .start) (w .rights))) none) (sym g) ∙ h) ∙ walk-right)
+
+    -- The production that the walk found. Its tail has at most 31 members, so it fits.
+    pub right-found : (r : Tail) (w : Walked) → w .found ≡ true → length (w .rights) ≡ 64 → walked w ≡ walks 64 n []
+        → (32 ≤ w .start → tail-held r ≡ some (drop (w .start) (w .rights))) → Right (production-held t r)
+    unfolding production-held walked
+    right-found r w g f h m = ap (with-head t) (m fits ∙ found) ∙ walk-right
+      where
+        found : some (drop (w .start) (w .rights)) ≡ walks 64 n []
+        found = ap (λ b. cond b (some (drop (w .start) (w .rights))) none) (sym g) ∙ h
+
+        short : length (drop (w .start) (w .rights)) ≤ 31
+        short = walk-short typed solves (c .nodes-most) t n 64 (c .nodes-most) (drop (w .start) (w .rights))
+            (sym (walk-same 64 n [] l) ∙ sym found)
+
+        fits : 32 ≤ w .start
+        fits = omega (arith, short, length-drop (w .start) (w .rights))

@@ -1,0 +1,225 @@
+-- How long an image is: an image in range has at most 1,070 bytes and 1,058 for each nonterminal, and a sheet's image has at most
+-- 32 nonterminals, so that it fits 65,536 bytes.
+use mathlib.Core.Path.{_≡_, refl, ap, subst, _∙_}
+use mathlib.Core.Bool.{Bool, true, false}
+use mathlib.Core.List.{List, [], _∷_, _++_, flatMap, List·Memᴰ, List·Memᴰ·head, List·Memᴰ·tail, List·Memᴰ·cases-cons}
+use mathlib.Core.Logic.{⊎-elim}
+use mathlib.Core.Option.{none}
+use Prim.Native.Nat.{ℕ, _+_, _*_, _/_, _≤_, _<_}
+use native.Mathlib.Omega.{arith}
+use lib.ListN.{length, length-append}
+use borrow.Author.Tests.{lt-ltb, le-ltb}
+use Rattle.stage0_laws.specs.Lists.{All}
+use Rattle.stage0_laws.specs.Order.{lt-or-le}
+use Rattle.stage0_number.specs.Number.{encode, encode-in}
+use Rattle.stage0_number.specs.Laws.{encode-ten}
+use Rattle.stage1_sheet.specs.Limits.{most-rules, most-expression-nodes, most-byte}
+use Rattle.stage1_sheet.specs.Expression.{Expression}
+use Rattle.stage1_sheet.specs.Sheet.{Rule, Sheet}
+use Rattle.stage1_sheet.specs.Spelling.{spell}
+use Rattle.stage1_sheet.specs.FieldLaws.{spell-append}
+use Rattle.stage1_sheet.specs.WellFormed.{WithinLimits, Closed}
+use Rattle.stage2_types.specs.Nodes.{nodes}
+use Rattle.stage2_types.specs.Types.{LanguageType, _⊢_∶_}
+use Rattle.stage3_normal_form.specs.Productions.{Production, Row, row-of}
+use Rattle.stage3_normal_form.specs.NormalForm.{normal-form}
+use Rattle.stage3_normal_form.specs.RightParts.{right-parts, right-parts-count, tails-right}
+use Rattle.stage3_normal_form.specs.Tails.{sequence-count, sequence-count-bound}
+use Rattle.stage4_lexer.specs.Positions.{Position, empty-match}
+use Rattle.stage5_image.specs.DistinctNodes.{distinct-few}
+use Rattle.stage5_image.specs.MetNodes.{first-met-member}
+use Rattle.stage5_image.specs.Fusion.{fused}
+use Rattle.stage5_image.specs.Image.{Image, image-of, flag, flag-numbers, position-numbers, production-numbers, row-numbers, image-numbers, image-bytes}
+use Rattle.stage5_image.specs.ImageLaws.{normal-form-inside, normal-form-some, image-in-range}
+use Rattle.stage5_image.specs.ImageNumbers.{all-numbers, flag-number, one-position-numbers, one-production-numbers, one-row-numbers, flags-are, positions-are, productions-are, rows-are}
+use Rattle.stage5_image.specs.ImageRanges.{PositionInRange, ProductionInRange, RowInRange, InRange}
+use Rattle.stage5_image.specs.Members.{all-member, of-flatMap}
+use Rattle.stage5_image.specs.Numbering.{reached}
+use Rattle.stage5_image.specs.NumberingLaws.{row-by-row, numbered-count}
+use Rattle.stage5_image.specs.Simulation.{reached-fused, fused-member}
+
+-- ---- bytes of numbers
+
+-- The bytes that numbers take.
+abbrev width : List ℕ → ℕ
+width ns = length (spell ns)
+
+width-append : (ms ns : List ℕ) → width (ms ++ ns) ≡ width ms + width ns
+width-append ms ns = ap (λ (l : List ℕ). length l) (spell-append ms ns) ∙ length-append (spell ms) (spell ns)
+
+width-cons : (n : ℕ) (ns : List ℕ) → width (n ∷ ns) ≡ length (encode n) + width ns
+unfolding spell
+width-cons n ns = length-append (encode n) (spell ns)
+
+one-byte : (n : ℕ) → n < 128 → length (encode n) ≡ 1
+unfolding encode encode-in
+one-byte n h = rw (lt-ltb n 128 h)
+
+two-bytes : (n : ℕ) → n ≤ most-byte → length (encode n) ≤ 2
+unfolding encode encode-in
+two-bytes n h = ⊎-elim (λ l. rw (lt-ltb n 128 l) (omega arith))
+    (λ l. rw (le-ltb n 128 l, lt-ltb (n / 128) 128 (omega arith)) (omega arith)) (lt-or-le n 128)
+
+-- Small numbers take a byte each.
+width-small : (ns : List ℕ) → All (λ n. n < 128) ns → width ns ≡ length ns
+unfolding spell
+width-small [] h = refl
+width-small (n ∷ ns) h = omega (arith, width-cons n ns, one-byte n (h .0), width-small ns (h .1))
+
+-- Things that take at most so many bytes each.
+width-all : {A : Type 0} (numbers : A → List ℕ) (most : ℕ) (l : List A) → All (λ a. width (numbers a) ≤ most) l
+    → width (all-numbers numbers l) ≤ length l * most
+unfolding spell
+width-all numbers most [] h = omega arith
+width-all numbers most (a ∷ l) h =
+    let x = h .0 in
+    omega (arith, width-append (numbers a) (all-numbers numbers l), width-all numbers most l (h .1))
+
+-- ---- bytes of an image in range
+
+flag-small : (b : Bool) → flag b < 128
+unfolding flag
+flag-small true = omega arith
+flag-small false = omega arith
+
+flag-width : (b : Bool) → width (flag-number b) ≤ 1
+flag-width b = omega (arith, width-small (flag-number b) (flag-small b, tt))
+
+position-width : (rules count : ℕ) (p : Position) → rules ≤ most-rules → PositionInRange rules count p → width (one-position-numbers p) ≤ 16
+position-width rules count p few g =
+    let a = g .low-high in
+    let b = g .high-byte in
+    let c = g .rule-below in
+    let rest = width-small (p .rule ∷ flag (p .last) ∷ []) (omega arith, (flag-small (p .last), tt)) in
+    omega (
+      arith,
+      width-cons (p .low) (p .high ∷ p .rule ∷ flag (p .last) ∷ p .follow ∷ []),
+      two-bytes (p .low) (omega arith),
+      width-cons (p .high) (p .rule ∷ flag (p .last) ∷ p .follow ∷ []),
+      two-bytes (p .high) b,
+      width-append (p .rule ∷ flag (p .last) ∷ []) (p .follow ∷ []),
+      ten (p .follow),
+    )
+  where
+    ten : (n : ℕ) → width (n ∷ []) ≤ 10
+    ten n = unfold spell in omega (arith, width-cons n [], encode-ten n)
+
+small-members : (count : ℕ) (l : List ℕ) → count ≤ most-expression-nodes → All (λ n. n < count) l → All (λ n. n < 128) l
+small-members count [] few h = tt
+small-members count (n ∷ l) few h = ((let a = h .0 in omega arith), small-members count l few (h .1))
+
+production-width : (skips : List Bool) (count : ℕ) (p : Production) → length skips ≤ most-rules → count ≤ most-expression-nodes
+    → ProductionInRange skips count p → width (one-production-numbers p) ≤ 33
+production-width skips count p few-rules few g =
+    let a = g .rule-below in
+    let b = g .tail-length in
+    omega (arith, width-small (one-production-numbers p) (omega arith, (omega arith, small-members count (p .tail) few (g .members-below))))
+
+row-width : (skips : List Bool) (count : ℕ) (row : Row) → length skips ≤ most-rules → count ≤ most-expression-nodes
+    → RowInRange skips count row
+    → width (one-row-numbers row) ≤ 1058
+row-width skips count row few-rules few g =
+    let a = g .production-count in
+    let ps = row .productions in
+    let most = width-all one-production-numbers 33 ps (each ps (g .productions-in-range)) in
+    omega (
+      arith,
+      width-append (flag (row .empty) ∷ length ps ∷ []) (production-numbers ps),
+      width-small (flag (row .empty) ∷ length ps ∷ []) (flag-small (row .empty), (omega arith, tt)),
+      ap width (productions-are ps),
+      most,
+    )
+  where
+    each : (ps : List Production) → All (ProductionInRange skips count) ps → All (λ p. width (one-production-numbers p) ≤ 33) ps
+    each [] h = tt
+    each (p ∷ ps) h = (production-width skips count p few-rules few (h .0), each ps (h .1))
+
+-- 1,070 bytes, and 1,058 for each nonterminal.
+pub image-width : (i : Image) → InRange i → length (image-bytes i) ≤ 1070 + length (i .rows) * 1058
+unfolding image-bytes image-numbers
+image-width i g =
+    let R = length (i .skips) in
+    let P = length (i .positions) in
+    let N = length (i .rows) in
+    let rc = g .rule-count in
+    let pc = g .position-count in
+    let nc = g .row-count in
+    let last = i .first ∷ N ∷ row-numbers (i .rows) in
+    let fields = P ∷ (position-numbers (i .positions) ++ last) in
+    let flags : width (flag-numbers (i .skips)) ≤ R * 1 =
+    subst (λ (l : List ℕ). width l ≤ R * 1) (flags-are (i .skips)) (width-all flag-number 1 (i .skips) (all-flags (i .skips))) in
+    let positions : width (position-numbers (i .positions)) ≤ P * 16 =
+    subst (λ (l : List ℕ). width l ≤ P * 16) (positions-are (i .positions))
+    (width-all one-position-numbers 16 (i .positions) (all-positions (i .positions) (g .positions-in-range))) in
+    let rows : width (row-numbers (i .rows)) ≤ N * 1058 =
+    subst (λ (l : List ℕ). width l ≤ N * 1058) (rows-are (i .rows))
+    (width-all one-row-numbers 1058 (i .rows) (all-rows (i .rows) (g .rows-in-range))) in
+    let a = width-append (1 ∷ R ∷ []) (flag-numbers (i .skips) ++ fields) in
+    let b = width-small (1 ∷ R ∷ []) (omega arith, (omega arith, tt)) in
+    let c = width-append (flag-numbers (i .skips)) fields in
+    let d = width-cons P (position-numbers (i .positions) ++ last) in
+    let e = one-byte P (omega arith) in
+    let f = width-append (position-numbers (i .positions)) last in
+    let h = width-cons (i .first) (N ∷ row-numbers (i .rows)) in
+    let j = encode-ten (i .first) in
+    let k = width-cons N (row-numbers (i .rows)) in
+    let l = one-byte N (omega arith) in
+    omega arith
+  where
+    all-flags : (bs : List Bool) → All (λ b. width (flag-number b) ≤ 1) bs
+    all-flags [] = tt
+    all-flags (b ∷ bs) = (flag-width b, all-flags bs)
+
+    all-positions : (ps : List Position) → All (PositionInRange (length (i .skips)) (length (i .positions))) ps
+        → All (λ p. width (one-position-numbers p) ≤ 16) ps
+    all-positions [] h = tt
+    all-positions (p ∷ ps) h =
+        (position-width (length (i .skips)) (length (i .positions)) p (g .rule-count) (h .0), all-positions ps (h .1))
+
+    all-rows : (rs : List Row) → All (RowInRange (i .skips) (length (i .rows))) rs → All (λ r. width (one-row-numbers r) ≤ 1058) rs
+    all-rows [] h = tt
+    all-rows (r ∷ rs) h = (row-width (i .skips) (length (i .rows)) r (g .rule-count) (g .row-count) (h .0), all-rows rs (h .1))
+
+-- ---- a sheet's image
+
+-- A node that is reached is the start or a right part.
+reached-right : (rules : List Rule) (e : Expression) (tokens : ℕ) → Closed tokens 0 e → (n : ℕ)
+    → List·Memᴰ n (reached (fused rules (normal-form e)))
+    → List·Memᴰ n (0 ∷ right-parts (nodes e))
+reached-right rules e tokens c n m =
+    let rows = fused rules (normal-form e) in
+    let r = reached-fused rules (normal-form e) (normal-form-inside e tokens c) (normal-form-some e) in
+    ⊎-elim (λ z. List·Memᴰ·head z) (λ k. List·Memᴰ·tail (in-tail
+    (of-flatMap (λ n. flatMap (λ p. p .tail) ((row-of rows n) .productions)) (reached rows) n k)))
+    (List·Memᴰ·cases-cons (first-met-member [] (0 ∷ row-by-row rows (reached rows)) n (subst (List·Memᴰ n) (r .in-order) m)))
+  where
+    in-tail : (k : ℕ) × List·Memᴰ k (reached (fused rules (normal-form e)))
+        × List·Memᴰ n (flatMap (λ p. p .tail) ((row-of (fused rules (normal-form e)) k) .productions))
+        → List·Memᴰ n (right-parts (nodes e))
+    in-tail k =
+        let p = of-flatMap (λ p. p .tail) ((row-of (fused rules (normal-form e)) (k .0)) .productions) n (k .2) in
+        let f = fused-member rules (normal-form e) (k .0) (p .0) (p .1) in
+        all-member (λ x. List·Memᴰ x (right-parts (nodes e))) (f .source .tail) (tails-right e (k .0) (f .source) (f .member)) n
+        (subst (List·Memᴰ n) (f .same-tail) (p .2))
+
+-- At most the start and a nonterminal for each sequence node.
+pub nonterminals-few : (s : Sheet) → Closed (s .tokens) 0 (s .expression) → length ((image-of s) .rows) ≤ 1 + sequence-count (s .expression)
+unfolding image-of
+nonterminals-few s c =
+    let e = s .expression in
+    let rows = fused (s .rules) (normal-form e) in
+    let r = reached-fused (s .rules) (normal-form e) (normal-form-inside e (s .tokens) c) (normal-form-some e) in
+    let few = distinct-few (reached rows) (0 ∷ right-parts (nodes e)) (r .once) (reached-right (s .rules) e (s .tokens) c) in
+    omega (arith, numbered-count rows, right-parts-count e)
+
+-- 1,070 bytes, and 1,058 for each of 32 nonterminals.
+abbrev pub most-image-bytes : ℕ
+most-image-bytes = 34926
+
+-- The image of a sheet that compiling accepts is no longer.
+pub image-fits : (s : Sheet) {a : LanguageType} → WithinLimits s → empty-match (s .rules) 0 ≡ none → [] ⊢ s .expression ∶ a
+    → length (image-bytes (image-of s)) ≤ most-image-bytes
+image-fits s w m d =
+    let few = nonterminals-few s (w .closed) in
+    let most = w .nodes-most in
+    omega (arith, image-width (image-of s) (image-in-range s w m d), sequence-count-bound (s .expression))
