@@ -25,10 +25,10 @@ all-numbers-append g (a ∷ k) l = ap (λ (m : List ℕ). g a ++ m) (all-numbers
 -- A loop over the places of a list gives the numbers of all its members.
 pub concat-below-list : {A : Type 0} (f : ℕ → List ℕ) (g : A → List ℕ) (l : List A) (other : A)
     → ((k : ℕ) → k < length l → f k ≡ g (getD l k other)) → concat-below f (length l) ≡ all-numbers g l
+unfolding concat-below
 concat-below-list f g l other h = go (length l) (omega arith) ∙ ap (all-numbers g) (take-length l)
   where
     go : (i : ℕ) → i ≤ length l → concat-below f i ≡ all-numbers g (take i l)
-    unfolding concat-below
     go zero b = refl
     go (suc i) b =
         ap₂ _++_ (go i (omega arith)) (h i b ∙ sym (append-nil (g (getD l i other))))

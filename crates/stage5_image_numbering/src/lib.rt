@@ -4,7 +4,7 @@ use stage3_normal_form_walk::Tail;
 ghost use mathlib.Core.Path.{_≡_};
 ghost use mathlib.Core.List.{List, [], _∷_};
 ghost use Prim.Native.Nat.{ℕ, _≤_, _<_};
-ghost use lib.ListN.{length};
+ghost use lib.ListN.{getD, length};
 ghost use Rattle.stage0_laws.specs.Lists.{All};
 ghost use Rattle.stage1_sheet.specs.Expression.{Expression, size};
 ghost use Rattle.stage1_sheet.specs.Sheet.{Rule};
@@ -137,6 +137,14 @@ fn start() -> Numbering
     }
 }
 
+// The node that was met as the i-th.
+pub fn node_at(numbering: Numbering, i: usize) -> usize
+    requires { ⌜ i < 64 ⌝ }
+    ensures { λ r. ⌜ r ≡ getD (numbering .met) i 0 ⌝ }
+{
+    numbering.met[i] as usize
+}
+
 // The numbers of the nodes that are reached from the start: row by row, in the order in which they are met.
 pub fn number_nodes(grammar: Grammar) -> Numbering
     requires { ⌜ grammar .rules ≤ 32 ⌝ }
@@ -146,7 +154,7 @@ pub fn number_nodes(grammar: Grammar) -> Numbering
     let mut next = start();
     let mut i: usize = 0;
     while i < next.count {
-        let node = next.met[i] as usize;
+        let node = node_at(next, i);
         next = meet_row(next, grammar, node);
         i += 1;
     }
