@@ -51,7 +51,7 @@ loop-less c = search needs
 loop-again : tie.Need-loop-again Inv-loop μ-loop
 loop-again c =
     let l = c .before .before .before .before .loop in
-    let b = c .before .before .loop-test .taken in
+    let b = c .before .before .if1 .taken in
     let is = c .before .node-at .ensures in (
       omega (arith, l .inv .1, b),
       c .meet-row .ensures .0,
@@ -61,7 +61,7 @@ loop-again c =
 
 -- src/lib.rt:149:1
 returns : tie.Need-returns Inv-loop μ-loop
-returns c = let l = c .before .before .loop in (l .inv .1, λ rules e h. walked-end _ rules e h _ _ (l .inv .2 rules e h) (c .loop-test .left))
+returns c = let l = c .before .before .loop in (l .inv .1, λ rules e h. walked-end _ rules e h _ _ (l .inv .2 rules e h) (c .if1 .left))
 
 pub number-nodes-spec : {M : Type 1} → statement M
 number-nodes-spec =
