@@ -145,6 +145,16 @@ pub fn node_at(numbering: Numbering, i: usize) -> usize
     numbering.met[i] as usize
 }
 
+// A node's number. No node from 64 on has one.
+pub fn number_of(numbering: Numbering, n: usize) -> u64
+    ensures { λ r. ⌜ r ≡ getD (numbering .number) n 0 ⌝ }
+{
+    if 64 <= n {
+        return 0;
+    }
+    numbering.number[n] as u64
+}
+
 // The numbers of the nodes that are reached from the start: row by row, in the order in which they are met.
 pub fn number_nodes(grammar: Grammar) -> Numbering
     requires { ⌜ grammar .rules ≤ 32 ⌝ }
