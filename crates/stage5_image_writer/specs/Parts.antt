@@ -14,9 +14,9 @@ use Rattle.stage3_normal_form_walk.specs.declared.Tail.{Tail}
 use Rattle.stage4_lexer.specs.Positions.{positions, first-positions}
 use Rattle.stage4_lexer_columns.specs.Held.{held-position, held-positions}
 use Rattle.stage4_lexer_columns.specs.declared.PositionColumns.{PositionColumns}
-use Rattle.stage5_image.specs.Fusion.{fused-row, fused}
+use Rattle.stage5_image.specs.Fusion.{fused-from, fused-row, fused}
 use Rattle.stage5_image.specs.Image.{flag}
-use Rattle.stage5_image.specs.ImageNumbers.{one-position-numbers, one-production-numbers, one-row-numbers}
+use Rattle.stage5_image.specs.ImageNumbers.{all-numbers, one-position-numbers, one-production-numbers, one-row-numbers}
 use Rattle.stage5_image.specs.Numbering.{reached}
 use Rattle.stage5_image_numbering.specs.Below.{concat-below}
 use Rattle.stage5_image_numbering.specs.Grammar.{GrammarOf, Numbers}
@@ -49,6 +49,11 @@ mapped-row number row = record { empty = row .empty; productions = map (mapped n
 -- A rule's production, if it has one.
 unfoldable pub production-part : List ℕ → ℕ → Tail → List ℕ
 production-part number r tail = rule-part (λ p. one-production-numbers (mapped number p)) r (tail-held tail)
+
+-- All productions of a node's row.
+unfoldable pub productions-part : List ℕ → List Rule → Expression → ℕ → List ℕ
+productions-part number rules e n =
+    all-numbers (λ p. one-production-numbers (mapped number p)) (fused-from rules 0 ((row-of (normal-form e) n) .productions))
 
 -- A node's row.
 unfoldable pub row-part : List ℕ → List Rule → Expression → ℕ → List ℕ
