@@ -1,8 +1,7 @@
 -- The rows one after the other: the members of one row, rule by rule, and the rows of the nodes met, until none is left.
 use mathlib.Core.Path.{_≡_, refl, sym, ap, subst, _∙_}
 use mathlib.Core.Bool.{Bool, true, false, cond}
-use mathlib.Core.List.{List, [], _∷_, _++_, append-assoc, append-nil, flatMap, List·Memᴰ, List·Memᴰ·cases-cons}
-use mathlib.Core.Logic.{⊎-elim}
+use mathlib.Core.List.{List, [], _∷_, _++_, append-assoc, append-nil}
 use Prim.Native.Nat.{ℕ, zero, suc, _+_, _-_, _≤_, _<_}
 use native.Mathlib.Omega.{arith}
 use native.Mathlib.Numerals.{add-one}
@@ -14,18 +13,16 @@ use Rattle.stage1_sheet.specs.Expression.{Expression, size}
 use Rattle.stage1_sheet.specs.Sheet.{Rule}
 use Rattle.stage3_normal_form.specs.Productions.{Production, Row, row-of}
 use Rattle.stage3_normal_form.specs.NormalForm.{normal-form}
-use Rattle.stage3_normal_form.specs.NormalFormLaws.{normal-form-length}
 use Rattle.stage3_normal_form_walk.specs.Columns.{tail-held}
 use Rattle.stage3_normal_form_walk.specs.declared.Tail.{Tail}
 use Rattle.stage5_image.specs.Fusion.{fused-from, fused-row, fused}
-use Rattle.stage5_image.specs.ImageLaws.{normal-form-inside, normal-form-some}
-use Rattle.stage5_image.specs.Members.{member-at, of-flatMap}
-use Rattle.stage5_image.specs.MetNodes.{first-met, first-met-member, meet-all-order}
+use Rattle.stage5_image.specs.MetNodes.{first-met, meet-all-order}
 use Rattle.stage5_image.specs.Numbering.{is-met, meet-all, tail-members, meet-rows, reached, number-of}
-use Rattle.stage5_image.specs.NumberingLaws.{row-by-row, Reached, TailsInside, tail-member}
-use Rattle.stage5_image.specs.Simulation.{fused-row-of, fused-length, fused-inside, reached-fused}
+use Rattle.stage5_image.specs.NumberingLaws.{Reached}
+use Rattle.stage5_image.specs.Simulation.{fused-row-of}
 use Rattle.stage5_image_numbering.specs.Below.{concat-below}
 use Rattle.stage5_image_numbering.specs.Grammar.{GrammarOf, Numbers, members-of}
+use Rattle.stage5_image_numbering.specs.ReachedNodes.{rows-size, reached-here, reached-inside}
 use Rattle.stage5_image_numbering.specs.RuleTails.{rule-tail, rule-part, fused-parts, members-are}
 use Rattle.stage5_image_numbering.specs.declared.Grammar.{Grammar}
 use Rattle.stage5_image_numbering.specs.declared.Numbering.{Numbering}
@@ -113,31 +110,6 @@ fused-members : (rules : List Rule) (row : Row) → tail-members ((fused-row rul
 unfolding fused-row
 fused-members rules row = refl
 
--- The nodes reached are rows' numbers.
-reached-nodes : (rows : List Row) → TailsInside rows → 0 < length rows → Reached rows (reached rows) → (x : ℕ) → List·Memᴰ x (reached rows) → x < length rows
-reached-nodes rows inside some r x m =
-    ⊎-elim (λ e. omega arith)
-    (λ k. let a = of-flatMap (λ n. flatMap-tails ((row-of rows n) .productions)) (reached rows) x k in
-    let b = of-flatMap (λ p. p .tail) ((row-of rows (a .0)) .productions) x (a .2) in
-    inside (a .0) x (tail-member (b .0) x ((row-of rows (a .0)) .productions) (b .1) (b .2)))
-    (List·Memᴰ·cases-cons (first-met-member [] (0 ∷ row-by-row rows (reached rows)) x (subst (List·Memᴰ x) (r .in-order) m)))
-  where
-    flatMap-tails : List Production → List ℕ
-    flatMap-tails ps = flatMap (λ p. p .tail) ps
-
-module _ (g : Grammar) (rules : List Rule) (e : Expression) (h : GrammarOf g rules e) where
-  abbrev all-rows : List Row
-  all-rows = fused rules (normal-form e)
-
-  rows-size : length all-rows ≡ size e
-  rows-size = fused-length rules (normal-form e) ∙ normal-form-length e
-
-  inside-all : TailsInside all-rows
-  inside-all = fused-inside rules (normal-form e) (normal-form-inside e (h .columns .tokens) (h .columns .closed))
-
-  reached-here : Reached all-rows (reached all-rows)
-  reached-here = reached-fused rules (normal-form e) (normal-form-inside e (h .columns .tokens) (h .columns .closed)) (normal-form-some e)
-
 -- The rows of the first i nodes met are done, and the others lead to all nodes reached.
 pub record Walked (rules : List Rule) (e : Expression) (c : Numbering) (i : ℕ) : Type 0 where
   pub met : List ℕ
@@ -171,13 +143,7 @@ module _ (g : Grammar) (rules : List Rule) (e : Expression) (h : GrammarOf g rul
         ap (λ (k : List ℕ). getD k i 0) all ∙ List·getD-append (w .met) (m .0) 0 i l
         ∙ ap (λ (k : List ℕ). getD k i 0) (sym (w .numbers .nodes)) ∙ getD-take (c .count) (c .met) i 0 b in
         let bound : i < length (reached rows) = omega (arith, ap length all, length-append (w .met) (m .0)) in
-        let s = rows-size g rules e h in
-        let below = reached-nodes rows (inside-all g rules e h) (omega (arith, sequence-some)) (reached-here g rules e h) (getD (reached rows) i 0)
-        (member-at (reached rows) i 0 bound) in
-        omega arith
-      where
-        sequence-some : 0 < size e
-        sequence-some = omega (arith, normal-form-some e, normal-form-length e)
+        omega (arith, reached-inside g rules e h i bound)
 
     pub walked-next : (d : Numbering) (node : ℕ) → node ≡ getD (c .met) i 0 → i < c .count
         → ((met : List ℕ) → Numbers c met → length (meet-all met (tail-members (fused-from rules 0 (productions-of e node)))) ≤ 64

@@ -2,3 +2,4 @@
 pub mod Below
 pub mod RuleTails
 pub mod Grammar
+pub mod ReachedNodes

@@ -20,6 +20,7 @@ same-length : tie.Need-same-length
 same-length c = search needs
 
 returns : tie.Need-returns
+unfolding flag
 returns c = (c .before .before .emit .ensures .0, rw (c .before .before .before .before .if1 .taken) (c .before .before .emit .ensures .1))
 
 emit-requires-2 : tie.Need-emit-requires-2
@@ -29,6 +30,7 @@ same-length-2 : tie.Need-same-length-2
 same-length-2 c = search needs
 
 returns-2 : tie.Need-returns-2
+unfolding flag
 returns-2 c = (c .before .before .emit2 .ensures .0, rw (c .before .before .before .before .if1 .left) (c .before .before .emit2 .ensures .1))
 
 pub emit-flag-spec : {M : Type 1} → statement M
