@@ -26,8 +26,9 @@ use Rattle.stage5_image_numbering.specs.Below.{concat-below}
 use Rattle.stage5_image_numbering.specs.Grammar.{GrammarOf}
 use Rattle.stage5_image_numbering.specs.RuleTails.{rule-tail, rule-part, fused-parts}
 use Rattle.stage5_image_numbering.specs.declared.Grammar.{Grammar}
+use Rattle.stage5_image_numbering.specs.declared.Numbering.{Numbering}
 use Rattle.stage5_image_writer.specs.Emitted.{Emitted, emitted-append, emitted-same}
-use Rattle.stage5_image_writer.specs.Parts.{mapped, mapped-row, production-part, productions-part, row-part}
+use Rattle.stage5_image_writer.specs.Parts.{mapped, mapped-row, production-part, productions-part, row-part, rows-part}
 use Rattle.stage5_image_writer.proofs.Writing.{one-more}
 
 abbrev productions-of : Expression → ℕ → List Production
@@ -132,3 +133,20 @@ row-emitted g number rules e h node inside null count is-null is-count x y z =
     let numbers : all-numbers (λ p. one-production-numbers (mapped number p)) ps ≡ production-numbers (map (mapped number) ps) =
     sym (map-numbers one-production-numbers (mapped number) ps) ∙ productions-are (map (mapped number) ps) in
     emitted-append (emitted-same flags x) (emitted-append (emitted-same counts y) (emitted-same numbers z))
+
+-- ---- all rows
+
+-- The numbers of the row with number i.
+abbrev pub numbered-row-part : Numbering → List Rule → Expression → ℕ → List ℕ
+numbered-row-part c rules e i = row-part (c .number) rules e (getD (c .met) i 0)
+
+pub row-more : {a b d : List ℕ} {at n m : ℕ} (c : Numbering) (rules : List Rule) (e : Expression) (i node : ℕ) → node ≡ getD (c .met) i 0
+    → Emitted a b at n (concat-below (numbered-row-part c rules e) i) → Emitted b d n m (row-part (c .number) rules e node)
+    → Emitted a d at m (concat-below (numbered-row-part c rules e) (i + 1))
+row-more c rules e i node is so-far one =
+    one-more (numbered-row-part c rules e) i so-far (emitted-same (ap (row-part (c .number) rules e) is) one)
+
+pub rows-emitted : {a b d : List ℕ} {at v n : ℕ} (c : Numbering) (rules : List Rule) (e : Expression) → Emitted a b at v (c .count ∷ [])
+    → Emitted b d v n (concat-below (numbered-row-part c rules e) (c .count)) → Emitted a d at n (rows-part c rules e)
+unfolding rows-part
+rows-emitted c rules e x y = emitted-append x y

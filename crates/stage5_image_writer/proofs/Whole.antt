@@ -6,12 +6,13 @@ use Prim.Native.Nat.{ℕ, zero, suc, _+_, _≤_, _<_}
 use native.Mathlib.Omega.{arith}
 use native.Mathlib.Nat.{zero-add}
 use lib.Dec.{eqb}
-use lib.ListN.{getD, length, take, length-map}
+use lib.ListN.{getD, length, take, drop, length-map}
 use lib.Seq.{getD-take}
 use Rattle.stage0_laws.specs.Truth.{holds-true}
 use Rattle.stage1_sheet.specs.Expression.{Expression, size}
 use Rattle.stage1_sheet.specs.Regex.{empty}
 use Rattle.stage1_sheet.specs.Sheet.{Rule, Sheet}
+use Rattle.stage1_sheet.specs.Spelling.{spell}
 use Rattle.stage3_normal_form.specs.Productions.{Production, Row, no-productions, row-of}
 use Rattle.stage3_normal_form.specs.NormalForm.{normal-form}
 use Rattle.stage3_normal_form.specs.NormalFormLaws.{normal-form-length}
@@ -19,7 +20,7 @@ use Rattle.stage4_lexer.specs.Positions.{Position, positions, first-positions}
 use Rattle.stage4_lexer_columns.specs.Held.{held-position, held-from, held-positions}
 use Rattle.stage4_lexer_columns.specs.declared.PositionColumns.{PositionColumns}
 use Rattle.stage5_image.specs.Fusion.{fused-from, fused-row, fused}
-use Rattle.stage5_image.specs.Image.{skips-rule, image-of, flag, flag-numbers, position-numbers, row-numbers, image-numbers}
+use Rattle.stage5_image.specs.Image.{Image, skips-rule, image-of, image-bytes, flag, flag-numbers, position-numbers, row-numbers, image-numbers}
 use Rattle.stage5_image.specs.ImageLaws.{normal-form-inside, normal-form-some}
 use Rattle.stage5_image.specs.ImageNumbers.{all-numbers, flag-number, one-position-numbers, one-row-numbers, flags-are, positions-are, rows-are}
 use Rattle.stage5_image.specs.MetNodes.{Met, met-at}
@@ -31,7 +32,7 @@ use Rattle.stage5_image_numbering.specs.Grammar.{GrammarOf, Numbers}
 use Rattle.stage5_image_numbering.specs.ReachedNodes.{reached-inside}
 use Rattle.stage5_image_numbering.specs.declared.Grammar.{Grammar}
 use Rattle.stage5_image_numbering.specs.declared.Numbering.{Numbering}
-use Rattle.stage5_image_writer.specs.Emitted.{Emitted, emitted-append, emitted-same}
+use Rattle.stage5_image_writer.specs.Emitted.{Emitted, emitted-append, emitted-same, emitted-all}
 use Rattle.stage5_image_writer.specs.Parts.{skip-number, rules-part, position-part, positions-part, mapped, mapped-row, row-part, rows-part, PartsOf}
 
 -- ---- the rules
@@ -180,3 +181,14 @@ module _ (g : Grammar) (p : PositionColumns) (c : Numbering) (s : Sheet) (h : Pa
       sym (getD-take (c .count) (c .met) i 0 l) ∙ ap (λ (m : List ℕ). getD m i 0) (n .nodes) in
       let below = reached-inside g (s .rules) (s .expression) (h .grammar) i (omega (arith, n .count)) in
       omega arith
+
+-- ---- the bytes
+
+pub image-measured : {a b : List ℕ} {j : ℕ} (i : Image) → Emitted a b 0 j (image-numbers i) → j ≡ length (image-bytes i)
+unfolding image-bytes
+image-measured i x = x .cursor ∙ zero-add (length (spell (image-numbers i)))
+
+pub image-written : {a b : List ℕ} {j : ℕ} (i : Image) → Emitted a b 0 j (image-numbers i) → length (image-bytes i) ≤ length a
+    → b ≡ image-bytes i ++ drop (length (image-bytes i)) a
+unfolding image-bytes
+image-written i x room = emitted-all x room
