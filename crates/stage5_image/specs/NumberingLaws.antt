@@ -19,7 +19,7 @@ use Rattle.stage5_image.specs.Numbering.{is-met, meet, meet-all, tail-me
 
 -- ---- the order
 
-meet-all-append : (met a b : List ℕ) → meet-all met (a ++ b) ≡ meet-all (meet-all met a) b
+pub meet-all-append : (met a b : List ℕ) → meet-all met (a ++ b) ≡ meet-all (meet-all met a) b
 unfolding meet-all
 meet-all-append met [] b = refl
 meet-all-append met (n ∷ a) b = meet-all-append (meet met n) a b

@@ -1,0 +1,177 @@
+-- The rows one after the other: the members of one row, rule by rule, and the rows of the nodes met, until none is left.
+use mathlib.Core.Path.{_≡_, refl, sym, ap, subst, _∙_}
+use mathlib.Core.Bool.{Bool, true, false, cond}
+use mathlib.Core.List.{List, [], _∷_, _++_, append-assoc, append-nil}
+use Prim.Native.Nat.{ℕ, zero, suc, _+_, _-_, _≤_, _<_}
+use native.Mathlib.Omega.{arith}
+use native.Mathlib.Numerals.{add-one}
+use lib.ListN.{getD, length, take, replicate, length-append, List·getD-append}
+use lib.Dec.{ltb}
+use lib.Seq.{getD-take}
+use borrow.Author.Tests.{lt-ltb, le-ltb, ne-eqb}
+use Rattle.stage1_sheet.specs.Expression.{Expression, size}
+use Rattle.stage1_sheet.specs.Sheet.{Rule}
+use Rattle.stage3_normal_form.specs.Productions.{Production, Row, row-of}
+use Rattle.stage3_normal_form.specs.NormalForm.{normal-form}
+use Rattle.stage3_normal_form_walk.specs.Columns.{tail-held}
+use Rattle.stage3_normal_form_walk.specs.declared.Tail.{Tail}
+use Rattle.stage5_image.specs.Fusion.{fused-from, fused-row, fused}
+use Rattle.stage5_image.specs.MetNodes.{first-met, meet-all-order}
+use Rattle.stage5_image.specs.Numbering.{is-met, meet-all, tail-members, meet-rows, reached, number-of}
+use Rattle.stage5_image.specs.NumberingLaws.{Reached}
+use Rattle.stage5_image.specs.Simulation.{fused-row-of}
+use Rattle.stage5_image_numbering.specs.Below.{concat-below}
+use Rattle.stage5_image_numbering.specs.Grammar.{GrammarOf, Numbers, members-of}
+use Rattle.stage5_image_numbering.specs.ReachedNodes.{rows-size, reached-here, reached-inside}
+use Rattle.stage5_image_numbering.specs.RuleTails.{rule-tail, rule-part, fused-parts, members-are}
+use Rattle.stage5_image_numbering.specs.declared.Grammar.{Grammar}
+use Rattle.stage5_image_numbering.specs.declared.Numbering.{Numbering}
+use Rattle.stage5_image_numbering.proofs.Tails.{members-nodes}
+use Rattle.stage5_image_numbering.proofs.Meeting.{TailMet, RowMet, row-next, part-members}
+
+-- ---- one row
+
+abbrev productions-of : Expression → ℕ → List Production
+productions-of e node = (row-of (normal-form e) node) .productions
+
+-- The tail members of a rule in a node's row.
+abbrev pub row-members : List Rule → Expression → ℕ → ℕ → List ℕ
+row-members rules e node r = rule-part (λ p. p .tail) r (rule-tail rules (productions-of e node) r)
+
+module _ (g : Grammar) (rules : List Rule) (e : Expression) (h : GrammarOf g rules e) (node : ℕ) where
+  pub row-turn : (c d f : Numbering) (r : ℕ) (t : Tail) → r < g .rules → tail-held t ≡ rule-tail rules (productions-of e node) r
+      → RowMet c d (row-members rules e node) (length rules) r → TailMet d f (members-of (tail-held t)) (members-of (tail-held t))
+      → RowMet c f (row-members rules e node) (length rules) (r + 1)
+  row-turn c d f r t below found so-far joins =
+      row-next c d f (row-members rules e node) (length rules) r (members-of (tail-held t)) (omega (arith, h .rule-count))
+      (part-members r (rule-tail rules (productions-of e node) r) ∙ ap members-of (sym found))
+      (rw found (members-nodes h node r)) so-far joins
+
+  pub row-end : (c d : Numbering) (r : ℕ) → r ≤ g .rules → g .rules ≤ r → RowMet c d (row-members rules e node) (length rules) r
+      → (met : List ℕ) → Numbers c met → length (meet-all met (tail-members (fused-from rules 0 (productions-of e node)))) ≤ 64
+      → Numbers d (meet-all met (tail-members (fused-from rules 0 (productions-of e node))))
+  row-end c d r a b so-far met n few =
+      let same : r ≡ length rules = omega (arith, h .rule-count) in
+      let whole : concat-below (row-members rules e node) (length rules) ≡ tail-members (fused-from rules 0 (productions-of e node)) =
+      fused-parts (λ p. p .tail) (productions-of e node) rules ∙ members-are (fused-from rules 0 (productions-of e node)) in
+      let all : RowMet c d (row-members rules e node) (length rules) (length rules) =
+      subst (λ (k : ℕ). RowMet c d (row-members rules e node) (length rules) k) same so-far in
+      subst (λ (l : List ℕ). Numbers d (meet-all met l)) whole (all met n (rw whole few))
+
+-- ---- the start
+
+all-same : (n k x d : ℕ) → k < n → getD (replicate n x) k d ≡ x
+all-same zero k x d h = absurd (omega arith)
+all-same (suc n) zero x d h = refl
+all-same (suc n) (suc k) x d h = all-same n k x d (omega arith)
+
+pub start-numbers : (n : ℕ) → n < 64 → getD (0 ∷ replicate 63 64) n 0 ≡ cond (is-met n (0 ∷ [])) (number-of (0 ∷ []) n) 64
+unfolding is-met number-of
+start-numbers zero h = refl
+start-numbers (suc n) h = rw (ne-eqb 0 (suc n) (omega arith)) (all-same 63 n 64 0 (omega arith))
+
+-- ---- all rows
+
+-- Those met stay in front.
+rows-more : (rows : List Row) (k i : ℕ) (met : List ℕ) → (more : List ℕ) × (meet-rows rows k i met ≡ met ++ more)
+unfolding meet-rows
+rows-more rows zero i met = ([], sym (append-nil met))
+rows-more rows (suc k) i met =
+    let new = tail-members ((row-of rows (getD met i 0)) .productions) in
+    go new (ltb i (length met)) (rows-more rows k (suc i) (meet-all met new))
+  where
+    go : (new : List ℕ) (b : Bool) → (more : List ℕ) × (meet-rows rows k (suc i) (meet-all met new) ≡ meet-all met new ++ more)
+        → (more : List ℕ) × (elim b [ true ↦ meet-rows rows k (suc i) (meet-all met new) | false ↦ met ] ≡ met ++ more)
+    go new true r = (
+      first-met met new ++ r .0,
+      r .1 ∙ ap (λ (l : List ℕ). l ++ r .0) (meet-all-order met new) ∙ append-assoc met (first-met met new) (r .0),
+    )
+    go new false r = ([], sym (append-nil met))
+
+row-done : (rows : List Row) (k i : ℕ) (met : List ℕ) → i < length met
+    → meet-rows rows (suc k) i met ≡ meet-rows rows k (suc i) (meet-all met (tail-members ((row-of rows (getD met i 0)) .productions)))
+unfolding meet-rows
+row-done rows k i met l =
+    ap (λ (b : Bool). elim b [
+      | true ↦ meet-rows rows k (suc i) (meet-all met (tail-members ((row-of rows (getD met i 0)) .productions)))
+      | false ↦ met
+    ]) (lt-ltb i (length met) l)
+
+rows-done : (rows : List Row) (k i : ℕ) (met : List ℕ) → length met ≤ i → meet-rows rows k i met ≡ met
+unfolding meet-rows
+rows-done rows zero i met l = refl
+rows-done rows (suc k) i met l =
+    ap (λ (b : Bool). elim b [
+      | true ↦ meet-rows rows k (suc i) (meet-all met (tail-members ((row-of rows (getD met i 0)) .productions)))
+      | false ↦ met
+    ]) (le-ltb i (length met) l)
+
+fused-members : (rules : List Rule) (row : Row) → tail-members ((fused-row rules row) .productions) ≡ tail-members (fused-from rules 0 (row .productions))
+unfolding fused-row
+fused-members rules row = refl
+
+-- The rows of the first i nodes met are done, and the others lead to all nodes reached.
+pub record Walked (rules : List Rule) (e : Expression) (c : Numbering) (i : ℕ) : Type 0 where
+  pub met : List ℕ
+  pub numbers : Numbers c met
+  pub rest : meet-rows (fused rules (normal-form e)) (size e - i) i met ≡ reached (fused rules (normal-form e))
+
+module _ (g : Grammar) (rules : List Rule) (e : Expression) (h : GrammarOf g rules e) where
+  pub walked-start : (c : Numbering) → Numbers c (0 ∷ []) → Walked rules e c 0
+  walked-start c n = record {
+    met = 0 ∷ [];
+    numbers = n;
+    rest = unfold reached in
+        ap (λ (k : ℕ). meet-rows (fused rules (normal-form e)) k 0 (0 ∷ [])) (let s = rows-size g rules e h in let z : size e - 0 ≡ length (fused rules (normal-form e)) = omega arith in z);
+  }
+
+  module _ (c : Numbering) (i : ℕ) (w : Walked rules e c i) where
+    abbrev rows : List Row
+    rows = fused rules (normal-form e)
+
+    few : length (w .met) ≤ size e
+    few =
+        let m = rows-more rows (size e - i) i (w .met) in
+        omega (arith, ap length (sym (w .rest) ∙ m .1), length-append (w .met) (m .0), reached-here g rules e h .few, rows-size g rules e h)
+
+    pub next-node : (node : ℕ) → node ≡ getD (c .met) i 0 → i < c .count → node < size e
+    next-node node is b =
+        let m = rows-more rows (size e - i) i (w .met) in
+        let l : i < length (w .met) = omega (arith, w .numbers .count) in
+        let all : reached rows ≡ w .met ++ m .0 = sym (w .rest) ∙ m .1 in
+        let same : getD (reached rows) i 0 ≡ getD (c .met) i 0 =
+        ap (λ (k : List ℕ). getD k i 0) all ∙ List·getD-append (w .met) (m .0) 0 i l
+        ∙ ap (λ (k : List ℕ). getD k i 0) (sym (w .numbers .nodes)) ∙ getD-take (c .count) (c .met) i 0 b in
+        let bound : i < length (reached rows) = omega (arith, ap length all, length-append (w .met) (m .0)) in
+        omega (arith, reached-inside g rules e h i bound)
+
+    pub walked-next : (d : Numbering) (node : ℕ) → node ≡ getD (c .met) i 0 → i < c .count
+        → ((met : List ℕ) → Numbers c met → length (meet-all met (tail-members (fused-from rules 0 (productions-of e node)))) ≤ 64
+        → Numbers d (meet-all met (tail-members (fused-from rules 0 (productions-of e node)))))
+        → Walked rules e d (i + 1)
+    walked-next d node is b joins =
+        let l : i < length (w .met) = omega (arith, w .numbers .count) in
+        let members = tail-members (fused-from rules 0 (productions-of e node)) in
+        let here : getD (w .met) i 0 ≡ node =
+        ap (λ (k : List ℕ). getD k i 0) (sym (w .numbers .nodes)) ∙ getD-take (c .count) (c .met) i 0 b ∙ sym is in
+        let row : tail-members ((row-of rows (getD (w .met) i 0)) .productions) ≡ members =
+        ap (λ (r : Row). tail-members (r .productions)) (fused-row-of rules (normal-form e) (getD (w .met) i 0))
+        ∙ fused-members rules (row-of (normal-form e) (getD (w .met) i 0))
+        ∙ ap (λ (n : ℕ). tail-members (fused-from rules 0 (productions-of e n))) here in
+        let step : meet-rows rows (size e - (i + 1)) (i + 1) (meet-all (w .met) members) ≡ reached rows =
+        ap (λ (k : ℕ). meet-rows rows (size e - (i + 1)) k (meet-all (w .met) members)) (add-one i)
+        ∙ sym (ap (λ (k : ℕ). meet-rows rows k i (w .met)) (let f = few in let z : size e - i ≡ suc (size e - (i + 1)) = omega arith in z)
+        ∙ row-done rows (size e - (i + 1)) i (w .met) l
+        ∙ ap (λ (m : List ℕ). meet-rows rows (size e - (i + 1)) (suc i) (meet-all (w .met) m)) row) ∙ w .rest in
+        let m = rows-more rows (size e - (i + 1)) (i + 1) (meet-all (w .met) members) in
+        record {
+          met = meet-all (w .met) members;
+          numbers = joins (w .met) (w .numbers)
+              (omega (arith, ap length (sym step ∙ m .1), length-append (meet-all (w .met) members) (m .0), reached-here g rules e h .few, rows-size g rules e h,
+              h .columns .nodes-most));
+          rest = step;
+        }
+
+    pub walked-end : c .count ≤ i → Numbers c (reached rows)
+    walked-end b =
+        subst (Numbers c) (sym (rows-done rows (size e - i) i (w .met) (omega (arith, w .numbers .count))) ∙ w .rest) (w .numbers)

@@ -1,0 +1,73 @@
+-- A rule's tail: what the code finds is what the rule has in the node's row, and its members are nodes.
+use mathlib.Core.Path.{_≡_, refl, sym, ap, subst, _∙_}
+use mathlib.Core.Bool.{false}
+use mathlib.Core.List.{List, [], _∷_, map, List·Memᴰ}
+use mathlib.Core.Option.{Option, none, some}
+use Prim.Native.Nat.{ℕ, zero, suc, _+_, _-_, _≤_, _<_}
+use native.Mathlib.Omega.{arith}
+use lib.ListN.{getD, length, take}
+use lib.Seq.{getD-take}
+use Rattle.stage0_laws.specs.Lists.{All}
+use Rattle.stage1_sheet.specs.Expression.{Expression, size}
+use Rattle.stage1_sheet.specs.Sheet.{Rule}
+use Rattle.stage3_normal_form.specs.Productions.{Production, row-of}
+use Rattle.stage3_normal_form.specs.NormalForm.{normal-form}
+use Rattle.stage3_normal_form.specs.ProductionWalk.{with-head}
+use Rattle.stage3_normal_form.specs.Tails.{normal-form-in-range}
+use Rattle.stage3_normal_form_walk.specs.Columns.{ColumnsOf, tail-held, production-held}
+use Rattle.stage3_normal_form_walk.specs.declared.Tail.{Tail}
+use Rattle.stage5_image.specs.Fusion.{production-of}
+use Rattle.stage5_image.specs.FusionLaws.{Found, production-found}
+use Rattle.stage5_image.specs.Members.{all-of, all-member}
+use Rattle.stage5_image.specs.Simulation.{tail-of}
+use Rattle.stage5_image_numbering.specs.Grammar.{GrammarOf, members-of}
+use Rattle.stage5_image_numbering.specs.RuleTails.{action-tail, rule-tail}
+use Rattle.stage5_image_numbering.specs.declared.Grammar.{Grammar}
+
+with-head-tail : (t : ℕ) (o : Option (List ℕ)) → tail-of (with-head t o) ≡ o
+with-head-tail t none = refl
+with-head-tail t (some tail) = refl
+
+module _ (g : Grammar) (rules : List Rule) (e : Expression) (h : GrammarOf g rules e) (rule : ℕ) (below : rule < length rules)
+    (ps : List Production) where
+  tail-by-action : rule-tail rules ps rule ≡ action-tail (getD (g .action) rule 0) ps
+  unfolding rule-tail
+  tail-by-action =
+      let l : rule < g .rules = omega (arith, h .rule-count) in
+      ap (λ (a : ℕ). action-tail a ps)
+      (ap (λ (l : List ℕ). getD l rule 0) (sym (h .actions-held)) ∙ getD-take (g .rules) (g .action) rule 0 l)
+
+  pub skipping-tail : getD (g .action) rule 0 ≡ 0 → none ≡ rule-tail rules ps rule
+  skipping-tail z = sym (tail-by-action ∙ ap (λ (a : ℕ). action-tail a ps) z ∙ (unfold action-tail in refl))
+
+  pub returning-tail : (getD (g .action) rule 0 ≡ 0 → ⊥) → (r : Tail)
+      → production-held (getD (g .action) rule 0 - 1) r ≡ production-of (getD (g .action) rule 0 - 1) ps
+      → tail-held r ≡ rule-tail rules ps rule
+  unfolding production-held
+  returning-tail some-token r found =
+      let a = getD (g .action) rule 0 in
+      let next : suc (a - 1) ≡ a = omega arith in
+      sym (with-head-tail (a - 1) (tail-held r)) ∙ ap tail-of found
+      ∙ (let same : tail-of (production-of (a - 1) ps) ≡ action-tail (suc (a - 1)) ps = unfold action-tail in refl in same)
+      ∙ ap (λ (k : ℕ). action-tail k ps) next ∙ sym tail-by-action
+
+-- The members of a rule's tail in a row of the normal form are nodes.
+pub members-nodes : {g : Grammar} {rules : List Rule} {e : Expression} → GrammarOf g rules e → (n rule : ℕ)
+    → All (λ m. m < 64) (members-of (rule-tail rules ((row-of (normal-form e) n) .productions) rule))
+unfolding rule-tail
+members-nodes {g} {rules} {e} h n rule = go (getD (map (λ r. r .action) rules) rule 0)
+  where
+    ps : List Production
+    ps = (row-of (normal-form e) n) .productions
+
+    found : (t : ℕ) (o : Option Production) → Found t ps o → All (λ m. m < 64) (members-of (tail-of o))
+    found t none f = unfold members-of in tt
+    found t (some p) f = unfold members-of in
+        all-of (λ m. m < 64) (p .tail)
+        (λ x m. let b : x < size e = all-member (λ i. i < size e) (p .tail)
+        (normal-form-in-range e (h .columns .tokens) (h .columns .closed) n p (f .0) .tail-below) x m in
+        omega (arith, h .columns .nodes-most))
+
+    go : (a : ℕ) → All (λ m. m < 64) (members-of (action-tail a ps))
+    go zero = unfold action-tail members-of in tt
+    go (suc k) = unfold action-tail in found k (production-of k ps) (production-found k ps)

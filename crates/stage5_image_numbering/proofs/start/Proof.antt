@@ -1,0 +1,18 @@
+use mathlib.Core.Path.{refl}
+use borrow.Author.Needs.{needs}
+use Rattle.stage5_image_numbering.proofs.Reaching.{start-numbers}
+use Rattle.stage5_image_numbering.proofs.start.Statement.{statement}
+use Rattle.stage5_image_numbering.proofs.start.Tie as tie
+use Rattle.stage5_image_numbering.proofs.start.Reads as reads
+use Rattle.stage5_image_numbering.proofs.start.Lts as lts
+
+-- src/lib.rt:132:5
+array-write-number : tie.Need-array-write-number
+array-write-number c = search needs
+
+-- src/lib.rt:128:1
+returns : tie.Need-returns
+returns c = (refl, record { count = refl; nodes = refl; numbers = start-numbers })
+
+pub start-spec : {M : Type 1} → statement M
+start-spec = tie.close (tie.spec array-write-number returns)

@@ -1,0 +1,5 @@
+-- What the columns and the numbering hold, and the fused productions rule by rule.
+pub mod Below
+pub mod RuleTails
+pub mod Grammar
+pub mod ReachedNodes

@@ -1,0 +1,152 @@
+-- A node's row: how many productions it has, its productions rule by rule, and its numbers.
+use mathlib.Core.Path.{_≡_, refl, sym, ap, subst, _∙_}
+use mathlib.Core.Bool.{Bool, true, false, cond}
+use mathlib.Core.List.{List, [], _∷_, _++_, map}
+use mathlib.Core.Option.{Option, none, some}
+use Prim.Native.Nat.{ℕ, zero, suc, _+_, _≤_, _<_}
+use native.Mathlib.Numerals.{add-one}
+use native.Mathlib.Omega.{arith}
+use lib.ListN.{getD, length, take, length-append, length-map}
+use Rattle.stage0_laws.specs.Bits.{bit}
+use Rattle.stage1_sheet.specs.Expression.{Expression, size}
+use Rattle.stage1_sheet.specs.Sheet.{Rule}
+use Rattle.stage2_types.specs.LeastTypeLaws.{least-solves}
+use Rattle.stage2_types.specs.Typing.{no-fault-typed}
+use Rattle.stage3_normal_form.specs.Productions.{Production, Row, row-of, rows as all-rows}
+use Rattle.stage3_normal_form.specs.Derives.{derives}
+use Rattle.stage3_normal_form.specs.NormalForm.{kept-row, normal-form}
+use Rattle.stage3_normal_form.specs.NormalFormLaws.{normal-form-row}
+use Rattle.stage3_normal_form.specs.TypesExact.{null-is-epsilon}
+use Rattle.stage3_normal_form_walk.specs.Columns.{tail-held}
+use Rattle.stage3_normal_form_walk.specs.declared.Tail.{Tail}
+use Rattle.stage5_image.specs.Fusion.{fused-from, fused-row}
+use Rattle.stage5_image.specs.Image.{flag, production-numbers}
+use Rattle.stage5_image.specs.ImageNumbers.{all-numbers, one-production-numbers, one-row-numbers, productions-are}
+use Rattle.stage5_image_numbering.specs.Below.{concat-below}
+use Rattle.stage5_image_numbering.specs.Grammar.{GrammarOf}
+use Rattle.stage5_image_numbering.specs.RuleTails.{rule-tail, rule-part, fused-parts}
+use Rattle.stage5_image_numbering.specs.declared.Grammar.{Grammar}
+use Rattle.stage5_image_numbering.specs.declared.Numbering.{Numbering}
+use Rattle.stage5_image_writer.specs.Emitted.{Emitted, emitted-append, emitted-same}
+use Rattle.stage5_image_writer.specs.Parts.{mapped, mapped-row, production-part, productions-part, row-part, rows-part}
+use Rattle.stage5_image_writer.proofs.Writing.{one-more}
+
+abbrev productions-of : Expression → ℕ → List Production
+productions-of e node = (row-of (normal-form e) node) .productions
+
+-- ---- how many productions
+
+-- One entry for each rule that has a production.
+abbrev pub entries : List Rule → Expression → ℕ → ℕ → List ℕ
+entries rules e node r = rule-part (λ p. 0 ∷ []) r (rule-tail rules (productions-of e node) r)
+
+pub counted-none : (rules : List Rule) (e : Expression) (node : ℕ) → 0 ≡ length (concat-below (entries rules e node) 0)
+unfolding concat-below
+counted-none rules e node = refl
+
+pub counted-more : (rules : List Rule) (e : Expression) (node r count : ℕ) (t : Tail) → tail-held t ≡ rule-tail rules (productions-of e node) r
+    → count ≡ length (concat-below (entries rules e node) r)
+    → cond (t .found) (count + 1) count ≡ length (concat-below (entries rules e node) (r + 1))
+counted-more rules e node r count t found so-far =
+    let one = one-entry (t .found) ∙ ap (λ (o : Option (List ℕ)). length (rule-part (λ p. 0 ∷ []) r o)) found in
+    more (t .found) (length (entries rules e node r)) one ∙ ap (λ (k : ℕ). k + length (entries rules e node r)) so-far
+    ∙ sym (length-append (concat-below (entries rules e node) r) (entries rules e node r)) ∙ last
+    ∙ ap (λ (k : ℕ). length (concat-below (entries rules e node) k)) (sym (add-one r))
+  where
+    last : length (concat-below (entries rules e node) r ++ entries rules e node r) ≡ length (concat-below (entries rules e node) (suc r))
+    last = unfold concat-below in refl
+
+    one-entry : (b : Bool) → cond (t .found) 1 0 ≡ length (rule-part (λ p. 0 ∷ []) r (tail-held t))
+    one-entry b = unfold tail-held rule-part in cases (t .found)
+      where
+        cases : (b : Bool) → cond b 1 0 ≡ length {A = ℕ} (rule-part (λ p. 0 ∷ []) r (cond b (some (take (t .count) (t .members))) none))
+        cases true = unfold rule-part in refl
+        cases false = unfold rule-part in refl
+
+    more : (b : Bool) (n : ℕ) → cond b 1 0 ≡ n → cond b (count + 1) count ≡ count + n
+    more true n e = ap (λ (k : ℕ). count + k) e
+    more false n e = (let z : count ≡ count + 0 = omega arith in z) ∙ ap (λ (k : ℕ). count + k) e
+
+entries-length : (ps : List Production) → length (all-numbers (λ p. 0 ∷ []) ps) ≡ length ps
+entries-length [] = refl
+entries-length (p ∷ ps) = ap suc (entries-length ps)
+
+pub counted-all : (g : Grammar) (rules : List Rule) (e : Expression) → GrammarOf g rules e → (node r count : ℕ) → r ≤ g .rules → g .rules ≤ r
+    → count ≡ length (concat-below (entries rules e node) r) → count ≡ length (fused-from rules 0 (productions-of e node))
+counted-all g rules e h node r count a b so-far =
+    let same : r ≡ length rules = omega (arith, h .rule-count) in
+    so-far ∙ ap (λ (k : ℕ). length (concat-below (entries rules e node) k)) same
+    ∙ ap length (fused-parts (λ p. 0 ∷ []) (productions-of e node) rules) ∙ entries-length (fused-from rules 0 (productions-of e node))
+
+-- ---- the productions
+
+-- The numbers of a rule's production in a node's row.
+abbrev pub rule-numbers : List ℕ → List Rule → Expression → ℕ → ℕ → List ℕ
+rule-numbers number rules e node r = rule-part (λ p. one-production-numbers (mapped number p)) r (rule-tail rules (productions-of e node) r)
+
+pub production-more : {a b c : List ℕ} {at n m : ℕ} (number : List ℕ) (rules : List Rule) (e : Expression) (node r : ℕ) (t : Tail)
+    → tail-held t ≡ rule-tail rules (productions-of e node) r → Emitted a b at n (concat-below (rule-numbers number rules e node) r)
+    → Emitted b c n m (production-part number r t) → Emitted a c at m (concat-below (rule-numbers number rules e node) (r + 1))
+production-more number rules e node r t found so-far one =
+    one-more (rule-numbers number rules e node) r so-far (emitted-same (same ∙ ap (rule-part (λ p. one-production-numbers (mapped number p)) r) found) one)
+  where
+    same : production-part number r t ≡ rule-part (λ p. one-production-numbers (mapped number p)) r (tail-held t)
+    same = unfold production-part in refl
+
+pub productions-emitted : {a b : List ℕ} {at n : ℕ} (g : Grammar) (number : List ℕ) (rules : List Rule) (e : Expression) → GrammarOf g rules e
+    → (node r : ℕ) → r ≤ g .rules → g .rules ≤ r → Emitted a b at n (concat-below (rule-numbers number rules e node) r)
+    → Emitted a b at n (productions-part number rules e node)
+unfolding productions-part
+productions-emitted g number rules e h node r l m x =
+    let same : r ≡ length rules = omega (arith, h .rule-count) in
+    emitted-same (ap (concat-below (rule-numbers number rules e node)) same
+    ∙ fused-parts (λ p. one-production-numbers (mapped number p)) (productions-of e node) rules) x
+
+-- ---- the row
+
+kept-empty : (flags : List Bool) (row : Row) → (kept-row flags row) .empty ≡ row .empty
+unfolding kept-row
+kept-empty flags row = refl
+
+-- The ε flag of a node is in the set of nullable nodes.
+null-empty : (g : Grammar) (rules : List Rule) (e : Expression) → GrammarOf g rules e → (node : ℕ) → node < size e
+    → bit (g .null) node ≡ (row-of (normal-form e) node) .empty
+null-empty g rules e h node inside =
+    let k = h .columns in
+    h .null-held node inside
+    ∙ null-is-epsilon (no-fault-typed (k .tokens) (k .tokens-most) e (k .closed) (k .no-fault)) (least-solves (k .tokens) (k .tokens-most) e (k .closed)) node
+    ∙ sym (ap (λ (r : Row). r .empty) (normal-form-row e node) ∙ kept-empty (derives e) (row-of (all-rows e) node))
+
+map-numbers : {A B : Type 0} (f : B → List ℕ) (m : A → B) (l : List A) → all-numbers f (map m l) ≡ all-numbers (λ a. f (m a)) l
+map-numbers f m [] = refl
+map-numbers f m (a ∷ l) = ap (λ (k : List ℕ). f (m a) ++ k) (map-numbers f m l)
+
+pub row-emitted : {a b c d : List ℕ} {at v n m : ℕ} (g : Grammar) (number : List ℕ) (rules : List Rule) (e : Expression) → GrammarOf g rules e
+    → (node : ℕ) → node < size e → (null : Bool) (count : ℕ) → null ≡ bit (g .null) node → count ≡ length (fused-from rules 0 (productions-of e node))
+    → Emitted a b at v (flag null ∷ []) → Emitted b c v n (count ∷ []) → Emitted c d n m (productions-part number rules e node)
+    → Emitted a d at m (row-part number rules e node)
+unfolding row-part mapped-row fused-row productions-part
+row-emitted g number rules e h node inside null count is-null is-count x y z =
+    let ps = fused-from rules 0 (productions-of e node) in
+    let flags : flag null ∷ [] ≡ flag ((row-of (normal-form e) node) .empty) ∷ [] = ap (λ (b : Bool). flag b ∷ []) (is-null ∙ null-empty g rules e h node inside) in
+    let counts : count ∷ [] ≡ length (map (mapped number) ps) ∷ [] = ap (λ (k : ℕ). k ∷ []) (is-count ∙ sym (length-map ps (mapped number))) in
+    let numbers : all-numbers (λ p. one-production-numbers (mapped number p)) ps ≡ production-numbers (map (mapped number) ps) =
+    sym (map-numbers one-production-numbers (mapped number) ps) ∙ productions-are (map (mapped number) ps) in
+    emitted-append (emitted-same flags x) (emitted-append (emitted-same counts y) (emitted-same numbers z))
+
+-- ---- all rows
+
+-- The numbers of the row with number i.
+abbrev pub numbered-row-part : Numbering → List Rule → Expression → ℕ → List ℕ
+numbered-row-part c rules e i = row-part (c .number) rules e (getD (c .met) i 0)
+
+pub row-more : {a b d : List ℕ} {at n m : ℕ} (c : Numbering) (rules : List Rule) (e : Expression) (i node : ℕ) → node ≡ getD (c .met) i 0
+    → Emitted a b at n (concat-below (numbered-row-part c rules e) i) → Emitted b d n m (row-part (c .number) rules e node)
+    → Emitted a d at m (concat-below (numbered-row-part c rules e) (i + 1))
+row-more c rules e i node is so-far one =
+    one-more (numbered-row-part c rules e) i so-far (emitted-same (ap (row-part (c .number) rules e) is) one)
+
+pub rows-emitted : {a b d : List ℕ} {at v n : ℕ} (c : Numbering) (rules : List Rule) (e : Expression) → Emitted a b at v (c .count ∷ [])
+    → Emitted b d v n (concat-below (numbered-row-part c rules e) (c .count)) → Emitted a d at n (rows-part c rules e)
+unfolding rows-part
+rows-emitted c rules e x y = emitted-append x y

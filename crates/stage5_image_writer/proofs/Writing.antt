@@ -1,0 +1,118 @@
+-- What one write leaves, what a loop of writes leaves, and the parts of an image that these make.
+use mathlib.Core.Path.{_≡_, refl, sym, ap, subst, _∙_}
+use mathlib.Core.Bool.{Bool, true, false, not}
+use mathlib.Core.List.{List, [], _∷_, _++_, map, append-nil}
+use mathlib.Core.Option.{Option, none, some}
+use Prim.Native.Nat.{ℕ, zero, suc, _+_, _≤_, _<_}
+use native.Mathlib.Numerals.{add-one}
+use native.Mathlib.Omega.{arith}
+use lib.Dec.{eqb}
+use lib.ListN.{getD, length, take, length-map}
+use lib.Seq.{length-take-le, getD-take}
+use Rattle.stage0_laws.specs.Bits.{bit}
+use Rattle.stage0_number.specs.Number.{encode, used-at, written-at}
+use Rattle.stage0_number.specs.Laws.{encode-ten}
+use Rattle.stage0_number.specs.Splice.{used-at-some, used-at-fits}
+use Rattle.stage3_normal_form.specs.Productions.{Production}
+use Rattle.stage3_normal_form_walk.specs.Columns.{tail-held}
+use Rattle.stage3_normal_form_walk.specs.declared.Tail.{Tail}
+use Rattle.stage4_lexer_columns.specs.Held.{held-position}
+use Rattle.stage4_lexer_columns.specs.declared.PositionColumns.{PositionColumns}
+use Rattle.stage5_image.specs.Image.{flag}
+use Rattle.stage5_image.specs.ImageNumbers.{all-numbers, just, tail-is}
+use Rattle.stage5_image.specs.NumberingLaws.{getD-map-inside}
+use Rattle.stage5_image_numbering.specs.Below.{concat-below, concat-below-list}
+use Rattle.stage5_image_numbering.specs.RuleTails.{rule-part}
+use Rattle.stage5_image_numbering.specs.declared.Grammar.{Grammar}
+use Rattle.stage5_image_writer.specs.Emitted.{Emitted, emitted-none, emitted-append, emitted-same}
+use Rattle.stage5_image_writer.specs.Parts.{skip-number, rules-part, position-part, positions-part, mapped, production-part}
+
+-- ---- one number
+
+pub used-width : (a : List ℕ) (i n u : ℕ) → u ≡ used-at a i n → 0 < u → u ≡ length (encode n)
+used-width a i n u e l = e ∙ used-at-fits a i n (used-at-some a i n (subst (λ (k : ℕ). 0 < k) e l))
+
+-- ---- a loop
+
+pub nothing-yet : (d : List ℕ) (at : ℕ) (f : ℕ → List ℕ) → Emitted d d at at (concat-below f 0)
+unfolding concat-below
+nothing-yet d at f = emitted-none d at
+
+pub one-more : {a b c : List ℕ} {at n m : ℕ} (f : ℕ → List ℕ) (i : ℕ) → Emitted a b at n (concat-below f i) → Emitted b c n m (f i)
+    → Emitted a c at m (concat-below f (i + 1))
+one-more f i so-far one = rw add-one (unfold concat-below in emitted-append so-far one)
+
+pub all-done : {a b : List ℕ} {at n : ℕ} (f : ℕ → List ℕ) (i count : ℕ) → i ≤ count → count ≤ i → Emitted a b at n (concat-below f i)
+    → Emitted a b at n (concat-below f count)
+all-done {a} {b} {at} {n} f i count l m e =
+    let same : i ≡ count = omega arith in
+    subst (λ (k : ℕ). Emitted a b at n (concat-below f k)) same e
+
+-- ---- the rules
+
+pub skip-emitted : {a b : List ℕ} {at n : ℕ} (g : Grammar) (i : ℕ) → Emitted a b at n (flag (eqb (getD (g .action) i 0) 0) ∷ []) → Emitted a b at n (skip-number g i)
+unfolding skip-number
+skip-emitted g i e = e
+
+pub rules-emitted : {a b c d : List ℕ} {at v n m : ℕ} (g : Grammar) → Emitted a b at v (1 ∷ []) → Emitted b c v n (g .rules ∷ [])
+    → Emitted c d n m (concat-below (skip-number g) (g .rules)) → Emitted a d at m (rules-part g)
+unfolding rules-part
+rules-emitted g x y z = emitted-append x (emitted-append y z)
+
+-- ---- the positions
+
+pub position-emitted : {a b : List ℕ} {at n : ℕ} (p : PositionColumns) (i : ℕ) (last : Bool) → last ≡ bit (p .last) i
+    → Emitted a b at n (getD (p .low) i 0 ∷ getD (p .high) i 0 ∷ getD (p .rule) i 0 ∷ flag last ∷ getD (p .follow) i 0 ∷ [])
+    → Emitted a b at n (position-part p i)
+unfolding position-part held-position
+position-emitted {a} {b} {at} {n} p i last e x =
+    subst (λ (l : Bool). Emitted a b at n (getD (p .low) i 0 ∷ getD (p .high) i 0 ∷ getD (p .rule) i 0 ∷ flag l ∷ getD (p .follow) i 0 ∷ [])) e x
+
+pub positions-emitted : {a b c d : List ℕ} {at v n m : ℕ} (p : PositionColumns) → Emitted a b at v (p .count ∷ [])
+    → Emitted b c v n (concat-below (position-part p) (p .count)) → Emitted c d n m (p .first ∷ []) → Emitted a d at m (positions-part p)
+unfolding positions-part
+positions-emitted p x y z = emitted-append x (emitted-append y z)
+
+-- ---- a production
+
+not-true : (b : Bool) → not b ≡ true → b ≡ false
+not-true true e = sym e
+not-true false e = refl
+
+not-false : (b : Bool) → not b ≡ false → b ≡ true
+not-false true e = refl
+not-false false e = sym e
+
+pub no-production : (d : List ℕ) (at r : ℕ) (number : List ℕ) (t : Tail) → not (t .found) ≡ true → Emitted d d at at (production-part number r t)
+unfolding production-part tail-held rule-part
+no-production d at r number t e = rw (not-true (t .found) e) (emitted-none d at)
+
+-- The numbers of the members of a tail.
+abbrev pub member-number : List ℕ → Tail → ℕ → List ℕ
+member-number number t i = getD number (getD (t .members) i 0) 0 ∷ []
+
+members-numbers : (number : List ℕ) (t : Tail) → t .count ≤ length (t .members)
+    → concat-below (member-number number t) (t .count) ≡ map (λ n. getD number n 0) (take (t .count) (t .members))
+members-numbers number t room =
+    let tail = take (t .count) (t .members) in
+    let size : length tail ≡ t .count = length-take-le (t .count) (t .members) room in
+    let numbers = map (λ n. getD number n 0) tail in
+    let size-mapped : length numbers ≡ length tail = length-map tail (λ n. getD number n 0) in
+    let same : length numbers ≡ t .count = size-mapped ∙ size in
+    ap (concat-below (member-number number t)) (sym same)
+    ∙ concat-below-list (member-number number t) just numbers 0
+    (λ k l. ap (λ (n : ℕ). n ∷ [])
+    (ap (λ (n : ℕ). getD number n 0) (sym (getD-take (t .count) (t .members) k 0 (omega arith)))
+    ∙ sym (getD-map-inside (λ n. getD number n 0) tail k 0 0 (omega arith))))
+    ∙ tail-is numbers
+
+pub production-emitted : {a b c d : List ℕ} {at v n m : ℕ} (r : ℕ) (number : List ℕ) (t : Tail) → not (t .found) ≡ false → t .count ≤ length (t .members)
+    → Emitted a b at v (r ∷ []) → Emitted b c v n (t .count ∷ []) → Emitted c d n m (concat-below (member-number number t) (t .count))
+    → Emitted a d at m (production-part number r t)
+unfolding production-part tail-held rule-part mapped
+production-emitted {a} {b} {c} {d} {at} {v} {n} {m} r number t e room x y z =
+    let tail = take (t .count) (t .members) in
+    let numbers = map (λ n. getD number n 0) tail in
+    let count : t .count ≡ length numbers = sym (length-map tail (λ n. getD number n 0) ∙ length-take-le (t .count) (t .members) room) in
+    rw (not-false (t .found) e)
+    (emitted-append x (emitted-append (subst (λ (k : ℕ). Emitted b c v n (k ∷ [])) count y) (emitted-same (members-numbers number t room) z)))

@@ -1,0 +1,34 @@
+-- `stage5_image_writer::emit_image` meets its contract: three parts, one after the other.
+use mathlib.Core.Path.{_≡_, refl, sym, ap, _∙_}
+use Prim.Native.Nat.{ℕ, _+_, _*_, _-_, _≤_, _<_}
+use native.Mathlib.Omega.{arith}
+use borrow.Author.Needs.{needs}
+use Rattle.stage5_image_writer.proofs.Whole.{image-emitted, nodes-inside}
+use Rattle.stage5_image_writer.proofs.emit_image.Statement.{statement}
+use Rattle.stage5_image_writer.proofs.emit_image.Tie as tie
+use Rattle.stage5_image_writer.proofs.emit_image.Reads as reads
+use Rattle.stage5_image_writer.proofs.emit_image.Lts as lts
+use Rattle.stage5_image_writer.proofs.emit_positions.Reads as emit-positions-reads
+use Rattle.stage5_image_writer.proofs.emit_rows.Reads as emit-rows-reads
+use Rattle.stage5_image_writer.proofs.emit_rules.Reads as emit-rules-reads
+
+emit-rules-requires : tie.Need-emit-rules-requires
+emit-rules-requires c κs = search needs
+
+emit-positions-requires : tie.Need-emit-positions-requires
+emit-positions-requires c κs = search needs
+
+emit-rows-requires : tie.Need-emit-rows-requires
+emit-rows-requires c κs = search needs
+
+same-length : tie.Need-same-length
+same-length c = search needs
+
+returns : tie.Need-returns
+returns c = λ s h. image-emitted _ _ _ s h (c .before .before .before .before .before .before .before .before .before .before .emit-rules .ensures .1) (c .before .before .before .before .before .before .emit-positions .ensures .1)
+    (c .before .before .emit-rows .ensures .1 (s .rules) (s .expression) (h .grammar) (nodes-inside _ _ _ s h))
+
+pub emit-image-spec : {M : Type 1} → statement M
+emit-image-spec =
+    tie.close
+    (tie.spec emit-rules-requires emit-positions-requires emit-rows-requires same-length returns)

@@ -1,0 +1,71 @@
+-- The numbers of an image, part by part, as the columns give them; and when columns and a numbering are those of a sheet.
+use mathlib.Core.Path.{_≡_}
+use mathlib.Core.Bool.{Bool}
+use mathlib.Core.List.{List, [], _∷_, _++_, map}
+use Prim.Native.Nat.{ℕ}
+use lib.Dec.{eqb}
+use lib.ListN.{getD, length}
+use Rattle.stage1_sheet.specs.Expression.{Expression}
+use Rattle.stage1_sheet.specs.Sheet.{Rule, Sheet}
+use Rattle.stage3_normal_form.specs.Productions.{Production, Row, row-of}
+use Rattle.stage3_normal_form.specs.NormalForm.{normal-form}
+use Rattle.stage3_normal_form_walk.specs.Columns.{tail-held}
+use Rattle.stage3_normal_form_walk.specs.declared.Tail.{Tail}
+use Rattle.stage4_lexer.specs.Positions.{positions, first-positions}
+use Rattle.stage4_lexer_columns.specs.Held.{held-position, held-positions}
+use Rattle.stage4_lexer_columns.specs.declared.PositionColumns.{PositionColumns}
+use Rattle.stage5_image.specs.Fusion.{fused-from, fused-row, fused}
+use Rattle.stage5_image.specs.Image.{flag}
+use Rattle.stage5_image.specs.ImageNumbers.{all-numbers, one-position-numbers, one-production-numbers, one-row-numbers}
+use Rattle.stage5_image.specs.Numbering.{reached}
+use Rattle.stage5_image_numbering.specs.Below.{concat-below}
+use Rattle.stage5_image_numbering.specs.Grammar.{GrammarOf, Numbers}
+use Rattle.stage5_image_numbering.specs.RuleTails.{rule-part}
+use Rattle.stage5_image_numbering.specs.declared.Grammar.{Grammar}
+use Rattle.stage5_image_numbering.specs.declared.Numbering.{Numbering}
+
+-- Whether rule i skips, as a number.
+unfoldable pub skip-number : Grammar → ℕ → List ℕ
+skip-number g i = flag (eqb (getD (g .action) i 0) 0) ∷ []
+
+-- "version 1; R; per rule 1 if it skips, else 0"
+unfoldable pub rules-part : Grammar → List ℕ
+rules-part g = 1 ∷ g .rules ∷ concat-below (skip-number g) (g .rules)
+
+unfoldable pub position-part : PositionColumns → ℕ → List ℕ
+position-part p i = one-position-numbers (held-position (p .low) (p .high) (p .rule) (p .follow) (p .last) i)
+
+-- "position count P; per position ..; first set"
+unfoldable pub positions-part : PositionColumns → List ℕ
+positions-part p = p .count ∷ (concat-below (position-part p) (p .count) ++ (p .first ∷ []))
+
+-- A production and a row, with the nodes' numbers from a column.
+unfoldable pub mapped : List ℕ → Production → Production
+mapped number p = record { head = p .head; tail = map (λ n. getD number n 0) (p .tail) }
+
+unfoldable pub mapped-row : List ℕ → Row → Row
+mapped-row number row = record { empty = row .empty; productions = map (mapped number) (row .productions) }
+
+-- A rule's production, if it has one.
+unfoldable pub production-part : List ℕ → ℕ → Tail → List ℕ
+production-part number r tail = rule-part (λ p. one-production-numbers (mapped number p)) r (tail-held tail)
+
+-- All productions of a node's row.
+unfoldable pub productions-part : List ℕ → List Rule → Expression → ℕ → List ℕ
+productions-part number rules e n =
+    all-numbers (λ p. one-production-numbers (mapped number p)) (fused-from rules 0 ((row-of (normal-form e) n) .productions))
+
+-- A node's row.
+unfoldable pub row-part : List ℕ → List Rule → Expression → ℕ → List ℕ
+row-part number rules e n = one-row-numbers (mapped-row number (fused-row rules (row-of (normal-form e) n)))
+
+-- "nonterminal count; per nonterminal .."
+unfoldable pub rows-part : Numbering → List Rule → Expression → List ℕ
+rows-part c rules e = c .count ∷ concat-below (λ i. row-part (c .number) rules e (getD (c .met) i 0)) (c .count)
+
+-- The columns are those of a sheet's rules and typed expression, and the numbering is that of its nonterminals.
+pub record PartsOf (g : Grammar) (p : PositionColumns) (c : Numbering) (s : Sheet) : Type 0 where
+  pub grammar : GrammarOf g (s .rules) (s .expression)
+  pub positions-held : held-positions p ≡ positions (s .rules)
+  pub first-held : p .first ≡ first-positions (s .rules)
+  pub numbers : Numbers c (reached (fused (s .rules) (normal-form (s .expression))))
