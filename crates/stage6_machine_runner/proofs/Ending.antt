@@ -102,13 +102,13 @@ module _ (image text : List ℕ) (entries : ℕ) where
   unfolding run run-reading
   run-readable h i end e a f = rw (le-ltb 1048576 (length text) h, e) f
 
-pub stack-kept-12 : (stack : List ℕ) → stack ≡ stack-after (answer 12 0 0) stack
+pub stack-kept-12 : (a : Answer) (stack : List ℕ) → a ≡ answer 12 0 0 → stack ≡ stack-after a stack
 unfolding stack-after
-stack-kept-12 stack = refl
+stack-kept-12 a stack e = rw e
 
-pub stack-kept-13 : (place : ℕ) (stack : List ℕ) → stack ≡ stack-after (answer 13 place 0) stack
+pub stack-kept-13 : (a : Answer) (place : ℕ) (stack : List ℕ) → a ≡ answer 13 place 0 → stack ≡ stack-after a stack
 unfolding stack-after
-stack-kept-13 place stack = refl
+stack-kept-13 a place stack e = rw e
 
 pub stack-cleared : (i : Image) (entries : ℕ) (text : List ℕ) (a : Answer) (stack : List ℕ) → a ≡ run-image i entries text
     → replicate (length stack) 0 ≡ stack-after a stack
