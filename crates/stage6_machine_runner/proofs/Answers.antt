@@ -62,24 +62,28 @@ module _ (bytes productions : List ℕ) (empty skips : ℕ) (stack : List ℕ) (
   unfolding turn-step turn-by
   turn-skips e = (rw e, rw e)
 
-  pub turn-takes : bit skips rule ≡ false → (r : Taken) (stack' : List ℕ) → (r ≡ take-of-turn .outcome) × (stack' ≡ take-of-turn .stack)
-      → (o : Taken) → r ≡ o → (after-take n s o ≡ whole-turn .outcome) × (stack' ≡ whole-turn .stack)
+  pub turn-takes : bit skips rule ≡ false → (r : Taken) (stack' : List ℕ)
+      → (r ≡ take-of-turn .outcome) × (stack' ≡ take-of-turn .stack) → (o : Taken) → r ≡ o
+      → (after-take n s o ≡ whole-turn .outcome) × (stack' ≡ whole-turn .stack)
   unfolding turn-step turn-by
   turn-takes e r stack' h o f = (rw e (ap (after-take n s) (sym f ∙ h .0)), rw e (h .1))
 
   -- A turn that ends with an answer.
-  pub turn-answers : bit skips rule ≡ false → (r : Taken) (stack' : List ℕ) → (r ≡ take-of-turn .outcome) × (stack' ≡ take-of-turn .stack)
-      → (o : Taken) → r ≡ o → (a b : RunAnswer) → a ≡ b → after-take n s o ≡ Done b
+  pub turn-answers : bit skips rule ≡ false → (r : Taken) (stack' : List ℕ)
+      → (r ≡ take-of-turn .outcome) × (stack' ≡ take-of-turn .stack) → (o : Taken) → r ≡ o
+      → (a b : RunAnswer) → a ≡ b → after-take n s o ≡ Done b
       → (Done a ≡ whole-turn .outcome) × (stack' ≡ whole-turn .stack)
   turn-answers e r stack' h o f a b g k =
       let t = turn-takes e r stack' h o f in (ap Done g ∙ sym k ∙ t .0, t .1)
 
 -- At the text's end.
 module _ (empty : ℕ) (l : List ℕ) (p count : ℕ) where
-  pub ends-well : (r : Bool) → r ≡ all-members empty l → r ≡ true → (a : RunAnswer) → a ≡ run-answer 0 p count → a ≡ end-answer empty l p count
+  pub ends-well : (r : Bool) → r ≡ all-members empty l → r ≡ true → (a : RunAnswer) → a ≡ run-answer 0 p count
+      → a ≡ end-answer empty l p count
   unfolding end-answer
   ends-well r e f a g = g ∙ ap (λ (b : Bool). cond b (run-answer 0 p count) (run-answer 16 p count)) (sym f ∙ e)
 
-  pub ends-early : (r : Bool) → r ≡ all-members empty l → r ≡ false → (a : RunAnswer) → a ≡ run-answer 16 p count → a ≡ end-answer empty l p count
+  pub ends-early : (r : Bool) → r ≡ all-members empty l → r ≡ false → (a : RunAnswer) → a ≡ run-answer 16 p count
+      → a ≡ end-answer empty l p count
   unfolding end-answer
   ends-early r e f a g = g ∙ ap (λ (b : Bool). cond b (run-answer 0 p count) (run-answer 16 p count)) (sym f ∙ e)

@@ -63,7 +63,8 @@ module _ (i : Image) (entries : ℕ) where
       by-skip later rule n f false s = by-room later rule n f s (take-rule (i .rows) l rule) refl
 
       by-match : ((r : List ℕ) (q : ℕ) (m : List ℕ) (c : ℕ) → Clears (run-from i entries turns r q m c))
-          → (m : Match) → longest-match (i .positions) (i .first) (b ∷ rest) ≡ m → Clears (run-from i entries (suc turns) (b ∷ rest) p l count)
+          → (m : Match) → longest-match (i .positions) (i .first) (b ∷ rest) ≡ m
+          → Clears (run-from i entries (suc turns) (b ∷ rest) p l count)
       by-match later no-match e = subst Clears (sym (run-no-match i entries (suc turns) (b ∷ rest) p l count (omega arith) e)) refl
       by-match later (matched rule n) e = by-skip later rule n e (getD (i .skips) rule false) refl
 
@@ -93,7 +94,8 @@ module _ (image text : List ℕ) (entries : ℕ) where
   unfolding run
   run-too-long h = rw (lt-ltb 1048576 (length text) h)
 
-  pub run-unreadable : length text ≤ 1048576 → (place : ℕ) → read-image image ≡ stop 13 place → answer 13 place 0 ≡ run image text entries
+  pub run-unreadable : length text ≤ 1048576 → (place : ℕ) → read-image image ≡ stop 13 place
+      → answer 13 place 0 ≡ run image text entries
   unfolding run run-reading
   run-unreadable h place e = rw (le-ltb 1048576 (length text) h, e)
 

@@ -75,7 +75,8 @@ module _ (productions : List ℕ) (empty : ℕ) (stack : List ℕ) (rule : ℕ) 
   unfolding taker
   found-above top e = rw (ne-eqb (entry-at top) 0 e)
 
-  stops-above : (top : ℕ) → entry-at top ≡ 0 → bit empty (getD stack top 0) ≡ false → Nothing ≡ taker productions empty stack (suc top) rule
+  stops-above : (top : ℕ) → entry-at top ≡ 0 → bit empty (getD stack top 0) ≡ false
+      → Nothing ≡ taker productions empty stack (suc top) rule
   unfolding taker
   stops-above top e f = rw (eq-eqb (entry-at top) 0 e, f)
 

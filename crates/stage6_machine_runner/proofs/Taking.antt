@@ -182,7 +182,8 @@ module _ (bytes productions : List ℕ) (empty : ℕ) (rows : List Row) (n : ℕ
       (taker-takes bytes productions empty rows n (ready .held) stack rule small depth (ready .below))
     where
       by-taker : (t : Taker) → TakesAs bytes n stack taken-by-rows depth t
-          → TakeLeads bytes productions empty rows n stack taken-by-rows (replace-taker bytes stack t .stack) (replace-taker bytes stack t .outcome)
+          → TakeLeads bytes productions empty rows n stack taken-by-rows
+          (replace-taker bytes stack t .stack) (replace-taker bytes stack t .outcome)
       by-taker Nothing r = r
       by-taker (At base entry) r = by-room base entry r (ltb (length stack) (base + getD bytes (entry - 1) 0)) refl
 

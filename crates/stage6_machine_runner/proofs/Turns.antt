@@ -27,7 +27,8 @@ use Rattle.stage5_image_reader.specs.declared.ImageTables.{ImageTables}
 use Rattle.stage6_machine.specs.Answer.{Answer, answer}
 use Rattle.stage6_machine.specs.Run.{take-rule, all-nullable, at-text-end, run-from}
 use Rattle.stage6_machine_runner.specs.Stack.{pending, Ready}
-use Rattle.stage6_machine_runner.specs.Steps.{answer-of, state-at, all-members, end-answer, take-step, TakeStep, after-take, turn-by, turn-step}
+use Rattle.stage6_machine_runner.specs.Steps.{answer-of, state-at, all-members, end-answer}
+use Rattle.stage6_machine_runner.specs.Steps.{take-step, TakeStep, after-take, turn-by, turn-step}
 use Rattle.stage6_machine_runner.specs.declared.RunAnswer.{RunAnswer}
 use Rattle.stage6_machine_runner.specs.declared.Taken.{Taken}
 use Rattle.stage6_machine_runner.specs.declared.Taken.the-variants.{Depth, NoTaker, TooDeep}
@@ -100,7 +101,8 @@ module _ (i : Image) (entries : ℕ) where
 -- ---- the state of a run
 
 -- The run from the present state gives the whole answer.
-pub record Going (i : Image) (bytes : List ℕ) (t : ImageTables) (text stack : List ℕ) (entries p depth count : ℕ) (whole : Answer) : Type 0 where
+pub record Going (i : Image) (bytes : List ℕ) (t : ImageTables) (text stack : List ℕ) (entries p depth count : ℕ) (whole : Answer)
+    : Type 0 where
   pub turns : ℕ
   pub enough : length text ≤ p + turns
   pub within : p ≤ length text
@@ -129,8 +131,8 @@ going-start i bytes t decoded text stack z room =
       };
     }
 
-pub going-first : (i : Image) (bytes : List ℕ) (t : ImageTables) → Decoded bytes t i → (text stack : List ℕ) {s : State} → s ≡ state-at 0 1 0
-    → getD stack 0 0 ≡ 0 → 1 ≤ length stack
+pub going-first : (i : Image) (bytes : List ℕ) (t : ImageTables) → Decoded bytes t i → (text stack : List ℕ) {s : State}
+    → s ≡ state-at 0 1 0 → getD stack 0 0 ≡ 0 → 1 ≤ length stack
     → Going i bytes t text stack (length stack) (s .place) (s .depth) (s .count)
     (run-from i (length stack) (length text) text 0 (0 ∷ []) 0)
 going-first i bytes t decoded text stack e z room = rw e (going-start i bytes t decoded text stack z room)
@@ -221,13 +223,15 @@ module _ (i : Image) (bytes : List ℕ) (t : ImageTables) (decoded : Decoded byt
             sym (run-refuses i entries (going .turns - 1) (drop p text) p (pending stack depth) count rule n rest-left found s x) ∙ present
         by-take stack' TooDeep s x =
             let over : entries < length (x .0) = omega (arith, x .2, length-is) in
-            sym (run-overflows i entries (going .turns - 1) (drop p text) p (pending stack depth) count rule n rest-left found (x .0) s (x .1) over)
+            sym (run-overflows i entries (going .turns - 1) (drop p text) p (pending stack depth) count rule n rest-left found
+            (x .0) s (x .1) over)
             ∙ present
         by-take stack' (Depth depth') s x =
             let w = found-within in
             let fits : length (pending stack' depth') ≤ entries = omega (arith, length-pending stack' depth', x .1 .inside, x .2, length-is) in
             let e : suc count ≡ count + 1 = omega arith in
-            let next = ap₂ (λ (r : List ℕ) (k : ℕ). run-from i entries (going .turns - 1) r (p + n) (pending stack' depth') k) (sym moved) (sym e) in (
+            let next =
+            ap₂ (λ (r : List ℕ) (k : ℕ). run-from i entries (going .turns - 1) r (p + n) (pending stack' depth') k) (sym moved) (sym e) in (
               record {
                 turns = going .turns - 1;
                 enough = omega (arith, w .0, going .enough);
@@ -242,7 +246,8 @@ module _ (i : Image) (bytes : List ℕ) (t : ImageTables) (decoded : Decoded byt
 
         by-skip : (b : Bool) → bit (t .skips) rule ≡ b
             → let taken = take-step bytes (t .productions) (t .empty) stack depth rule in
-            Leads i bytes t text entries p whole (turn-by b stack n (state-at p depth count) taken .stack) (turn-by b stack n (state-at p depth count) taken .outcome)
+            let s = turn-by b stack n (state-at p depth count) taken in
+            Leads i bytes t text entries p whole (s .stack) (s .outcome)
         unfolding turn-by
         by-skip true e =
             let w = found-within in
@@ -253,7 +258,8 @@ module _ (i : Image) (bytes : List ℕ) (t : ImageTables) (decoded : Decoded byt
                 enough = omega (arith, w .0, going .enough);
                 within = w .1;
                 counted = omega (arith, w .0, going .counted);
-                same = next ∙ sym (run-skips i entries (going .turns - 1) (drop p text) p (pending stack depth) count rule n rest-left found s _ refl)
+                same = next ∙ sym (run-skips i entries (going .turns - 1) (drop p text) p (pending stack depth) count rule n rest-left found
+                    s _ refl)
                     ∙ present;
                 ready = going .ready;
               },
@@ -268,7 +274,8 @@ module _ (i : Image) (bytes : List ℕ) (t : ImageTables) (decoded : Decoded byt
         unfolding turn-step
         turn-leads = by-skip (bit (t .skips) rule) refl
 
-        pub turn-done : (a : RunAnswer) → turn-step bytes (t .productions) (t .empty) (t .skips) stack rule n (state-at p depth count) .outcome ≡ Done a
+        pub turn-done : (a : RunAnswer)
+            → turn-step bytes (t .productions) (t .empty) (t .skips) stack rule n (state-at p depth count) .outcome ≡ Done a
             → answer-of a ≡ whole
         turn-done a e = subst (Leads i bytes t text entries p whole _) e turn-leads
 

@@ -11,7 +11,8 @@ ghost use Rattle.stage5_image.specs.Image.{Image};
 ghost use Rattle.stage5_image_reader.specs.Decoded.{Decoded};
 ghost use Rattle.stage6_machine.specs.Run.{run-image, run, stack-after};
 ghost use Rattle.stage6_machine_runner.specs.Stack.{pending, pushed, Ready};
-ghost use Rattle.stage6_machine_runner.specs.Steps.{answer-of, run-answer, state-at, part, taker, all-members, end-answer, take-step, turn-step};
+ghost use Rattle.stage6_machine_runner.specs.Steps.{answer-of, run-answer, state-at, part};
+ghost use Rattle.stage6_machine_runner.specs.Steps.{taker, all-members, end-answer, take-step, turn-step};
 use stage4_lexer_scanner::Found;
 use stage5_image_reader::ImageTables;
 use stage5_image_reader::Outcome;
@@ -132,7 +133,8 @@ fn take_rule(
         × ((rows : List Row) × (n : ℕ) × Ready (now image) (now productions) empty rows n (now stack) depth) ⌝ }
     ensures { λ r.
         ⌜ (r ≡ take-step (now (image .entry)) (now (productions .entry)) empty (now (stack .entry)) depth rule .outcome)
-        × (now (stack .exit) ≡ take-step (now (image .entry)) (now (productions .entry)) empty (now (stack .entry)) depth rule .stack) ⌝ }
+        × (now (stack .exit)
+        ≡ take-step (now (image .entry)) (now (productions .entry)) empty (now (stack .entry)) depth rule .stack) ⌝ }
 {
     let found = find_taker(productions, empty, stack, depth, rule);
     let Taker::At(base, entry) = found else {

@@ -44,7 +44,8 @@ matched-here c i d =
     let head = scan .before .before .before .before .before .before .before .before .before in
     let start = head .before .before .before .before .before .before .before in
     let text = now (start .args .text) in
-    scanned-rule i (now (start .args .image)) (start .args .t2) d text (head .loop .state .place) _ (scan .longest-match .ensures) _ _ (c .found .given .1)
+    scanned-rule i (now (start .args .image)) (start .args .t2) d text (head .loop .state .place)
+    _ (scan .longest-match .ensures) _ _ (c .found .given .1)
 
 found-here : (c : tie.After-found Inv-loop μ-loop) (i : Image)
     → let head = c .before .before .before .before .before .before .before .before .before .before .before in
@@ -56,13 +57,15 @@ found-here c i d =
     let head = c .before .before .before .before .before .before .before .before .before .before .before in
     let l = head .loop in
     let start = head .before .before .before .before .before .before .before in
+    let more = c .before .before .before .before .before .before .before .before .before .if2 .taken in
     found-within i (now (start .args .image)) (start .args .t2) d (now (start .args .text))
-    (l .stack) _ (l .state .place) (l .state .depth) (l .state .count) _ (l .inv .1 i d) (c .before .before .before .before .before .before .before .before .before .if2 .taken) _ _ (matched-here c i d)
+    (l .stack) _ (l .state .place) (l .state .depth) (l .state .count) _ (l .inv .1 i d) more _ _ (matched-here c i d)
 
 -- The state after the turn.
 turned : (c : tie.After-after2 Inv-loop μ-loop) (i : Image)
     → let turn = c .before .before .before .before in
-    let head = turn .before .before .before .before .before .before .before .before .before .before .before .before .before .before .before .before in
+    let found = turn .before .before .before .before .before in
+    let head = found .before .before .before .before .before .before .before .before .before .before .before in
     let l = head .loop in
     let start = head .before .before .before .before .before .before .before in
     let s = c .after2 .given .0 .0 in
@@ -80,7 +83,8 @@ turned c i d =
     let more = found .before .before .before .before .before .before .before .before .before .if2 .taken in
     let e = sym (turn .after-match .ensures .0) ∙ c .after2 .given .1 in
     turn-next i (now (start .args .image)) (start .args .t2) d (now (start .args .text))
-    (l .stack) _ (l .state .place) (l .state .depth) (l .state .count) _ (l .inv .1 i d) more _ _ (matched-here found i d) (l .inv .0) _ _ (turn .after-match .ensures .1) e
+    (l .stack) _ (l .state .place) (l .state .depth) (l .state .count) _ (l .inv .1 i d)
+    more _ _ (matched-here found i d) (l .inv .0) _ _ (turn .after-match .ensures .1) e
 
 answer-requires : tie.Need-answer-requires Inv-loop μ-loop
 answer-requires c κs = tt
@@ -147,7 +151,9 @@ returns-2 c =
     let scan = c .before .before .before in
     let more = scan .before .before .before .before .before .before .before .if2 .taken in
     λ i d.
-    let m = scanned-nothing i (now (start .args .image)) (start .args .t2) d (now (start .args .text)) (l .state .place) _ (scan .longest-match .ensures) (c .before .enum-told .given .1) in
+    let text = now (start .args .text) in
+    let told = c .before .enum-told .given .1 in
+    let m = scanned-nothing i (now (start .args .image)) (start .args .t2) d text (l .state .place) _ (scan .longest-match .ensures) told in
     let g = going-unmatched i (now (start .args .image)) (start .args .t2) d (now (start .args .text))
     (l .stack) _ (l .state .place) (l .state .depth) (l .state .count) _ (l .inv .1 i d) more m in
     run-some-entry i _ _ _ (length-set (now (start .args .stack)) 0 0) (head .before .before .before .if1 .left) _
@@ -168,11 +174,12 @@ enum-known-after c = search needs
 
 same-length-2 : tie.Need-same-length-2 Inv-loop μ-loop
 same-length-2 c =
-    let head = c .before .before .before .before .before .before .before .before .before .before .before .before .before .before .before .before .before .before .before .before .before in
+    let turn = c .before .before .before .before .before in
+    let found = turn .before .before .before .before .before in
+    let head = found .before .before .before .before .before .before .before .before .before .before .before in
     let l = head .loop in
     let start = head .before .before .before .before .before .before .before in
-    let turned = c .before .before .before .before .before in
-    turned .after-match .kept .1 .1 .1 .1 .0 ∙ l .inv .0 ∙ length-set (now (start .args .stack)) 0 0
+    turn .after-match .kept .1 .1 .1 .1 .0 ∙ l .inv .0 ∙ length-set (now (start .args .stack)) 0 0
 
 returns-3 : tie.Need-returns-3 Inv-loop μ-loop
 returns-3 c =
@@ -194,7 +201,9 @@ enum-known-after-2 c = search needs
 
 loop-less : tie.Need-loop-less Inv-loop μ-loop
 loop-less c =
-    let start = c .before .before .before .before .before .before .before .before .before .before .before .before .before .before .before .before .before .before .before .before .before .before .before .before .before .before .before .before in
+    let found = c .before .before .before .before .before .before .before .before .before .before in
+    let head = found .before .before .before .before .before .before .before .before .before .before .before in
+    let start = head .before .before .before .before .before .before .before in
     let w = start .pre in
     let t = turned (c .before) (w .0) (w .1) in
     omega (arith, t .0 .within, t .1)
@@ -202,7 +211,8 @@ loop-less c =
 loop-again : tie.Need-loop-again Inv-loop μ-loop
 loop-again c =
     let turn = c .before .before .before .before .before in
-    let head = turn .before .before .before .before .before .before .before .before .before .before .before .before .before .before .before .before in
+    let found = turn .before .before .before .before .before in
+    let head = found .before .before .before .before .before .before .before .before .before .before .before in
     (turn .after-match .kept .1 .1 .1 .1 .0 ∙ head .loop .inv .0, λ i d. turned (c .before) i d .0)
 
 at-end-requires : tie.Need-at-end-requires Inv-loop μ-loop
