@@ -1,5 +1,5 @@
 -- What a take and a turn answer: one law for each way through the code.
-use mathlib.Core.Path.{_≡_, refl, sym, ap, _∙_}
+use mathlib.Core.Path.{_≡_, sym, ap, _∙_}
 use mathlib.Core.Bool.{Bool, true, false, cond}
 use mathlib.Core.List.{List}
 use Prim.Native.Nat.{ℕ, _+_, _-_, _≤_, _<_}
@@ -16,7 +16,6 @@ use Rattle.stage6_machine_runner.specs.declared.Taker.the-variants.{Noth
 use Rattle.stage6_machine_runner.specs.declared.Taken.{Taken}
 use Rattle.stage6_machine_runner.specs.declared.Taken.the-variants.{Depth, NoTaker, TooDeep}
 use Rattle.stage6_machine_runner.specs.declared.State.{State}
-use Rattle.stage6_machine_runner.specs.declared.Turn.{Turn}
 use Rattle.stage6_machine_runner.specs.declared.Turn.the-variants.{Next, Done}
 
 module _ (bytes productions : List ℕ) (empty : ℕ) (stack : List ℕ) (depth rule : ℕ) where

@@ -4,13 +4,13 @@ use mathlib.Core.Bool.{Bool, true, false, _||_, cond}
 use mathlib.Core.List.{List, [], _∷_}
 use mathlib.Core.Logic.{⊎-elim}
 use mathlib.Core.Option.{Option, none, some}
-use Prim.Native.Nat.{ℕ, zero, suc, _+_, _≤_, _<_}
+use Prim.Native.Nat.{ℕ, zero, suc, _≤_, _<_}
 use native.Mathlib.Omega.{arith}
 use lib.Dec.{ltb, eqb}
-use lib.ListN.{length, getD, drop, replicate}
+use lib.ListN.{length, getD, replicate}
 use borrow.Author.Tests.{lt-ltb, le-ltb}
 use Rattle.stage0_laws.specs.Order.{lt-or-le}
-use Rattle.stage1_sheet.specs.Field.{Reading, stop, got}
+use Rattle.stage1_sheet.specs.Field.{stop, got}
 use Rattle.stage3_normal_form.specs.Productions.{Row}
 use Rattle.stage4_lexer.specs.Match.{Match, no-match, matched}
 use Rattle.stage4_lexer.specs.Walk.{longest-match}
@@ -41,9 +41,6 @@ module _ (i : Image) (entries : ℕ) where
   from-clears (suc turns) (b ∷ rest) p l count =
       by-match (λ r q m c. from-clears turns r q m c) (longest-match (i .positions) (i .first) (b ∷ rest)) refl
     where
-      present : Answer
-      present = run-from i entries (suc turns) (b ∷ rest) p l count
-
       by-room : ((r : List ℕ) (q : ℕ) (m : List ℕ) (c : ℕ) → Clears (run-from i entries turns r q m c)) → (rule n : ℕ)
           → longest-match (i .positions) (i .first) (b ∷ rest) ≡ matched rule n → getD (i .skips) rule false ≡ false
           → (o : Option (List ℕ)) → take-rule (i .rows) l rule ≡ o → Clears (run-from i entries (suc turns) (b ∷ rest) p l count)

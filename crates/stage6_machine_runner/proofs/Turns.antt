@@ -1,19 +1,17 @@
 -- The turns of a run: one law for each way that a turn of the machine goes, and a turn by the tables and the stack is one of them.
 use mathlib.Core.Path.{_≡_, refl, sym, ap, ap₂, subst, _∙_}
 use mathlib.Core.Bool.{Bool, true, false, _&&_, cond}
-use mathlib.Core.List.{List, [], _∷_, _++_}
-use mathlib.Core.Option.{Option, none, some}
-use Prim.Native.Nat.{ℕ, zero, suc, _+_, _-_, _*_, _≤_, _<_}
+use mathlib.Core.List.{List, [], _∷_}
+use mathlib.Core.Option.{none, some}
+use Prim.Native.Nat.{ℕ, zero, suc, _+_, _-_, _≤_, _<_}
 use native.Mathlib.Omega.{arith}
-use lib.Dec.{ltb}
-use lib.ListN.{length, getD, drop, take, length-drop, drop-of-length-le}
+use lib.ListN.{length, getD, drop, take, length-drop}
 use lib.Seq.{drop-drop, take-all}
 use borrow.Author.Tests.{lt-ltb, le-ltb}
 use Rattle.stage0_laws.specs.Bits.{bit}
 use Rattle.stage0_laws.specs.Lists.{All}
-use Rattle.stage3_normal_form.specs.Productions.{Row, row-of}
 use Rattle.stage4_lexer.specs.Positions.{Position}
-use Rattle.stage4_lexer.specs.Match.{Match, no-match, matched}
+use Rattle.stage4_lexer.specs.Match.{no-match, matched}
 use Rattle.stage4_lexer.specs.Walk.{longest-match}
 use Rattle.stage4_lexer_columns.specs.Held.{held-from, held-positions}
 use Rattle.stage4_lexer_scanner.specs.Laws.{match-within, match-rule, found-nothing, found-rule}
@@ -21,14 +19,13 @@ use Rattle.stage4_lexer_scanner.specs.Meaning.{match-of}
 use Rattle.stage4_lexer_scanner.specs.declared.Found.{Found}
 use Rattle.stage4_lexer_scanner.specs.declared.Found.the-variants.{Nothing, Rule}
 use Rattle.stage5_image.specs.Image.{Image}
-use Rattle.stage5_image_reader.specs.Tables.{RowsHeld}
 use Rattle.stage5_image_reader.specs.Decoded.{Decoded}
 use Rattle.stage5_image_reader.specs.declared.ImageTables.{ImageTables}
 use Rattle.stage6_machine.specs.Answer.{Answer, answer}
 use Rattle.stage6_machine.specs.Run.{take-rule, all-nullable, at-text-end, run-from}
 use Rattle.stage6_machine_runner.specs.Stack.{pending, Ready}
 use Rattle.stage6_machine_runner.specs.Steps.{answer-of, state-at, all-members, end-answer}
-use Rattle.stage6_machine_runner.specs.Steps.{take-step, TakeStep, after-take, turn-by, turn-step}
+use Rattle.stage6_machine_runner.specs.Steps.{take-step, after-take, turn-by, turn-step}
 use Rattle.stage6_machine_runner.specs.declared.RunAnswer.{RunAnswer}
 use Rattle.stage6_machine_runner.specs.declared.Taken.{Taken}
 use Rattle.stage6_machine_runner.specs.declared.Taken.the-variants.{Depth, NoTaker, TooDeep}

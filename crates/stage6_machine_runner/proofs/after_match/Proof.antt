@@ -1,5 +1,5 @@
 -- `after_match` meets its contract: one law of `Answers` for each answer.
-use mathlib.Core.Path.{_≡_, refl, sym, _∙_}
+use mathlib.Core.Path.{refl, sym, _∙_}
 use Rattle.stage6_machine_runner.specs.Steps.{after-take}
 use Rattle.stage6_machine_runner.specs.declared.Taken.the-variants.{Depth, NoTaker, TooDeep}
 use Rattle.stage6_machine_runner.proofs.Answers.{turn-skips, turn-takes, turn-answers}
