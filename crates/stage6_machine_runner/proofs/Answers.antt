@@ -1,5 +1,5 @@
 -- What a take and a turn answer: one law for each way through the code.
-use mathlib.Core.Path.{_≡_, refl, sym, ap, _∙_}
+use mathlib.Core.Path.{_≡_, sym, ap, _∙_}
 use mathlib.Core.Bool.{Bool, true, false, cond}
 use mathlib.Core.List.{List}
 use Prim.Native.Nat.{ℕ, _+_, _-_, _≤_, _<_}
@@ -10,13 +10,13 @@ use borrow.Author.Tests.{lt-ltb, le-ltb}
 use Rattle.stage0_laws.specs.Bits.{bit}
 use Rattle.stage6_machine_runner.specs.Stack.{pushed}
 use Rattle.stage6_machine_runner.specs.Steps.{part, taker, TakeStep, replaced, replace-taker, take-step}
-use Rattle.stage6_machine_runner.specs.Steps.{run-answer, all-members, end-answer, after-take, turn-by, turn-step}
+use Rattle.stage6_machine_runner.specs.Steps.{run-answer, state-at, all-members, end-answer, after-take, turn-by, TurnStep, turn-step}
 use Rattle.stage6_machine_runner.specs.declared.RunAnswer.{RunAnswer}
 use Rattle.stage6_machine_runner.specs.declared.Taker.the-variants.{Nothing, At}
 use Rattle.stage6_machine_runner.specs.declared.Taken.{Taken}
 use Rattle.stage6_machine_runner.specs.declared.Taken.the-variants.{Depth, NoTaker, TooDeep}
-use Rattle.stage6_machine_runner.specs.declared.Turn.{Turn}
-use Rattle.stage6_machine_runner.specs.declared.Turn.the-variants.{Next}
+use Rattle.stage6_machine_runner.specs.declared.State.{State}
+use Rattle.stage6_machine_runner.specs.declared.Turn.the-variants.{Next, Done}
 
 module _ (bytes productions : List ℕ) (empty : ℕ) (stack : List ℕ) (depth rule : ℕ) where
   abbrev step : TakeStep
@@ -47,26 +47,42 @@ module _ (bytes productions : List ℕ) (empty : ℕ) (stack : List ℕ) (depth 
         let e = by-taker ∙ ap (λ (b : Bool). replaced b bytes stack base entry (getD bytes (entry - 1) 0)) t in
         (sym (ap (λ (s : TakeStep). s .outcome) e), f ∙ sym (ap (λ (s : TakeStep). s .stack) e))
 
-  module _ (skips p n count : ℕ) where
-    pub turn-skips : bit skips rule ≡ true
-        → (Next (p + n) depth count ≡ turn-step bytes productions empty skips stack rule p n depth count .outcome)
-        × (stack ≡ turn-step bytes productions empty skips stack rule p n depth count .stack)
-    unfolding turn-step turn-by
-    turn-skips e = (rw e, rw e)
+-- ---- a turn
 
-    pub turn-takes : bit skips rule ≡ false → (r : Taken) (stack' : List ℕ) → (r ≡ step .outcome) × (stack' ≡ step .stack)
-        → (o : Taken) → r ≡ o
-        → (after-take p n count o ≡ turn-step bytes productions empty skips stack rule p n depth count .outcome)
-        × (stack' ≡ turn-step bytes productions empty skips stack rule p n depth count .stack)
-    unfolding turn-step turn-by
-    turn-takes e r stack' h o f = (rw e (ap (after-take p n count) (sym f ∙ h .0)), rw e (h .1))
+module _ (bytes productions : List ℕ) (empty skips : ℕ) (stack : List ℕ) (rule n : ℕ) (s : State) where
+  abbrev whole-turn : TurnStep
+  whole-turn = turn-step bytes productions empty skips stack rule n s
+
+  abbrev take-of-turn : TakeStep
+  take-of-turn = take-step bytes productions empty stack (s .depth) rule
+
+  pub turn-skips : bit skips rule ≡ true
+      → (Next (state-at (s .place + n) (s .depth) (s .count)) ≡ whole-turn .outcome) × (stack ≡ whole-turn .stack)
+  unfolding turn-step turn-by
+  turn-skips e = (rw e, rw e)
+
+  pub turn-takes : bit skips rule ≡ false → (r : Taken) (stack' : List ℕ)
+      → (r ≡ take-of-turn .outcome) × (stack' ≡ take-of-turn .stack) → (o : Taken) → r ≡ o
+      → (after-take n s o ≡ whole-turn .outcome) × (stack' ≡ whole-turn .stack)
+  unfolding turn-step turn-by
+  turn-takes e r stack' h o f = (rw e (ap (after-take n s) (sym f ∙ h .0)), rw e (h .1))
+
+  -- A turn that ends with an answer.
+  pub turn-answers : bit skips rule ≡ false → (r : Taken) (stack' : List ℕ)
+      → (r ≡ take-of-turn .outcome) × (stack' ≡ take-of-turn .stack) → (o : Taken) → r ≡ o
+      → (a b : RunAnswer) → a ≡ b → after-take n s o ≡ Done b
+      → (Done a ≡ whole-turn .outcome) × (stack' ≡ whole-turn .stack)
+  turn-answers e r stack' h o f a b g k =
+      let t = turn-takes e r stack' h o f in (ap Done g ∙ sym k ∙ t .0, t .1)
 
 -- At the text's end.
 module _ (empty : ℕ) (l : List ℕ) (p count : ℕ) where
-  pub ends-well : (r : Bool) → r ≡ all-members empty l → r ≡ true → run-answer 0 p count ≡ end-answer empty l p count
+  pub ends-well : (r : Bool) → r ≡ all-members empty l → r ≡ true → (a : RunAnswer) → a ≡ run-answer 0 p count
+      → a ≡ end-answer empty l p count
   unfolding end-answer
-  ends-well r e f = ap (λ (b : Bool). cond b (run-answer 0 p count) (run-answer 16 p count)) (sym f ∙ e)
+  ends-well r e f a g = g ∙ ap (λ (b : Bool). cond b (run-answer 0 p count) (run-answer 16 p count)) (sym f ∙ e)
 
-  pub ends-early : (r : Bool) → r ≡ all-members empty l → r ≡ false → run-answer 16 p count ≡ end-answer empty l p count
+  pub ends-early : (r : Bool) → r ≡ all-members empty l → r ≡ false → (a : RunAnswer) → a ≡ run-answer 16 p count
+      → a ≡ end-answer empty l p count
   unfolding end-answer
-  ends-early r e f = ap (λ (b : Bool). cond b (run-answer 0 p count) (run-answer 16 p count)) (sym f ∙ e)
+  ends-early r e f a g = g ∙ ap (λ (b : Bool). cond b (run-answer 0 p count) (run-answer 16 p count)) (sym f ∙ e)

@@ -4,13 +4,13 @@ use mathlib.Core.Bool.{Bool, true, false, _||_, cond}
 use mathlib.Core.List.{List, [], _∷_}
 use mathlib.Core.Logic.{⊎-elim}
 use mathlib.Core.Option.{Option, none, some}
-use Prim.Native.Nat.{ℕ, zero, suc, _+_, _≤_, _<_}
+use Prim.Native.Nat.{ℕ, zero, suc, _≤_, _<_}
 use native.Mathlib.Omega.{arith}
 use lib.Dec.{ltb, eqb}
-use lib.ListN.{length, getD, drop, replicate}
+use lib.ListN.{length, getD, replicate}
 use borrow.Author.Tests.{lt-ltb, le-ltb}
 use Rattle.stage0_laws.specs.Order.{lt-or-le}
-use Rattle.stage1_sheet.specs.Field.{Reading, stop, got}
+use Rattle.stage1_sheet.specs.Field.{stop, got}
 use Rattle.stage3_normal_form.specs.Productions.{Row}
 use Rattle.stage4_lexer.specs.Match.{Match, no-match, matched}
 use Rattle.stage4_lexer.specs.Walk.{longest-match}
@@ -41,9 +41,6 @@ module _ (i : Image) (entries : ℕ) where
   from-clears (suc turns) (b ∷ rest) p l count =
       by-match (λ r q m c. from-clears turns r q m c) (longest-match (i .positions) (i .first) (b ∷ rest)) refl
     where
-      present : Answer
-      present = run-from i entries (suc turns) (b ∷ rest) p l count
-
       by-room : ((r : List ℕ) (q : ℕ) (m : List ℕ) (c : ℕ) → Clears (run-from i entries turns r q m c)) → (rule n : ℕ)
           → longest-match (i .positions) (i .first) (b ∷ rest) ≡ matched rule n → getD (i .skips) rule false ≡ false
           → (o : Option (List ℕ)) → take-rule (i .rows) l rule ≡ o → Clears (run-from i entries (suc turns) (b ∷ rest) p l count)
@@ -63,7 +60,8 @@ module _ (i : Image) (entries : ℕ) where
       by-skip later rule n f false s = by-room later rule n f s (take-rule (i .rows) l rule) refl
 
       by-match : ((r : List ℕ) (q : ℕ) (m : List ℕ) (c : ℕ) → Clears (run-from i entries turns r q m c))
-          → (m : Match) → longest-match (i .positions) (i .first) (b ∷ rest) ≡ m → Clears (run-from i entries (suc turns) (b ∷ rest) p l count)
+          → (m : Match) → longest-match (i .positions) (i .first) (b ∷ rest) ≡ m
+          → Clears (run-from i entries (suc turns) (b ∷ rest) p l count)
       by-match later no-match e = subst Clears (sym (run-no-match i entries (suc turns) (b ∷ rest) p l count (omega arith) e)) refl
       by-match later (matched rule n) e = by-skip later rule n e (getD (i .skips) rule false) refl
 
@@ -93,7 +91,8 @@ module _ (image text : List ℕ) (entries : ℕ) where
   unfolding run
   run-too-long h = rw (lt-ltb 1048576 (length text) h)
 
-  pub run-unreadable : length text ≤ 1048576 → (place : ℕ) → read-image image ≡ stop 13 place → answer 13 place 0 ≡ run image text entries
+  pub run-unreadable : length text ≤ 1048576 → (place : ℕ) → read-image image ≡ stop 13 place
+      → answer 13 place 0 ≡ run image text entries
   unfolding run run-reading
   run-unreadable h place e = rw (le-ltb 1048576 (length text) h, e)
 
@@ -102,13 +101,13 @@ module _ (image text : List ℕ) (entries : ℕ) where
   unfolding run run-reading
   run-readable h i end e a f = rw (le-ltb 1048576 (length text) h, e) f
 
-pub stack-kept-12 : (stack : List ℕ) → stack ≡ stack-after (answer 12 0 0) stack
+pub stack-kept-12 : (a : Answer) (stack : List ℕ) → a ≡ answer 12 0 0 → stack ≡ stack-after a stack
 unfolding stack-after
-stack-kept-12 stack = refl
+stack-kept-12 a stack e = rw e
 
-pub stack-kept-13 : (place : ℕ) (stack : List ℕ) → stack ≡ stack-after (answer 13 place 0) stack
+pub stack-kept-13 : (a : Answer) (place : ℕ) (stack : List ℕ) → a ≡ answer 13 place 0 → stack ≡ stack-after a stack
 unfolding stack-after
-stack-kept-13 place stack = refl
+stack-kept-13 a place stack e = rw e
 
 pub stack-cleared : (i : Image) (entries : ℕ) (text : List ℕ) (a : Answer) (stack : List ℕ) → a ≡ run-image i entries text
     → replicate (length stack) 0 ≡ stack-after a stack

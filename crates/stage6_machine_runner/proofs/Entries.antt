@@ -5,10 +5,9 @@ use mathlib.Core.List.{List, [], _∷_, _++_}
 use mathlib.Core.Logic.{⊎-elim}
 use Prim.Native.Nat.{ℕ, zero, suc, _+_, _-_, _*_, _≤_, _<_}
 use native.Mathlib.Omega.{arith}
-use lib.Dec.{eqb}
 use lib.ListN.{length, getD, set}
 use lib.Seq.{getD-set-other}
-use borrow.Author.Tests.{eq-eqb, ne-eqb, not-true, not-false}
+use borrow.Author.Tests.{eq-eqb, ne-eqb}
 use Rattle.stage0_laws.specs.Bits.{bit}
 use Rattle.stage0_laws.specs.Lists.{All}
 use Rattle.stage0_laws.specs.Order.{lt-or-le}
@@ -75,7 +74,8 @@ module _ (productions : List ℕ) (empty : ℕ) (stack : List ℕ) (rule : ℕ) 
   unfolding taker
   found-above top e = rw (ne-eqb (entry-at top) 0 e)
 
-  stops-above : (top : ℕ) → entry-at top ≡ 0 → bit empty (getD stack top 0) ≡ false → Nothing ≡ taker productions empty stack (suc top) rule
+  stops-above : (top : ℕ) → entry-at top ≡ 0 → bit empty (getD stack top 0) ≡ false
+      → Nothing ≡ taker productions empty stack (suc top) rule
   unfolding taker
   stops-above top e f = rw (eq-eqb (entry-at top) 0 e, f)
 

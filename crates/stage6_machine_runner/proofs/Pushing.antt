@@ -1,7 +1,7 @@
 -- Pushing a tail, a member a turn, the last one first: before the first turn, one turn more, after the last, and what is pending then.
 use mathlib.Core.Path.{_≡_, refl, sym, ap, ap₂, _∙_}
 use mathlib.Core.List.{List, [], _∷_, _++_}
-use Prim.Native.Nat.{ℕ, zero, suc, _+_, _-_, _≤_, _<_}
+use Prim.Native.Nat.{ℕ, suc, _+_, _-_, _≤_, _<_}
 use native.Mathlib.Omega.{arith}
 use lib.ListN.{length, getD, set, take, drop, length-set, length-take, length-drop}
 use lib.Seq.{drop-cons, getD-set-same}
@@ -24,7 +24,8 @@ pending-pushed stack base (n ∷ tail) h =
     let e : base + length (n ∷ tail) ≡ suc top = omega arith in
     let inside : top < length below = omega (arith, length-pushed stack base tail) in
     ap (λ (k : ℕ). pending (set below top n) k) e
-    ∙ ap₂ _∷_ (getD-set-same below top n 0 inside) (pending-set below top n top (omega arith) ∙ pending-pushed stack base tail (omega arith))
+    ∙ ap₂ _∷_ (getD-set-same below top n 0 inside)
+    (pending-set below top n top (omega arith) ∙ pending-pushed stack base tail (omega arith))
 
 module _ (bytes stack : List ℕ) (at size base : ℕ) where
   part-more : (left : ℕ) → 0 < left → left ≤ size → at + size ≤ length bytes
@@ -55,7 +56,8 @@ module _ (bytes stack : List ℕ) (at size base : ℕ) where
       ap (λ (j : ℕ). set (pushed stack base rest) j (getD bytes (at + (left - 1)) 0)) f
       ∙ sym (ap (pushed stack base) (part-more left k l h))
 
-  pub push-end : (left : ℕ) → left ≤ 0 → pushed stack base (part bytes (at + left) (size - left)) ≡ pushed stack base (part bytes at size)
+  pub push-end : (left : ℕ) → left ≤ 0
+      → pushed stack base (part bytes (at + left) (size - left)) ≡ pushed stack base (part bytes at size)
   push-end left l =
       let e : at + left ≡ at = omega arith in
       let f : size - left ≡ size = omega arith in

@@ -1,12 +1,12 @@
 -- A take by the tables is a take by the image's rows, and the stack then holds what is pending.
 use mathlib.Core.Path.{_≡_, refl, sym, ap, ap₂, subst, _∙_}
 use mathlib.Core.Bool.{Bool, true, false, cond}
-use mathlib.Core.List.{List, [], _∷_, _++_}
+use mathlib.Core.List.{List, _∷_, _++_}
 use mathlib.Core.Option.{Option, none, some}
 use Prim.Native.Nat.{ℕ, zero, suc, _+_, _-_, _*_, _≤_, _<_}
 use native.Mathlib.Omega.{arith}
 use lib.Dec.{ltb, eqb}
-use lib.ListN.{length, getD, take, drop, length-append}
+use lib.ListN.{length, getD, length-append}
 use borrow.Author.Tests.{ltb-true, ltb-false, eqb-true, eqb-false}
 use Rattle.stage0_laws.specs.Bits.{bit}
 use Rattle.stage0_laws.specs.Lists.{All}
@@ -16,7 +16,7 @@ use Rattle.stage5_image_reader.specs.Tables.{TailAt, RowsHeld}
 use Rattle.stage5_image_reader.specs.TableLaws.{entry-none, entry-some, tail-inside}
 use Rattle.stage6_machine.specs.Run.{take-rule}
 use Rattle.stage6_machine_runner.specs.Stack.{pending, pushed, Ready}
-use Rattle.stage6_machine_runner.specs.Steps.{part, taker, TakeStep, replaced, replace-taker, take-step}
+use Rattle.stage6_machine_runner.specs.Steps.{part, taker, replaced, replace-taker, take-step}
 use Rattle.stage6_machine_runner.specs.declared.Taker.{Taker}
 use Rattle.stage6_machine_runner.specs.declared.Taker.the-variants.{Nothing, At}
 use Rattle.stage6_machine_runner.specs.declared.Taken.{Taken}
@@ -182,7 +182,8 @@ module _ (bytes productions : List ℕ) (empty : ℕ) (rows : List Row) (n : ℕ
       (taker-takes bytes productions empty rows n (ready .held) stack rule small depth (ready .below))
     where
       by-taker : (t : Taker) → TakesAs bytes n stack taken-by-rows depth t
-          → TakeLeads bytes productions empty rows n stack taken-by-rows (replace-taker bytes stack t .stack) (replace-taker bytes stack t .outcome)
+          → TakeLeads bytes productions empty rows n stack taken-by-rows
+          (replace-taker bytes stack t .stack) (replace-taker bytes stack t .outcome)
       by-taker Nothing r = r
       by-taker (At base entry) r = by-room base entry r (ltb (length stack) (base + getD bytes (entry - 1) 0)) refl
 

@@ -1,19 +1,17 @@
 -- The turns of a run: one law for each way that a turn of the machine goes, and a turn by the tables and the stack is one of them.
 use mathlib.Core.Path.{_≡_, refl, sym, ap, ap₂, subst, _∙_}
 use mathlib.Core.Bool.{Bool, true, false, _&&_, cond}
-use mathlib.Core.List.{List, [], _∷_, _++_}
-use mathlib.Core.Option.{Option, none, some}
-use Prim.Native.Nat.{ℕ, zero, suc, _+_, _-_, _*_, _≤_, _<_}
+use mathlib.Core.List.{List, [], _∷_}
+use mathlib.Core.Option.{none, some}
+use Prim.Native.Nat.{ℕ, zero, suc, _+_, _-_, _≤_, _<_}
 use native.Mathlib.Omega.{arith}
-use lib.Dec.{ltb}
-use lib.ListN.{length, getD, drop, take, length-drop, drop-of-length-le}
+use lib.ListN.{length, getD, drop, take, length-drop}
 use lib.Seq.{drop-drop, take-all}
 use borrow.Author.Tests.{lt-ltb, le-ltb}
 use Rattle.stage0_laws.specs.Bits.{bit}
 use Rattle.stage0_laws.specs.Lists.{All}
-use Rattle.stage3_normal_form.specs.Productions.{Row, row-of}
 use Rattle.stage4_lexer.specs.Positions.{Position}
-use Rattle.stage4_lexer.specs.Match.{Match, no-match, matched}
+use Rattle.stage4_lexer.specs.Match.{no-match, matched}
 use Rattle.stage4_lexer.specs.Walk.{longest-match}
 use Rattle.stage4_lexer_columns.specs.Held.{held-from, held-positions}
 use Rattle.stage4_lexer_scanner.specs.Laws.{match-within, match-rule, found-nothing, found-rule}
@@ -21,16 +19,17 @@ use Rattle.stage4_lexer_scanner.specs.Meaning.{match-of}
 use Rattle.stage4_lexer_scanner.specs.declared.Found.{Found}
 use Rattle.stage4_lexer_scanner.specs.declared.Found.the-variants.{Nothing, Rule}
 use Rattle.stage5_image.specs.Image.{Image}
-use Rattle.stage5_image_reader.specs.Tables.{RowsHeld}
 use Rattle.stage5_image_reader.specs.Decoded.{Decoded}
 use Rattle.stage5_image_reader.specs.declared.ImageTables.{ImageTables}
 use Rattle.stage6_machine.specs.Answer.{Answer, answer}
 use Rattle.stage6_machine.specs.Run.{take-rule, all-nullable, at-text-end, run-from}
 use Rattle.stage6_machine_runner.specs.Stack.{pending, Ready}
-use Rattle.stage6_machine_runner.specs.Steps.{answer-of, all-members, end-answer, take-step, TakeStep, after-take, turn-by, turn-step}
+use Rattle.stage6_machine_runner.specs.Steps.{answer-of, state-at, all-members, end-answer}
+use Rattle.stage6_machine_runner.specs.Steps.{take-step, after-take, turn-by, turn-step}
 use Rattle.stage6_machine_runner.specs.declared.RunAnswer.{RunAnswer}
 use Rattle.stage6_machine_runner.specs.declared.Taken.{Taken}
 use Rattle.stage6_machine_runner.specs.declared.Taken.the-variants.{Depth, NoTaker, TooDeep}
+use Rattle.stage6_machine_runner.specs.declared.State.{State}
 use Rattle.stage6_machine_runner.specs.declared.Turn.{Turn}
 use Rattle.stage6_machine_runner.specs.declared.Turn.the-variants.{Next, Done}
 use Rattle.stage6_machine_runner.proofs.Entries.{length-pending}
@@ -99,7 +98,8 @@ module _ (i : Image) (entries : ℕ) where
 -- ---- the state of a run
 
 -- The run from the present state gives the whole answer.
-pub record Going (i : Image) (bytes : List ℕ) (t : ImageTables) (text stack : List ℕ) (entries p depth count : ℕ) (whole : Answer) : Type 0 where
+pub record Going (i : Image) (bytes : List ℕ) (t : ImageTables) (text stack : List ℕ) (entries p depth count : ℕ) (whole : Answer)
+    : Type 0 where
   pub turns : ℕ
   pub enough : length text ≤ p + turns
   pub within : p ≤ length text
@@ -108,7 +108,7 @@ pub record Going (i : Image) (bytes : List ℕ) (t : ImageTables) (text stack : 
   pub ready : Ready bytes (t .productions) (t .empty) (i .rows) (t .nonterminals) stack depth
 
 -- At the start: 0 alone is pending.
-pub going-start : (i : Image) (bytes : List ℕ) (t : ImageTables) → Decoded bytes t i → (text stack : List ℕ) → getD stack 0 0 ≡ 0
+going-start : (i : Image) (bytes : List ℕ) (t : ImageTables) → Decoded bytes t i → (text stack : List ℕ) → getD stack 0 0 ≡ 0
     → 1 ≤ length stack → Going i bytes t text stack (length stack) 0 1 0 (run-from i (length stack) (length text) text 0 (0 ∷ []) 0)
 unfolding pending
 going-start i bytes t decoded text stack z room =
@@ -127,6 +127,12 @@ going-start i bytes t decoded text stack z room =
         below = subst (All (λ m. m < t .nonterminals)) (sym alone) (some-rows, tt);
       };
     }
+
+pub going-first : (i : Image) (bytes : List ℕ) (t : ImageTables) → Decoded bytes t i → (text stack : List ℕ) {s : State}
+    → s ≡ state-at 0 1 0 → getD stack 0 0 ≡ 0 → 1 ≤ length stack
+    → Going i bytes t text stack (length stack) (s .place) (s .depth) (s .count)
+    (run-from i (length stack) (length text) text 0 (0 ∷ []) 0)
+going-first i bytes t decoded text stack e z room = rw e (going-start i bytes t decoded text stack z room)
 
 -- The scanner's answer over the tables and the rest of the text is the image's longest match.
 module _ (i : Image) (bytes : List ℕ) (t : ImageTables) (decoded : Decoded bytes t i) (text : List ℕ) (p : ℕ) (r : Found) where
@@ -154,8 +160,8 @@ module _ (i : Image) (bytes : List ℕ) (t : ImageTables) (decoded : Decoded byt
 
 -- What a turn leads to.
 abbrev pub Leads : Image → List ℕ → ImageTables → List ℕ → ℕ → ℕ → Answer → List ℕ → Turn → Type 0
-Leads i bytes t text entries p whole stack' (Next place depth count) =
-    Going i bytes t text stack' entries place depth count whole × (p < place)
+Leads i bytes t text entries p whole stack' (Next s) =
+    Going i bytes t text stack' entries (s .place) (s .depth) (s .count) whole × (p < s .place)
 Leads i bytes t text entries p whole stack' (Done a) = answer-of a ≡ whole
 
 module _ (i : Image) (bytes : List ℕ) (t : ImageTables) (decoded : Decoded bytes t i) (text stack : List ℕ) (entries p depth count : ℕ)
@@ -208,19 +214,21 @@ module _ (i : Image) (bytes : List ℕ) (t : ImageTables) (decoded : Decoded byt
         by-take : (stack' : List ℕ) (o : Taken) → getD (i .skips) rule false ≡ false
             → TakeLeads bytes (t .productions) (t .empty) (i .rows) (t .nonterminals) stack
             (take-rule (i .rows) (pending stack depth) rule) stack' o
-            → Leads i bytes t text entries p whole stack' (after-take p n count o)
+            → Leads i bytes t text entries p whole stack' (after-take n (state-at p depth count) o)
         unfolding after-take answer-of
         by-take stack' NoTaker s x =
             sym (run-refuses i entries (going .turns - 1) (drop p text) p (pending stack depth) count rule n rest-left found s x) ∙ present
         by-take stack' TooDeep s x =
             let over : entries < length (x .0) = omega (arith, x .2, length-is) in
-            sym (run-overflows i entries (going .turns - 1) (drop p text) p (pending stack depth) count rule n rest-left found (x .0) s (x .1) over)
+            sym (run-overflows i entries (going .turns - 1) (drop p text) p (pending stack depth) count rule n rest-left found
+            (x .0) s (x .1) over)
             ∙ present
         by-take stack' (Depth depth') s x =
             let w = found-within in
             let fits : length (pending stack' depth') ≤ entries = omega (arith, length-pending stack' depth', x .1 .inside, x .2, length-is) in
             let e : suc count ≡ count + 1 = omega arith in
-            let next = ap₂ (λ (r : List ℕ) (k : ℕ). run-from i entries (going .turns - 1) r (p + n) (pending stack' depth') k) (sym moved) (sym e) in (
+            let next =
+            ap₂ (λ (r : List ℕ) (k : ℕ). run-from i entries (going .turns - 1) r (p + n) (pending stack' depth') k) (sym moved) (sym e) in (
               record {
                 turns = going .turns - 1;
                 enough = omega (arith, w .0, going .enough);
@@ -235,7 +243,8 @@ module _ (i : Image) (bytes : List ℕ) (t : ImageTables) (decoded : Decoded byt
 
         by-skip : (b : Bool) → bit (t .skips) rule ≡ b
             → let taken = take-step bytes (t .productions) (t .empty) stack depth rule in
-            Leads i bytes t text entries p whole (turn-by b stack p n depth count taken .stack) (turn-by b stack p n depth count taken .outcome)
+            let s = turn-by b stack n (state-at p depth count) taken in
+            Leads i bytes t text entries p whole (s .stack) (s .outcome)
         unfolding turn-by
         by-skip true e =
             let w = found-within in
@@ -246,7 +255,8 @@ module _ (i : Image) (bytes : List ℕ) (t : ImageTables) (decoded : Decoded byt
                 enough = omega (arith, w .0, going .enough);
                 within = w .1;
                 counted = omega (arith, w .0, going .counted);
-                same = next ∙ sym (run-skips i entries (going .turns - 1) (drop p text) p (pending stack depth) count rule n rest-left found s _ refl)
+                same = next ∙ sym (run-skips i entries (going .turns - 1) (drop p text) p (pending stack depth) count rule n rest-left found
+                    s _ refl)
                     ∙ present;
                 ready = going .ready;
               },
@@ -256,19 +266,20 @@ module _ (i : Image) (bytes : List ℕ) (t : ImageTables) (decoded : Decoded byt
             by-take _ _ (sym (decoded .skips rule) ∙ e)
             (take-leads bytes (t .productions) (t .empty) (i .rows) (t .nonterminals) stack depth rule (found-within .2) (going .ready))
 
-        turn-leads : let s = turn-step bytes (t .productions) (t .empty) (t .skips) stack rule p n depth count in
+        turn-leads : let s = turn-step bytes (t .productions) (t .empty) (t .skips) stack rule n (state-at p depth count) in
             Leads i bytes t text entries p whole (s .stack) (s .outcome)
         unfolding turn-step
         turn-leads = by-skip (bit (t .skips) rule) refl
 
-        pub turn-done : (a : RunAnswer) → turn-step bytes (t .productions) (t .empty) (t .skips) stack rule p n depth count .outcome ≡ Done a
+        pub turn-done : (a : RunAnswer)
+            → turn-step bytes (t .productions) (t .empty) (t .skips) stack rule n (state-at p depth count) .outcome ≡ Done a
             → answer-of a ≡ whole
         turn-done a e = subst (Leads i bytes t text entries p whole _) e turn-leads
 
-        pub turn-next : (stack' : List ℕ) (place depth' count' : ℕ)
-            → stack' ≡ turn-step bytes (t .productions) (t .empty) (t .skips) stack rule p n depth count .stack
-            → turn-step bytes (t .productions) (t .empty) (t .skips) stack rule p n depth count .outcome ≡ Next place depth' count'
-            → Going i bytes t text stack' entries place depth' count' whole × (p < place)
-        turn-next stack' place depth' count' f e =
-            subst (λ (l : List ℕ). Leads i bytes t text entries p whole l (Next place depth' count')) (sym f)
+        pub turn-next : (stack' : List ℕ) (s : State)
+            → stack' ≡ turn-step bytes (t .productions) (t .empty) (t .skips) stack rule n (state-at p depth count) .stack
+            → turn-step bytes (t .productions) (t .empty) (t .skips) stack rule n (state-at p depth count) .outcome ≡ Next s
+            → Going i bytes t text stack' entries (s .place) (s .depth) (s .count) whole × (p < s .place)
+        turn-next stack' s f e =
+            subst (λ (l : List ℕ). Leads i bytes t text entries p whole l (Next s)) (sym f)
             (subst (Leads i bytes t text entries p whole _) e turn-leads)

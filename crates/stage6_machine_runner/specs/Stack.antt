@@ -18,7 +18,8 @@ pushed stack base [] = stack
 pushed stack base (n ∷ tail) = set (pushed stack base tail) (base + length tail) n
 
 -- The tables hold these rows, and the entries in use are nonterminals.
-pub record Ready (bytes productions : List ℕ) (empty : ℕ) (rows : List Row) (nonterminals : ℕ) (stack : List ℕ) (depth : ℕ) : Type 0 where
+pub record Ready (bytes productions : List ℕ) (empty : ℕ) (rows : List Row) (nonterminals : ℕ) (stack : List ℕ) (depth : ℕ)
+    : Type 0 where
   pub held : RowsHeld bytes nonterminals productions empty rows
   pub most : nonterminals ≤ 64
   pub inside : depth ≤ length stack

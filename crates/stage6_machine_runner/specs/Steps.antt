@@ -13,6 +13,7 @@ use Rattle.stage6_machine_runner.specs.declared.Taker.{Taker}
 use Rattle.stage6_machine_runner.specs.declared.Taker.the-variants.{Nothing, At}
 use Rattle.stage6_machine_runner.specs.declared.Taken.{Taken}
 use Rattle.stage6_machine_runner.specs.declared.Taken.the-variants.{Depth, NoTaker, TooDeep}
+use Rattle.stage6_machine_runner.specs.declared.State.{State}
 use Rattle.stage6_machine_runner.specs.declared.Turn.{Turn}
 use Rattle.stage6_machine_runner.specs.declared.Turn.the-variants.{Next, Done}
 
@@ -22,6 +23,9 @@ answer-of r = answer (r .number) (r .place) (r .count)
 
 abbrev pub run-answer : ℕ → ℕ → ℕ → RunAnswer
 run-answer number place count = record { number = number; place = place; count = count }
+
+abbrev pub state-at : ℕ → ℕ → ℕ → State
+state-at place depth count = record { place = place; depth = depth; count = count }
 
 -- So many bytes from a place on.
 abbrev pub part : List ℕ → ℕ → ℕ → List ℕ
@@ -69,18 +73,18 @@ pub record TurnStep : Type 0 where
   pub outcome : Turn
   pub stack : List ℕ
 
--- The turn that a take ends: "a token that meets 15 or 17 is not counted".
-unfoldable pub after-take : ℕ → ℕ → ℕ → Taken → Turn
-after-take p n count (Depth depth) = Next (p + n) depth (count + 1)
-after-take p n count NoTaker = Done (run-answer 15 p count)
-after-take p n count TooDeep = Done (run-answer 17 p count)
+-- The turn of a match of n bytes that a take ends: "a token that meets 15 or 17 is not counted".
+unfoldable pub after-take : ℕ → State → Taken → Turn
+after-take n s (Depth depth) = Next (state-at (s .place + n) depth (s .count + 1))
+after-take n s NoTaker = Done (run-answer 15 (s .place) (s .count))
+after-take n s TooDeep = Done (run-answer 17 (s .place) (s .count))
 
 -- The turn of a rule that skips, or of a take.
-unfoldable pub turn-by : Bool → List ℕ → ℕ → ℕ → ℕ → ℕ → TakeStep → TurnStep
-turn-by true stack p n depth count t = record { outcome = Next (p + n) depth count; stack = stack }
-turn-by false stack p n depth count t = record { outcome = after-take p n count (t .outcome); stack = t .stack }
+unfoldable pub turn-by : Bool → List ℕ → ℕ → State → TakeStep → TurnStep
+turn-by true stack n s t = record { outcome = Next (state-at (s .place + n) (s .depth) (s .count)); stack = stack }
+turn-by false stack n s t = record { outcome = after-take n s (t .outcome); stack = t .stack }
 
--- The turn at place p, where a rule matches n bytes.
-unfoldable pub turn-step : List ℕ → List ℕ → ℕ → ℕ → List ℕ → ℕ → ℕ → ℕ → ℕ → ℕ → TurnStep
-turn-step bytes productions empty skips stack rule p n depth count =
-    turn-by (bit skips rule) stack p n depth count (take-step bytes productions empty stack depth rule)
+-- The turn where a rule matches n bytes at the state's place.
+unfoldable pub turn-step : List ℕ → List ℕ → ℕ → ℕ → List ℕ → ℕ → ℕ → State → TurnStep
+turn-step bytes productions empty skips stack rule n s =
+    turn-by (bit skips rule) stack n s (take-step bytes productions empty stack (s .depth) rule)

@@ -11,7 +11,8 @@ ghost use Rattle.stage5_image.specs.Image.{Image};
 ghost use Rattle.stage5_image_reader.specs.Decoded.{Decoded};
 ghost use Rattle.stage6_machine.specs.Run.{run-image, run, stack-after};
 ghost use Rattle.stage6_machine_runner.specs.Stack.{pending, pushed, Ready};
-ghost use Rattle.stage6_machine_runner.specs.Steps.{answer-of, part, taker, all-members, end-answer, take-step, turn-step};
+ghost use Rattle.stage6_machine_runner.specs.Steps.{answer-of, run-answer, state-at, part};
+ghost use Rattle.stage6_machine_runner.specs.Steps.{taker, all-members, end-answer, take-step, turn-step};
 use stage4_lexer_scanner::Found;
 use stage5_image_reader::ImageTables;
 use stage5_image_reader::Outcome;
@@ -36,10 +37,38 @@ enum Taken {
     TooDeep,
 }
 
-// What a turn leaves: the place, the entries in use and the count from which to go on; or the answer.
+// The state of a run: the place in the text, how many entries of the stack are in use, and how many tokens were taken.
+struct State {
+    place: usize,
+    depth: usize,
+    count: usize,
+}
+
+// What a turn leaves: the state from which to go on, or the answer.
 enum Turn {
-    Next(usize, usize, usize),
+    Next(State),
     Done(RunAnswer),
+}
+
+fn answer(number: u8, place: usize, count: usize) -> RunAnswer
+    ensures { λ r. ⌜ r ≡ run-answer number place count ⌝ }
+{
+    RunAnswer {
+        number,
+        place,
+        count,
+    }
+}
+
+// At the start, nonterminal 0 alone is pending.
+fn first_state() -> State
+    ensures { λ r. ⌜ r ≡ state-at 0 1 0 ⌝ }
+{
+    State {
+        place: 0,
+        depth: 1,
+        count: 0,
+    }
 }
 
 // Whether i is a member of a set.
@@ -104,7 +133,8 @@ fn take_rule(
         × ((rows : List Row) × (n : ℕ) × Ready (now image) (now productions) empty rows n (now stack) depth) ⌝ }
     ensures { λ r.
         ⌜ (r ≡ take-step (now (image .entry)) (now (productions .entry)) empty (now (stack .entry)) depth rule .outcome)
-        × (now (stack .exit) ≡ take-step (now (image .entry)) (now (productions .entry)) empty (now (stack .entry)) depth rule .stack) ⌝ }
+        × (now (stack .exit)
+        ≡ take-step (now (image .entry)) (now (productions .entry)) empty (now (stack .entry)) depth rule .stack) ⌝ }
 {
     let found = find_taker(productions, empty, stack, depth, rule);
     let Taker::At(base, entry) = found else {
@@ -118,7 +148,7 @@ fn take_rule(
     Taken::Depth(base + size)
 }
 
-// One turn, at place p where a rule matches n bytes.
+// One turn, where a rule matches n bytes at the state's place.
 fn after_match(
     image: &[u8],
     productions: &[usize; 2048],
@@ -126,40 +156,36 @@ fn after_match(
     skips: u64,
     stack: &mut [u8],
     rule: u8,
-    p: usize,
     n: usize,
-    depth: usize,
-    count: usize,
+    state: State,
 ) -> Turn
     requires { ⌜ (rule < 32)
-        × (p + n < 18446744073709551616)
-        × (count < p + n)
-        × ((rows : List Row) × (k : ℕ) × Ready (now image) (now productions) empty rows k (now stack) depth) ⌝ }
+        × (state .place + n < 18446744073709551616)
+        × (state .count < state .place + n)
+        × ((rows : List Row) × (k : ℕ) × Ready (now image) (now productions) empty rows k (now stack) (state .depth)) ⌝ }
     ensures { λ r.
-        ⌜ (r ≡ turn-step (now (image .entry)) (now (productions .entry)) empty skips (now (stack .entry)) rule p n depth count .outcome)
+        ⌜ (r ≡ turn-step (now (image .entry)) (now (productions .entry)) empty skips (now (stack .entry)) rule n state .outcome)
         × (now (stack .exit)
-        ≡ turn-step (now (image .entry)) (now (productions .entry)) empty skips (now (stack .entry)) rule p n depth count .stack) ⌝ }
+        ≡ turn-step (now (image .entry)) (now (productions .entry)) empty skips (now (stack .entry)) rule n state .stack) ⌝ }
 {
     if is_member(skips, rule) {
-        return Turn::Next(p + n, depth, count);
+        return Turn::Next(State {
+            place: state.place + n,
+            depth: state.depth,
+            count: state.count,
+        });
     }
-    let taken = take_rule(image, productions, empty, stack, depth, rule);
+    let taken = take_rule(image, productions, empty, stack, state.depth, rule);
     match taken {
-        Taken::NoTaker => {
-            return Turn::Done(RunAnswer {
-                number: 15,
-                place: p,
-                count,
+        Taken::NoTaker => return Turn::Done(answer(15, state.place, state.count)),
+        Taken::TooDeep => return Turn::Done(answer(17, state.place, state.count)),
+        Taken::Depth(depth) => {
+            return Turn::Next(State {
+                place: state.place + n,
+                depth,
+                count: state.count + 1,
             });
         }
-        Taken::TooDeep => {
-            return Turn::Done(RunAnswer {
-                number: 17,
-                place: p,
-                count,
-            });
-        }
-        Taken::Depth(next) => return Turn::Next(p + n, next, count + 1),
     }
 }
 
@@ -178,23 +204,15 @@ fn all_nullable(empty: u64, stack: &[u8], depth: usize) -> bool
     true
 }
 
-// At the text's end, which is p: 0 or 16.
-fn at_end(empty: u64, stack: &[u8], p: usize, depth: usize, count: usize) -> RunAnswer
-    requires { ⌜ (depth ≤ length (now stack)) × All (λ m. m < 64) (pending (now stack) depth) ⌝ }
-    ensures { λ r. ⌜ r ≡ end-answer empty (pending (now (stack .entry)) depth) p count ⌝ }
+// At the text's end: 0 or 16.
+fn at_end(empty: u64, stack: &[u8], state: State) -> RunAnswer
+    requires { ⌜ (state .depth ≤ length (now stack)) × All (λ m. m < 64) (pending (now stack) (state .depth)) ⌝ }
+    ensures { λ r. ⌜ r ≡ end-answer empty (pending (now (stack .entry)) (state .depth)) (state .place) (state .count) ⌝ }
 {
-    if all_nullable(empty, stack, depth) {
-        return RunAnswer {
-            number: 0,
-            place: p,
-            count,
-        };
+    if all_nullable(empty, stack, state.depth) {
+        return answer(0, state.place, state.count);
     }
-    RunAnswer {
-        number: 16,
-        place: p,
-        count,
-    }
+    answer(16, state.place, state.count)
 }
 
 // Runs a readable image, given by its bytes and tables. What is left on the stack is not promised.
@@ -205,18 +223,13 @@ fn run_image(image: &[u8], tables: ImageTables, text: &[u8], stack: &mut [u8]) -
         → answer-of r ≡ run-image i (length (now (stack .entry))) (now (text .entry))) ⌝ }
 {
     if stack.len() < 1 {
-        return RunAnswer {
-            number: 17,
-            place: 0,
-            count: 0,
-        };
+        return answer(17, 0, 0);
     }
     stack[0] = 0;
     let positions = tables.positions;
-    let mut p: usize = 0;
-    let mut depth: usize = 1;
-    let mut count: usize = 0;
-    while p < text.len() {
+    let mut state = first_state();
+    while state.place < text.len() {
+        let p = state.place;
         let found = stage4_lexer_scanner::longest_match(
             &text[p..],
             positions.count,
@@ -228,11 +241,7 @@ fn run_image(image: &[u8], tables: ImageTables, text: &[u8], stack: &mut [u8]) -
             positions.first,
         );
         let Found::Rule(rule, n) = found else {
-            return RunAnswer {
-                number: 14,
-                place: p,
-                count,
-            };
+            return answer(14, p, state.count);
         };
         let after = after_match(
             image,
@@ -241,21 +250,15 @@ fn run_image(image: &[u8], tables: ImageTables, text: &[u8], stack: &mut [u8]) -
             tables.skips,
             stack,
             rule,
-            p,
             n,
-            depth,
-            count,
+            state,
         );
         match after {
-            Turn::Done(answer) => return answer,
-            Turn::Next(place, entries, taken) => {
-                p = place;
-                depth = entries;
-                count = taken;
-            }
+            Turn::Done(done) => return done,
+            Turn::Next(next) => state = next,
         }
     }
-    at_end(tables.empty, stack, p, depth, count)
+    at_end(tables.empty, stack, state)
 }
 
 // Runs an image over a text with a lent stack. The stack ends all zero, untouched after 12 and 13.
@@ -265,24 +268,16 @@ pub fn run(image: &[u8], text: &[u8], stack: &mut [u8]) -> RunAnswer
         × (now (stack .exit) ≡ stack-after (answer-of r) (now (stack .entry))) ⌝ }
 {
     if 1048576 < text.len() {
-        return RunAnswer {
-            number: 12,
-            place: 0,
-            count: 0,
-        };
+        return answer(12, 0, 0);
     }
     let read = stage5_image_reader::read_image(image);
     let outcome = read.outcome;
     if let Outcome::Refused(place) = outcome {
-        return RunAnswer {
-            number: 13,
-            place,
-            count: 0,
-        };
+        return answer(13, place, 0);
     }
     let tables = read.tables;
-    let answer = run_image(image, tables, text, stack);
+    let ran = run_image(image, tables, text, stack);
     let entries = stack.len();
     stage0_buffers::clear_front(stack, entries);
-    answer
+    ran
 }

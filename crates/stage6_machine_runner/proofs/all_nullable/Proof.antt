@@ -1,9 +1,8 @@
 -- `all_nullable` meets its contract. The loop's invariant: those above the entries that are left are nullable.
 use mathlib.Core.Path.{_≡_, refl, sym, _∙_}
-use Prim.Native.Nat.{ℕ, _≤_, _<_}
+use Prim.Native.Nat.{_≤_, _<_}
 use native.Mathlib.Omega.{arith}
 use lib.ListN.{length}
-use denote.Ref.{now}
 use borrow.Author.Tests.{not-true, not-false}
 use Rattle.stage0_laws.specs.Lists.{All}
 use Rattle.stage6_machine_runner.specs.Stack.{pending}

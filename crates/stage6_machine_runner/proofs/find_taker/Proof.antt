@@ -1,9 +1,8 @@
 -- `find_taker` meets its contract. The loop's invariant: the taker among the entries that are left is the taker.
 use mathlib.Core.Path.{_≡_, refl, sym, _∙_}
-use Prim.Native.Nat.{ℕ, _≤_, _<_}
+use Prim.Native.Nat.{_≤_, _<_}
 use native.Mathlib.Omega.{arith}
 use lib.ListN.{length}
-use denote.Ref.{now}
 use borrow.Author.Tests.{not-true, not-false}
 use Rattle.stage0_laws.specs.Lists.{All}
 use Rattle.stage6_machine_runner.specs.Stack.{pending}
@@ -68,8 +67,8 @@ returns-2 c =
     let tested = member .before in
     let turn = tested .before .before .before in
     let l = turn .before .loop in
-    taker-stops _ _ _ _ (l .left) (turn .loop-test .taken) (tested .if1 .left) (sym (member .is-member .ensures) ∙ not-true _ (c .if2 .taken))
-    ∙ l .inv .2
+    let empty = sym (member .is-member .ensures) ∙ not-true _ (c .if2 .taken) in
+    taker-stops _ _ _ _ (l .left) (turn .loop-test .taken) (tested .if1 .left) empty ∙ l .inv .2
 
 loop-less : tie.Need-loop-less Inv-loop μ-loop
 loop-less c = omega (arith, c .before .before .before .before .before .loop-test .taken)
@@ -79,11 +78,11 @@ loop-again c =
     let member = c .before in
     let tested = member .before in
     let turn = tested .before .before .before in
-    let l = turn .before .loop in (
+    let l = turn .before .loop in
+    let empty = sym (member .is-member .ensures) ∙ not-false _ (c .if2 .left) in (
       omega (arith, l .inv .0),
       all-top 64 _ _ (turn .loop-test .taken) (l .inv .1) .1,
-      taker-passes _ _ _ _ (l .left) (turn .loop-test .taken) (tested .if1 .left) (sym (member .is-member .ensures) ∙ not-false _ (c .if2 .left))
-          ∙ l .inv .2,
+      taker-passes _ _ _ _ (l .left) (turn .loop-test .taken) (tested .if1 .left) empty ∙ l .inv .2,
     )
 
 returns-3 : tie.Need-returns-3 Inv-loop μ-loop

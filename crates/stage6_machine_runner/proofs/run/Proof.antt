@@ -1,19 +1,25 @@
 -- `run` meets its contract: one law of `Ending` for each answer.
-use mathlib.Core.Path.{_≡_, ap, _∙_}
-use Prim.Native.Nat.{ℕ, _≤_}
+use mathlib.Core.Path.{ap, _∙_}
+use Prim.Native.Nat.{ℕ}
 use native.Mathlib.Omega.{arith}
 use lib.ListN.{length, replicate}
 use denote.Ref.{now}
 use Rattle.stage0_buffers.specs.Cleared.{cleared-all}
 use Rattle.stage6_machine_runner.specs.Steps.{answer-of}
-use Rattle.stage6_machine_runner.proofs.Ending.{run-too-long, run-unreadable, run-readable, stack-kept-12, stack-kept-13, stack-cleared}
+use Rattle.stage6_machine_runner.proofs.Ending.{run-too-long, run-unreadable, run-readable}
+use Rattle.stage6_machine_runner.proofs.Ending.{stack-kept-12, stack-kept-13, stack-cleared}
 use borrow.Author.Needs.{needs}
 use Rattle.stage6_machine_runner.proofs.run.Statement.{statement}
 use Rattle.stage6_machine_runner.proofs.run.Tie as tie
 
+answer-requires : tie.Need-answer-requires
+answer-requires c κs = search needs
+
 returns : tie.Need-returns
 unfolding answer-of
-returns c = (run-too-long _ _ _ (c .if1 .taken), stack-kept-12 _)
+returns c =
+    let e = ap answer-of (c .answer .ensures) in
+    (e ∙ run-too-long _ _ _ (c .before .if1 .taken), stack-kept-12 _ _ e)
 
 read-image-requires : tie.Need-read-image-requires
 read-image-requires c κs = search needs
@@ -21,18 +27,26 @@ read-image-requires c κs = search needs
 enum-known-outcome : tie.Need-enum-known-outcome
 enum-known-outcome c = search needs
 
+answer-requires-2 : tie.Need-answer-requires-2
+answer-requires-2 c κs = search needs
+
 returns-2 : tie.Need-returns-2
 unfolding answer-of
 returns-2 c =
-    let refused = c .before .before .before .read-image .ensures .refusal (c .before .outcome .given .1) in
-    (run-unreadable _ _ _ (c .before .before .before .before .if1 .left) _ (refused .0), stack-kept-13 _ _)
+    let known = c .before .before in
+    let read = known .before .before in
+    let e = ap answer-of (c .answer2 .ensures) in
+    let refused = read .read-image .ensures .refusal (known .outcome .given .1) in
+    (e ∙ run-unreadable _ _ _ (read .before .if1 .left) _ (refused .0), stack-kept-13 _ _ _ e)
 
 enum-told : tie.Need-enum-told
 enum-told c = search needs
 
 run-image-requires : tie.Need-run-image-requires
 run-image-requires c κs =
-    let readable = c .before .before .before .before .read-image .ensures .readable (c .before .before .enum-told .given .1) in
+    let told = c .before .before in
+    let read = told .before .before in
+    let readable = read .read-image .ensures .readable (told .enum-told .given .1) in
     (readable .0, readable .2)
 
 clear-front-requires : tie.Need-clear-front-requires
@@ -43,15 +57,18 @@ same-length c = search needs
 
 returns-3 : tie.Need-returns-3
 returns-3 c =
-    let start = c .before .before .before .before .before .before .before .before .before .before .before .before .before .before .before .before in
-    let readable = c .before .before .before .before .before .before .before .before .before .before .before .read-image .ensures .readable (c .before .before .before .before .before .before .before .before .before .enum-told .given .1) in
-    let ran = c .before .before .before .before .before .before .run-image in
-    let answers = ran .ensures (readable .0) (readable .2) in
-    let left = ran .last .1 .1 .1 .0 in (
-      run-readable _ _ _ (c .before .before .before .before .before .before .before .before .before .before .before .before .if1 .left) (readable .0) _ (readable .1) _ answers,
-      c .before .before .clear-front .ensures
+    let cleared = c .before .before in
+    let ran = cleared .before .before .before .before in
+    let told = ran .before .before .before in
+    let read = told .before .before in
+    let start = read .before .before .before .before .before in
+    let readable = read .read-image .ensures .readable (told .enum-told .given .1) in
+    let answers = ran .run-image .ensures (readable .0) (readable .2) in
+    let left = ran .run-image .last .1 .1 .1 .0 in (
+      run-readable _ _ _ (read .before .if1 .left) (readable .0) _ (readable .1) _ answers,
+      cleared .clear-front .ensures
           ∙ cleared-all (length left) left (omega arith)
-          ∙ ap (λ (k : ℕ). replicate k 0) (ran .kept .1 .1 .1 .0)
+          ∙ ap (λ (k : ℕ). replicate k 0) (ran .run-image .kept .1 .1 .1 .0)
           ∙ stack-cleared (readable .0) _ _ _ (now (start .args .stack)) answers,
     )
 
@@ -59,9 +76,11 @@ pub run-spec : {M : Type 1} → statement M
 run-spec =
     tie.close
     (tie.spec
+    answer-requires
     returns
     read-image-requires
     enum-known-outcome
+    answer-requires-2
     returns-2
     enum-told
     run-image-requires
