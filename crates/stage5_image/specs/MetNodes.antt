@@ -147,7 +147,7 @@ number-left n (m ∷ met) more t = go (eqb m n) (λ x. number-left n met more x)
     go true ih x = refl
     go false ih x = ap suc (ih x)
 
-number-last : (n : ℕ) (met : List ℕ) → is-met n met ≡ false → number-of (met ++ (n ∷ [])) n ≡ length met
+pub number-last : (n : ℕ) (met : List ℕ) → is-met n met ≡ false → number-of (met ++ (n ∷ [])) n ≡ length met
 unfolding is-met number-of
 number-last n [] e = rw (eq-eqb n n refl, number-of)
 number-last n (m ∷ met) e = go (eqb m n) (λ x. number-last n met x) e
