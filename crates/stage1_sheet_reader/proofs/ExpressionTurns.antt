@@ -12,7 +12,7 @@ use lib.Seq.{getD-set-same, getD-set-other, set-out}
 use borrow.Author.Tests.{eq-eqb, ne-eqb}
 use Rattle.stage0_laws.specs.Order.{compare-cases, lt-or-le}
 use Rattle.stage1_sheet.specs.Field.{Reading, stop, got, and-then, between}
-use Rattle.stage1_sheet.specs.FieldLaws.{Outcome, then-outcome, outcome-got, true-between}
+use Rattle.stage1_sheet.specs.FieldLaws.{Outcome, refused, accepted, then-outcome, outcome-got, true-between}
 use Rattle.stage1_sheet.specs.Items.{ExpressionItem, epsilon-item, bottom-item, token-item, sequence-item, alternative-item, fixed-point-item, variable-item, part-depths}
 use Rattle.stage1_sheet.specs.Reading.{sheet-field, ReadNode, expression-item, expression-nodes}
 use Rattle.stage1_sheet.specs.ExpressionItems.{expression-tag}
@@ -25,7 +25,7 @@ use Rattle.stage1_sheet_reader.specs.declared.Step.the-variants.{Next, S
 use Rattle.stage1_sheet_reader.specs.declared.Pending.{Pending}
 use Rattle.stage1_sheet_reader.specs.declared.ExpressionTurn.{ExpressionTurn}
 use Rattle.stage1_sheet_reader.proofs.Leading.{in-front}
-use Rattle.stage1_sheet_reader.proofs.Fields.{below, field-same, FieldKept, field-kept, Any, field-inside, pred-suc}
+use Rattle.stage1_sheet_reader.proofs.Fields.{below, field-same, field-kept, Any, field-inside, pred-suc}
 
 -- ---- a turn in columns, by what was read
 
@@ -173,11 +173,11 @@ module _ (bytes : List ℕ) where
       numbered : (bound : ℕ) (make : ℕ → ExpressionItem)
           → Outcome Any (ExpressionKept bytes (suc left)) (and-then (sheet-field (λ k. ltb k bound) bytes next) (λ k end. got (make k) end))
       numbered bound make =
-          then-outcome Any (FieldKept (λ k. ltb k bound) bytes) (ExpressionKept bytes (suc left)) (sheet-field (λ k. ltb k bound) bytes next) _
-          (field-inside (λ k. ltb k bound) bytes next) (λ k end f. record { node-allowed = omega arith; inside = f .inside })
+          then-outcome (field-inside (λ k. ltb k bound) bytes next)
+          (λ k end f. accepted (make k) end (record { node-allowed = omega arith; inside = f .inside }))
 
-      plain : (item : ExpressionItem) → ExpressionKept bytes (suc left) item next
-      plain item = record { node-allowed = omega arith; inside = h }
+      plain : (item : ExpressionItem) → Outcome Any (ExpressionKept bytes (suc left)) (got item next)
+      plain item = accepted item next (record { node-allowed = omega arith; inside = h })
 
       go : (a b d f g i : Bool) → Outcome Any (ExpressionKept bytes (suc left))
           (cond a (got epsilon-item next) (cond b (got bottom-item next)
@@ -193,14 +193,11 @@ module _ (bytes : List ℕ) where
       go false false false false false false = numbered opened variable-item
 
   turn-keeps : (tokens left opened at : ℕ) → Outcome Any (ExpressionKept bytes left) (expression-turn bytes tokens left opened at)
-  unfolding expression-turn Any
-  turn-keeps tokens zero opened at =
-      then-outcome Any (FieldKept (between 0 6) bytes) (ExpressionKept bytes zero) (sheet-field (between 0 6) bytes at) _
-      (field-inside (between 0 6) bytes at) (λ tag next f. tt)
+  unfolding expression-turn
+  turn-keeps tokens zero opened at = then-outcome (field-inside (between 0 6) bytes at) (λ tag next f. refused 5 at tt)
   turn-keeps tokens (suc left) opened at =
       rw (eqb·suc-zero left)
-      (then-outcome Any (FieldKept (between 0 6) bytes) (ExpressionKept bytes (suc left)) (sheet-field (between 0 6) bytes at) _
-      (field-inside (between 0 6) bytes at) (λ tag next f. item-keeps tokens left opened tag next (f .inside)))
+      (then-outcome (field-inside (between 0 6) bytes at) (λ tag next f. item-keeps tokens left opened tag next (f .inside)))
 
 -- ---- the expressions due
 
@@ -371,7 +368,7 @@ module _ (bytes : List ℕ) (tokens : ℕ) (c : NodeColumns) (p : Pending) (at :
   after-node : NodeTurned c p at (node-from bytes tokens c p at) r next → NodesAgain bytes tokens c p at (r .nodes) (r .pending) next
   unfolding with-read-node
   after-node t =
-      let n = outcome-got Any (ExpressionKept bytes (64 - c .count)) (turn-keeps bytes tokens (64 - c .count) (next-opened p) at) (t .read) in
+      let n = outcome-got (turn-keeps bytes tokens (64 - c .count) (next-opened p) at) (t .read) in
       let room : c .count < 64 = omega (arith, n .node-allowed) in
       let left : 64 - c .count - 1 ≡ 64 - (c .count + 1) = omega arith in
       let parts = due-parts p some (omega (arith, f .due, f .entries)) (t .item) in

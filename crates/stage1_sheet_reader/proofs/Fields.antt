@@ -13,7 +13,7 @@ use Rattle.stage0_number.specs.Laws.{decode-within}
 use Rattle.stage0_number.specs.declared.Number.{Number}
 use Rattle.stage0_number.specs.declared.Number.the-variants.{Read, Refused}
 use Rattle.stage1_sheet.specs.Field.{Reading, stop, got, between, field-of, read-field}
-use Rattle.stage1_sheet.specs.FieldLaws.{Outcome}
+use Rattle.stage1_sheet.specs.FieldLaws.{Outcome, refused, accepted}
 use Rattle.stage1_sheet.specs.Reading.{sheet-field}
 use Rattle.stage1_sheet_reader.specs.Turns.{in-range, field-answer}
 use Rattle.stage1_sheet_reader.specs.declared.Field.the-variants.{Value, Unfit}
@@ -114,16 +114,15 @@ field-kept allowed bytes at {v} {next} = go (decode bytes at) refl
     go (Read w used) d e = chosen w used d (allowed w) refl e
 
 -- The same of a reading, whatever a refusal is.
-unfoldable pub Any : ℕ → ℕ → Type 0
+abbrev pub Any : ℕ → ℕ → Type 0
 Any question place = Unit
 
 pub field-inside : (allowed : ℕ → Bool) (bytes : List ℕ) (at : ℕ) → Outcome Any (FieldKept allowed bytes) (sheet-field allowed bytes at)
-unfolding Any
 field-inside allowed bytes at = go (sheet-field allowed bytes at) refl
   where
     go : (m : Reading ℕ) → sheet-field allowed bytes at ≡ m → Outcome Any (FieldKept allowed bytes) m
-    go (stop q p) e = tt
-    go (got v next) e = field-kept allowed bytes at e
+    go (stop q p) e = refused q p tt
+    go (got v next) e = accepted v next (field-kept allowed bytes at e)
 
 -- Numbers are not computed at a variable.
 pub pred-suc : (n : ℕ) → suc n - 1 ≡ n

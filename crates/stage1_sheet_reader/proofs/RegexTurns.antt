@@ -8,7 +8,7 @@ use lib.Dec.{eqb, eqb·suc-zero}
 use lib.ListN.{length}
 use borrow.Author.Tests.{eq-eqb, ne-eqb}
 use Rattle.stage1_sheet.specs.Field.{Reading, stop, got, and-then, between}
-use Rattle.stage1_sheet.specs.FieldLaws.{Outcome, then-outcome, outcome-got, true-between}
+use Rattle.stage1_sheet.specs.FieldLaws.{Outcome, refused, accepted, then-outcome, outcome-got, true-between}
 use Rattle.stage1_sheet.specs.Items.{RegexItem, empty-item, class-item, concat-item, union-item, star-item, regex-parts, item-classes}
 use Rattle.stage1_sheet.specs.Reading.{sheet-field, class-after, regex-item, regex-items}
 use Rattle.stage1_sheet_columns.specs.declared.RuleColumns.{RuleColumns}
@@ -18,7 +18,7 @@ use Rattle.stage1_sheet_reader.specs.Answers.{RulesFit}
 use Rattle.stage1_sheet_reader.specs.declared.Step.the-variants.{Next, Stop}
 use Rattle.stage1_sheet_reader.specs.declared.RegexTurn.{RegexTurn}
 use Rattle.stage1_sheet_reader.proofs.Leading.{in-front}
-use Rattle.stage1_sheet_reader.proofs.Fields.{FieldKept, field-kept, Any, field-inside, pred-suc}
+use Rattle.stage1_sheet_reader.proofs.Fields.{field-kept, Any, field-inside, pred-suc}
 
 -- ---- a turn in columns, by what was read
 
@@ -164,23 +164,22 @@ pub record NodeKept (bytes : List ℕ) (left classes : ℕ) (item : RegexItem) (
 
 module _ (bytes : List ℕ) where
   class-keeps : (left classes at next : ℕ) → Outcome Any (NodeKept bytes (suc left) classes) (class-after bytes classes at next)
-  unfolding class-after item-classes Any
-  class-keeps left zero at next = tt
+  unfolding class-after item-classes
+  class-keeps left zero at next = refused 5 at tt
   class-keeps left (suc classes) at next =
       rw (eqb·suc-zero classes)
-      (then-outcome Any (FieldKept (between 0 255) bytes) (NodeKept bytes (suc left) (suc classes))
-      (sheet-field (between 0 255) bytes next) _ (field-inside (between 0 255) bytes next)
-      (λ low after f. then-outcome Any (FieldKept (between low 255) bytes) (NodeKept bytes (suc left) (suc classes))
-      (sheet-field (between low 255) bytes after) _ (field-inside (between low 255) bytes after)
-      (λ high end g. record { node-allowed = omega arith; class-allowed = omega arith; inside = g .inside })))
+      (then-outcome (field-inside (between 0 255) bytes next)
+      (λ low after f. then-outcome (field-inside (between low 255) bytes after)
+      (λ high end g. accepted (class-item low high) end
+      (record { node-allowed = omega arith; class-allowed = omega arith; inside = g .inside }))))
 
   item-keeps : (left classes at tag next : ℕ) → next ≤ length bytes
       → Outcome Any (NodeKept bytes (suc left) classes) (regex-item bytes classes at tag next)
   unfolding regex-item item-classes
   item-keeps left classes at tag next h = go (eqb tag 0) (eqb tag 1) (eqb tag 2) (eqb tag 3)
     where
-      plain : (item : RegexItem) → item-classes item ≡ 0 → NodeKept bytes (suc left) classes item next
-      plain item e = record { node-allowed = omega arith; class-allowed = omega arith; inside = h }
+      plain : (item : RegexItem) → item-classes item ≡ 0 → Outcome Any (NodeKept bytes (suc left) classes) (got item next)
+      plain item e = accepted item next (record { node-allowed = omega arith; class-allowed = omega arith; inside = h })
 
       go : (a b d f : Bool) → Outcome Any (NodeKept bytes (suc left) classes)
           (cond a (got empty-item next) (cond b (class-after bytes classes at next)
@@ -192,18 +191,15 @@ module _ (bytes : List ℕ) where
       go false false false false = plain star-item refl
 
   turn-keeps : (left classes at : ℕ) → Outcome Any (NodeKept bytes left classes) (regex-turn bytes left classes at)
-  unfolding regex-turn Any
-  turn-keeps zero classes at =
-      then-outcome Any (FieldKept (between 0 4) bytes) (NodeKept bytes zero classes) (sheet-field (between 0 4) bytes at) _
-      (field-inside (between 0 4) bytes at) (λ tag next f. tt)
+  unfolding regex-turn
+  turn-keeps zero classes at = then-outcome (field-inside (between 0 4) bytes at) (λ tag next f. refused 5 at tt)
   turn-keeps (suc left) classes at =
       rw (eqb·suc-zero left)
-      (then-outcome Any (FieldKept (between 0 4) bytes) (NodeKept bytes (suc left) classes) (sheet-field (between 0 4) bytes at) _
-      (field-inside (between 0 4) bytes at) (λ tag next f. item-keeps left classes at tag next (f .inside)))
+      (then-outcome (field-inside (between 0 4) bytes at) (λ tag next f. item-keeps left classes at tag next (f .inside)))
 
   pub node-kept : (left classes at : ℕ) {item : RegexItem} {next : ℕ} → regex-turn bytes left classes at ≡ got item next
       → NodeKept bytes left classes item next
-  node-kept left classes at e = outcome-got Any (NodeKept bytes left classes) (turn-keeps left classes at) e
+  node-kept left classes at e = outcome-got (turn-keeps left classes at) e
 
 -- ---- the turns make up the definition's items
 

@@ -12,14 +12,14 @@ use Rattle.stage1_sheet.specs.Regex.{empty}
 use Rattle.stage1_sheet.specs.Expression.{bottom}
 use Rattle.stage1_sheet.specs.Sheet.{Rule}
 use Rattle.stage1_sheet.specs.Field.{Reading, stop, got, and-then, between, read-many}
-use Rattle.stage1_sheet.specs.FieldLaws.{Bytes, Outcome, then-outcome, outcome-got, FieldRead, true-between, Row, many-outcome}
+use Rattle.stage1_sheet.specs.FieldLaws.{Bytes, Outcome, accepted, then-outcome, outcome-got, true-between, Row, many-outcome}
 use Rattle.stage1_sheet.specs.SheetFields.{SheetRefusal, sheet-field-outcome}
 use Rattle.stage1_sheet.specs.Items.{RegexItem, regexes, expressions}
 use Rattle.stage1_sheet.specs.RegexItems.{regex-items-of, MakesRegexes, one-regex}
 use Rattle.stage1_sheet.specs.ExpressionItems.{expression-items-of, one-expression}
-use Rattle.stage1_sheet.specs.Reading.{sheet-field, regex-items, ReadRule, ReadNode, Allowance, less-rule, read-rule, expression-nodes, Contents, contents, at-end, read-sheet}
-use Rattle.stage1_sheet.specs.RegexReading.{RegexesRead, regexes-outcome}
-use Rattle.stage1_sheet.specs.ExpressionReading.{NodesRead, expressions-outcome}
+use Rattle.stage1_sheet.specs.Reading.{sheet-field, ReadRule, ReadNode, Allowance, less-rule, read-rule, expression-nodes, Contents, contents, at-end, read-sheet}
+use Rattle.stage1_sheet.specs.RegexReading.{regexes-outcome}
+use Rattle.stage1_sheet.specs.ExpressionReading.{expressions-outcome}
 use Rattle.stage1_sheet_columns.specs.Holds.{items-of-rules, RulesOf, NodesOf}
 use Rattle.stage1_sheet_columns.specs.declared.RuleColumns.{RuleColumns}
 use Rattle.stage1_sheet_reader.specs.Put.{with-all, with-rule, with-read-node, no-rules, no-nodes}
@@ -80,17 +80,14 @@ module _ (bytes : List ℕ) (b : Bytes bytes) where
   head-outcome : Outcome (SheetRefusal bytes) (HeadKept bytes) (header bytes)
   unfolding header
   head-outcome =
-      then-outcome (SheetRefusal bytes) (FieldRead (between 1 1) bytes 0) (HeadKept bytes) (sheet-field (between 1 1) bytes 0) _
-      (sheet-field-outcome (between 1 1) bytes 0 b (omega arith))
-      (λ version at-tokens v. then-outcome (SheetRefusal bytes) (FieldRead (between 1 most-tokens) bytes at-tokens) (HeadKept bytes)
-      (sheet-field (between 1 most-tokens) bytes at-tokens) _ (sheet-field-outcome (between 1 most-tokens) bytes at-tokens b (v .stands .inside))
-      (λ tokens at-count t. then-outcome (SheetRefusal bytes) (FieldRead (between 1 most-rules) bytes at-count) (HeadKept bytes)
-      (sheet-field (between 1 most-rules) bytes at-count) _ (sheet-field-outcome (between 1 most-rules) bytes at-count b (t .stands .inside))
-      (λ count at-rules c. record {
+      then-outcome (sheet-field-outcome (between 1 1) bytes 0 b (omega arith))
+      (λ version at-tokens v. then-outcome (sheet-field-outcome (between 1 most-tokens) bytes at-tokens b (v .stands .inside))
+      (λ tokens at-count t. then-outcome (sheet-field-outcome (between 1 most-rules) bytes at-count b (t .stands .inside))
+      (λ count at-rules c. accepted (record { tokens = tokens; rules = count }) at-rules (record {
         tokens-most = true-between 1 most-tokens tokens (t .holds) .1;
         rules-most = true-between 1 most-rules count (c .holds) .1;
         inside = c .stands .inside;
-      })))
+      }))))
 
   pub head-read : {tokens count next : ℕ} → header-answer (header bytes) ≡ Counts tokens count next → HeadRead bytes tokens count next
   unfolding header-answer
@@ -102,7 +99,7 @@ module _ (bytes : List ℕ) (b : Bytes bytes) where
           let t : c .tokens ≡ tokens = cc in
           let r : c .rules ≡ count = cc in
           let p : n ≡ next = cc in
-          let kept = outcome-got (SheetRefusal bytes) (HeadKept bytes) head-outcome h in
+          let kept = outcome-got head-outcome h in
           record {
             read = h ∙ rw (t, r, p);
             tokens-most = omega (arith, kept .tokens-most);
@@ -215,12 +212,9 @@ module _ (bytes : List ℕ) (b : Bytes bytes) (tokens : ℕ) where
       → Outcome (SheetRefusal bytes) (λ r end. SameItems r × (end ≤ length bytes)) (read-rule bytes tokens allowed at)
   unfolding read-rule
   rule-items allowed at h =
-      then-outcome (SheetRefusal bytes) (FieldRead (between 0 tokens) bytes at) (λ r end. SameItems r × (end ≤ length bytes))
-      (sheet-field (between 0 tokens) bytes at) _ (sheet-field-outcome (between 0 tokens) bytes at b h)
-      (λ action next f. then-outcome (SheetRefusal bytes) (RegexesRead bytes (allowed .nodes) (allowed .classes) 1 next)
-      (λ r end. SameItems r × (end ≤ length bytes)) (regex-items bytes (allowed .nodes) (allowed .classes) 1 next) _
-      (regexes-outcome bytes b (allowed .nodes) (allowed .classes) 1 next (f .stands .inside))
-      (λ items end r. (same-regex items (r .makes), r .stands .inside)))
+      then-outcome (sheet-field-outcome (between 0 tokens) bytes at b h)
+      (λ action next f. then-outcome (regexes-outcome bytes b (allowed .nodes) (allowed .classes) 1 next (f .stands .inside))
+      (λ items end r. accepted _ end (same-regex items (r .makes), r .stands .inside)))
 
   row-items : (rules : List ReadRule) (allowed : Allowance) (at end : ℕ)
       → Row (λ s from r next. SameItems r) less-rule allowed at rules end
@@ -233,9 +227,7 @@ module _ (bytes : List ℕ) (b : Bytes bytes) (tokens : ℕ) where
       → read-many (read-rule bytes tokens) less-rule allowed count at ≡ got rules end → RulesFit (with-all with-rule no-rules rules)
       → RulesOf (with-all with-rule no-rules rules) (map rule-of rules) (map (λ r. r .place) rules)
   rules-of-sheet allowed count at {rules} {end} h e f =
-      let o = outcome-got (SheetRefusal bytes)
-      (λ l last. (length l ≡ count) × Row (λ s from r next. SameItems r) less-rule allowed at l last × (last ≤ length bytes))
-      (many-outcome (SheetRefusal bytes) (λ p. p ≤ length bytes) (λ s from r next. SameItems r)
+      let o = outcome-got (many-outcome (SheetRefusal bytes) (λ p. p ≤ length bytes) (λ s from r next. SameItems r)
       (read-rule bytes tokens) less-rule rule-items count allowed at h) e in
       rw (same-actions rules, row-items rules allowed at end (o .1)) (all-rules-held rules f)
 
@@ -243,8 +235,7 @@ module _ (bytes : List ℕ) (b : Bytes bytes) (tokens : ℕ) where
       → expression-nodes bytes tokens most-expression-nodes (0 ∷ []) at ≡ got nodes end
       → NodesOf (with-all with-read-node no-nodes nodes) (getD (expressions (map (λ n. n .item) nodes)) 0 bottom) (map (λ n. n .place) nodes)
   nodes-of-sheet at {nodes} {end} h e =
-      let o = outcome-got (SheetRefusal bytes) (NodesRead bytes tokens most-expression-nodes (0 ∷ []) at)
-      (expressions-outcome bytes b tokens most-expression-nodes (0 ∷ []) at h) e in
+      let o = outcome-got (expressions-outcome bytes b tokens most-expression-nodes (0 ∷ []) at h) e in
       let one = one-expression tokens 0 (map (λ n. n .item) nodes) (o .makes) in
       let same : expression-items-of (getD (expressions (map (λ n. n .item) nodes)) 0 bottom) ≡ map (λ n. n .item) nodes =
       ap (λ l. expression-items-of (getD l 0 bottom)) (one .1 .made) ∙ one .1 .same-items in
