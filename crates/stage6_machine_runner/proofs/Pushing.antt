@@ -12,7 +12,7 @@ use Rattle.stage6_machine_runner.proofs.Entries.{pending-set}
 pub length-pushed : (stack : List ℕ) (base : ℕ) (tail : List ℕ) → length (pushed stack base tail) ≡ length stack
 unfolding pushed
 length-pushed stack base [] = refl
-length-pushed stack base (n ∷ tail) = length-set (pushed stack base tail) (base + length tail) n ∙ length-pushed stack base tail
+length-pushed stack base (n ∷ tail) = simp length-set (length-pushed stack _ tail)
 
 pub pending-pushed : (stack : List ℕ) (base : ℕ) (tail : List ℕ) → base + length tail ≤ length stack
     → pending (pushed stack base tail) (base + length tail) ≡ tail ++ pending stack base
