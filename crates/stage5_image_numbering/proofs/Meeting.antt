@@ -8,16 +8,16 @@ use native.Mathlib.Decide.{ℕ-discrete}
 use native.Mathlib.Omega.{arith}
 use native.Mathlib.Numerals.{add-one}
 use lib.ListN.{getD, length, take, drop, set, length-append, take-append-drop}
-use lib.Dec.{eqb}
 use lib.Seq.{getD-set-same, getD-set-other, getD-take, take-suc-set, take-suc, take-take, length-take-le}
 use borrow.Author.Tests.{eq-eqb, ne-eqb}
 use Rattle.stage0_laws.specs.Lists.{All}
 use Rattle.stage0_laws.specs.Truth.{true-holds}
+use Rattle.stage3_normal_form_walk.proofs.Walking.{not-true, not-false}
 use Rattle.stage3_normal_form_walk.specs.Columns.{tail-held}
 use Rattle.stage3_normal_form_walk.specs.declared.Tail.{Tail}
 use Rattle.stage5_image.specs.Members.{all-at}
 use Rattle.stage5_image.specs.Numbering.{is-met, meet, meet-all, number-of}
-use Rattle.stage5_image.specs.MetNodes.{Met, met-last, first-met, meet-all-order, number-below, number-left, number-last}
+use Rattle.stage5_image.specs.MetNodes.{met-last, first-met, meet-all-order, number-below, number-left, number-last}
 use Rattle.stage5_image.specs.NumberingLaws.{meet-all-append}
 use Rattle.stage5_image_numbering.specs.Below.{concat-below}
 use Rattle.stage5_image_numbering.specs.Grammar.{Numbers, members-of}
@@ -139,14 +139,6 @@ found-members t e = rw e
 pub no-members : (t : Tail) → t .found ≡ false → members-of (tail-held t) ≡ []
 unfolding tail-held members-of
 no-members t e = rw e
-
-not-true : (b : Bool) → not b ≡ true → b ≡ false
-not-true true e = sym e
-not-true false e = refl
-
-not-false : (b : Bool) → not b ≡ false → b ≡ true
-not-false true e = refl
-not-false false e = sym e
 
 pub tail-none : (c : Numbering) (t : Tail) → not (t .found) ≡ true → TailMet c c (members-of (tail-held t)) (members-of (tail-held t))
 tail-none c t e = rw (no-members t (not-true (t .found) e)) (tail-start c [])

@@ -5,7 +5,7 @@ use mathlib.Core.List.{List, [], _∷_, _++_, append-assoc, append-nil}
 use Prim.Native.Nat.{ℕ, zero, suc, _+_, _-_, _≤_, _<_}
 use native.Mathlib.Omega.{arith}
 use native.Mathlib.Numerals.{add-one}
-use lib.ListN.{getD, length, take, replicate, length-append, List·getD-append}
+use lib.ListN.{getD, length, replicate, length-append, List·getD-append}
 use lib.Dec.{ltb}
 use lib.Seq.{getD-take}
 use borrow.Author.Tests.{lt-ltb, le-ltb, ne-eqb}
@@ -18,7 +18,6 @@ use Rattle.stage3_normal_form_walk.specs.declared.Tail.{Tail}
 use Rattle.stage5_image.specs.Fusion.{fused-from, fused-row, fused}
 use Rattle.stage5_image.specs.MetNodes.{first-met, meet-all-order}
 use Rattle.stage5_image.specs.Numbering.{is-met, meet-all, tail-members, meet-rows, reached, number-of}
-use Rattle.stage5_image.specs.NumberingLaws.{Reached}
 use Rattle.stage5_image.specs.Simulation.{fused-row-of}
 use Rattle.stage5_image_numbering.specs.Below.{concat-below}
 use Rattle.stage5_image_numbering.specs.Grammar.{GrammarOf, Numbers, members-of}
@@ -167,8 +166,14 @@ module _ (g : Grammar) (rules : List Rule) (e : Expression) (h : GrammarOf g rul
         record {
           met = meet-all (w .met) members;
           numbers = joins (w .met) (w .numbers)
-              (omega (arith, ap length (sym step ∙ m .1), length-append (meet-all (w .met) members) (m .0), reached-here g rules e h .few, rows-size g rules e h,
-              h .columns .nodes-most));
+              (omega (
+                arith,
+                ap length (sym step ∙ m .1),
+                length-append (meet-all (w .met) members) (m .0),
+                reached-here g rules e h .few,
+                rows-size g rules e h,
+                h .columns .nodes-most,
+              ));
           rest = step;
         }
 

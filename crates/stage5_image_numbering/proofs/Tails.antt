@@ -1,11 +1,10 @@
 -- A rule's tail: what the code finds is what the rule has in the node's row, and its members are nodes.
-use mathlib.Core.Path.{_≡_, refl, sym, ap, subst, _∙_}
-use mathlib.Core.Bool.{false}
-use mathlib.Core.List.{List, [], _∷_, map, List·Memᴰ}
+use mathlib.Core.Path.{_≡_, refl, sym, ap, _∙_}
+use mathlib.Core.List.{List, map}
 use mathlib.Core.Option.{Option, none, some}
-use Prim.Native.Nat.{ℕ, zero, suc, _+_, _-_, _≤_, _<_}
+use Prim.Native.Nat.{ℕ, zero, suc, _-_, _<_}
 use native.Mathlib.Omega.{arith}
-use lib.ListN.{getD, length, take}
+use lib.ListN.{getD, length}
 use lib.Seq.{getD-take}
 use Rattle.stage0_laws.specs.Lists.{All}
 use Rattle.stage1_sheet.specs.Expression.{Expression, size}
@@ -14,7 +13,7 @@ use Rattle.stage3_normal_form.specs.Productions.{Production, row-of}
 use Rattle.stage3_normal_form.specs.NormalForm.{normal-form}
 use Rattle.stage3_normal_form.specs.ProductionWalk.{with-head}
 use Rattle.stage3_normal_form.specs.Tails.{normal-form-in-range}
-use Rattle.stage3_normal_form_walk.specs.Columns.{ColumnsOf, tail-held, production-held}
+use Rattle.stage3_normal_form_walk.specs.Columns.{tail-held, production-held}
 use Rattle.stage3_normal_form_walk.specs.declared.Tail.{Tail}
 use Rattle.stage5_image.specs.Fusion.{production-of}
 use Rattle.stage5_image.specs.FusionLaws.{Found, production-found}

@@ -2,7 +2,7 @@
 -- That the code's results are so is proved elsewhere.
 use mathlib.Core.Path.{_≡_}
 use mathlib.Core.Bool.{cond}
-use mathlib.Core.List.{List, [], _∷_, map}
+use mathlib.Core.List.{List, [], map}
 use mathlib.Core.Option.{Option, none, some}
 use Prim.Native.Nat.{ℕ, _≤_, _<_}
 use lib.ListN.{getD, length, take}
@@ -11,8 +11,7 @@ use Rattle.stage1_sheet.specs.Expression.{Expression, size}
 use Rattle.stage1_sheet.specs.Limits.{most-rules}
 use Rattle.stage1_sheet.specs.Sheet.{Rule}
 use Rattle.stage2_types.specs.LeastTypes.{type-of, least-types}
-use Rattle.stage3_normal_form_walk.specs.Columns.{ColumnsOf, tail-held}
-use Rattle.stage3_normal_form_walk.specs.declared.Tail.{Tail}
+use Rattle.stage3_normal_form_walk.specs.Columns.{ColumnsOf}
 use Rattle.stage5_image.specs.Numbering.{is-met, number-of}
 use Rattle.stage5_image_numbering.specs.declared.Grammar.{Grammar}
 use Rattle.stage5_image_numbering.specs.declared.Numbering.{Numbering}

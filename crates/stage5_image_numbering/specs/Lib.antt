@@ -3,3 +3,4 @@ pub mod Below
 pub mod RuleTails
 pub mod Grammar
 pub mod ReachedNodes
+pub mod GrammarLaws

@@ -1,5 +1,8 @@
 // The numbering of nonterminals: the nodes reached from the start over the fused productions, in the order in which they are met.
 // A rule's production is found by a walk and kept in no table. How an image is written is not said here.
+use stage1_sheet_columns::RuleColumns;
+use stage2_types_columns::NodeLinks;
+use stage2_types_columns::TypeColumns;
 use stage3_normal_form_walk::Tail;
 ghost use mathlib.Core.Path.{_≡_};
 ghost use mathlib.Core.List.{List, [], _∷_};
@@ -14,6 +17,7 @@ ghost use Rattle.stage3_normal_form_walk.specs.Columns.{tail-held};
 ghost use Rattle.stage5_image.specs.Fusion.{fused, fused-from};
 ghost use Rattle.stage5_image.specs.Numbering.{meet, meet-all, tail-members, reached};
 ghost use Rattle.stage5_image_numbering.specs.Grammar.{GrammarOf, Numbers, members-of};
+ghost use Rattle.stage5_image_numbering.specs.GrammarLaws.{grammar-from};
 ghost use Rattle.stage5_image_numbering.specs.RuleTails.{rule-tail};
 
 // The rules' actions; the expression's tags, links and FIRST sets by node; the nullable nodes, and those that derive a token
@@ -33,6 +37,30 @@ pub struct Numbering {
     pub count: usize,
     pub met: [u8; 64],
     pub number: [u8; 64],
+}
+
+// The columns of a grammar, out of those of the earlier stages.
+pub fn grammar_from(
+    rules: RuleColumns,
+    links: NodeLinks,
+    types: TypeColumns,
+    productive: u64,
+) -> Grammar
+    ensures { λ r. ⌜ r ≡ grammar-from rules links types productive ⌝ }
+{
+    let action = rules.action;
+    let tag = links.tag;
+    let link = links.link;
+    let first = types.first;
+    Grammar {
+        rules: rules.count,
+        action,
+        tag,
+        link,
+        first,
+        null: types.null,
+        productive,
+    }
 }
 
 // The tail that a rule's production has in a node's row. A rule that skips has none.

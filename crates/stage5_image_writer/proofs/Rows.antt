@@ -1,9 +1,9 @@
 -- A node's row: how many productions it has, its productions rule by rule, and its numbers.
-use mathlib.Core.Path.{_≡_, refl, sym, ap, subst, _∙_}
+use mathlib.Core.Path.{_≡_, refl, sym, ap, _∙_}
 use mathlib.Core.Bool.{Bool, true, false, cond}
 use mathlib.Core.List.{List, [], _∷_, _++_, map}
 use mathlib.Core.Option.{Option, none, some}
-use Prim.Native.Nat.{ℕ, zero, suc, _+_, _≤_, _<_}
+use Prim.Native.Nat.{ℕ, suc, _+_, _≤_, _<_}
 use native.Mathlib.Numerals.{add-one}
 use native.Mathlib.Omega.{arith}
 use lib.ListN.{getD, length, take, length-append, length-map}
@@ -21,7 +21,7 @@ use Rattle.stage3_normal_form_walk.specs.Columns.{tail-held}
 use Rattle.stage3_normal_form_walk.specs.declared.Tail.{Tail}
 use Rattle.stage5_image.specs.Fusion.{fused-from, fused-row}
 use Rattle.stage5_image.specs.Image.{flag, production-numbers}
-use Rattle.stage5_image.specs.ImageNumbers.{all-numbers, one-production-numbers, one-row-numbers, productions-are}
+use Rattle.stage5_image.specs.ImageNumbers.{all-numbers, one-production-numbers, productions-are}
 use Rattle.stage5_image_numbering.specs.Below.{concat-below}
 use Rattle.stage5_image_numbering.specs.Grammar.{GrammarOf}
 use Rattle.stage5_image_numbering.specs.RuleTails.{rule-tail, rule-part, fused-parts}

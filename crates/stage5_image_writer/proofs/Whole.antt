@@ -1,12 +1,12 @@
 -- The image from its parts: the parts that the columns of a sheet give are the numbers of the sheet's image.
-use mathlib.Core.Path.{_≡_, refl, sym, ap, ap₂, subst, _∙_}
-use mathlib.Core.Bool.{Bool, true, false, cond}
+use mathlib.Core.Path.{_≡_, refl, sym, ap, ap₂, _∙_}
+use mathlib.Core.Bool.{Bool, false, cond}
 use mathlib.Core.List.{List, [], _∷_, _++_, map, append-assoc, List·Memᴰ, List·Memᴰ·head, List·Memᴰ·tail}
 use Prim.Native.Nat.{ℕ, zero, suc, _+_, _≤_, _<_}
 use native.Mathlib.Omega.{arith}
 use native.Mathlib.Nat.{zero-add}
 use lib.Dec.{eqb}
-use lib.ListN.{getD, length, take, drop, length-map}
+use lib.ListN.{getD, length, drop, length-map}
 use lib.Seq.{getD-take}
 use Rattle.stage0_laws.specs.Truth.{holds-true}
 use Rattle.stage1_sheet.specs.Expression.{Expression, size}
@@ -16,15 +16,15 @@ use Rattle.stage1_sheet.specs.Spelling.{spell}
 use Rattle.stage3_normal_form.specs.Productions.{Production, Row, no-productions, row-of}
 use Rattle.stage3_normal_form.specs.NormalForm.{normal-form}
 use Rattle.stage3_normal_form.specs.NormalFormLaws.{normal-form-length}
-use Rattle.stage4_lexer.specs.Positions.{Position, positions, first-positions}
+use Rattle.stage4_lexer.specs.Positions.{Position, positions}
 use Rattle.stage4_lexer_columns.specs.Held.{held-position, held-from, held-positions}
 use Rattle.stage4_lexer_columns.specs.declared.PositionColumns.{PositionColumns}
-use Rattle.stage5_image.specs.Fusion.{fused-from, fused-row, fused}
+use Rattle.stage5_image.specs.Fusion.{fused-row, fused}
 use Rattle.stage5_image.specs.Image.{Image, skips-rule, image-of, image-bytes, flag, flag-numbers, position-numbers, row-numbers, image-numbers}
 use Rattle.stage5_image.specs.ImageLaws.{normal-form-inside, normal-form-some}
-use Rattle.stage5_image.specs.ImageNumbers.{all-numbers, flag-number, one-position-numbers, one-row-numbers, flags-are, positions-are, rows-are}
+use Rattle.stage5_image.specs.ImageNumbers.{flag-number, one-position-numbers, one-row-numbers, flags-are, positions-are, rows-are}
 use Rattle.stage5_image.specs.MetNodes.{Met, met-at}
-use Rattle.stage5_image.specs.Numbering.{is-met, tail-members, reached, number-of, renumbered, renumbered-row, numbered}
+use Rattle.stage5_image.specs.Numbering.{is-met, reached, number-of, renumbered, renumbered-row, numbered}
 use Rattle.stage5_image.specs.NumberingLaws.{getD-map-inside, TailsInside, Reached, numbered-count, numbered-row, tail-member}
 use Rattle.stage5_image.specs.Simulation.{fused-row-of, fused-length, fused-inside, reached-fused}
 use Rattle.stage5_image_numbering.specs.Below.{concat-below, concat-below-list}

@@ -1,25 +1,23 @@
 -- What one write leaves, what a loop of writes leaves, and the parts of an image that these make.
 use mathlib.Core.Path.{_≡_, refl, sym, ap, subst, _∙_}
 use mathlib.Core.Bool.{Bool, true, false, not}
-use mathlib.Core.List.{List, [], _∷_, _++_, map, append-nil}
-use mathlib.Core.Option.{Option, none, some}
-use Prim.Native.Nat.{ℕ, zero, suc, _+_, _≤_, _<_}
+use mathlib.Core.List.{List, [], _∷_, map}
+use Prim.Native.Nat.{ℕ, _+_, _≤_, _<_}
 use native.Mathlib.Numerals.{add-one}
 use native.Mathlib.Omega.{arith}
 use lib.Dec.{eqb}
 use lib.ListN.{getD, length, take, length-map}
 use lib.Seq.{length-take-le, getD-take}
 use Rattle.stage0_laws.specs.Bits.{bit}
-use Rattle.stage0_number.specs.Number.{encode, used-at, written-at}
-use Rattle.stage0_number.specs.Laws.{encode-ten}
+use Rattle.stage0_number.specs.Number.{encode, used-at}
 use Rattle.stage0_number.specs.Splice.{used-at-some, used-at-fits}
-use Rattle.stage3_normal_form.specs.Productions.{Production}
+use Rattle.stage3_normal_form_walk.proofs.Walking.{not-true, not-false}
 use Rattle.stage3_normal_form_walk.specs.Columns.{tail-held}
 use Rattle.stage3_normal_form_walk.specs.declared.Tail.{Tail}
 use Rattle.stage4_lexer_columns.specs.Held.{held-position}
 use Rattle.stage4_lexer_columns.specs.declared.PositionColumns.{PositionColumns}
 use Rattle.stage5_image.specs.Image.{flag}
-use Rattle.stage5_image.specs.ImageNumbers.{all-numbers, just, tail-is}
+use Rattle.stage5_image.specs.ImageNumbers.{just, tail-is}
 use Rattle.stage5_image.specs.NumberingLaws.{getD-map-inside}
 use Rattle.stage5_image_numbering.specs.Below.{concat-below, concat-below-list}
 use Rattle.stage5_image_numbering.specs.RuleTails.{rule-part}
@@ -74,14 +72,6 @@ unfolding positions-part
 positions-emitted p x y z = emitted-append x (emitted-append y z)
 
 -- ---- a production
-
-not-true : (b : Bool) → not b ≡ true → b ≡ false
-not-true true e = sym e
-not-true false e = refl
-
-not-false : (b : Bool) → not b ≡ false → b ≡ true
-not-false true e = refl
-not-false false e = sym e
 
 pub no-production : (d : List ℕ) (at r : ℕ) (number : List ℕ) (t : Tail) → not (t .found) ≡ true → Emitted d d at at (production-part number r t)
 unfolding production-part tail-held rule-part

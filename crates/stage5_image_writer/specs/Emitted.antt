@@ -3,11 +3,10 @@
 use mathlib.Core.Path.{_≡_, refl, sym, ap, subst, _∙_}
 use mathlib.Core.List.{List, [], _∷_, _++_, append-nil}
 use Prim.Native.Nat.{ℕ, _+_, _≤_}
-use native.Mathlib.Nat.{add-assoc}
 use native.Mathlib.Omega.{arith}
 use lib.ListN.{length, drop, length-append}
 use Rattle.stage0_number.specs.Number.{encode, splice, written-at}
-use Rattle.stage0_number.specs.Splice.{splice-nothing, splice-splice, length-splice, written-at-fits, length-written-at}
+use Rattle.stage0_number.specs.Splice.{splice-nothing, splice-splice, written-at-fits, length-written-at}
 use Rattle.stage1_sheet.specs.Spelling.{spell}
 use Rattle.stage1_sheet.specs.FieldLaws.{spell-append}
 

@@ -2,7 +2,8 @@
 // measures an image and writes it. Whether there is room (question 11) is the caller's to ask, before the first byte is written.
 use stage3_normal_form_walk::Tail;
 use stage4_lexer_columns::PositionColumns;
-use stage5_image_numbering::{Grammar, Numbering};
+use stage5_image_numbering::Grammar;
+use stage5_image_numbering::Numbering;
 ghost use mathlib.Core.Path.{_≡_};
 ghost use mathlib.Core.Bool.{cond};
 ghost use mathlib.Core.List.{List, [], _∷_, _++_};
@@ -20,6 +21,7 @@ ghost use Rattle.stage5_image_writer.specs.Emitted.{Emitted};
 ghost use Rattle.stage5_image_writer.specs.Parts.{rules-part, positions-part, production-part, productions-part, row-part, rows-part, PartsOf};
 
 // Writes a number into what remains of a buffer from a cursor on, if it fits, and answers where the next number starts.
+// The bounds on cursors, here and below, leave room for all numbers of an image, of ten bytes at most each.
 fn emit(image: &mut [u8], at: usize, n: u64) -> usize
     requires { ⌜ at ≤ 9000000 ⌝ }
     ensures { λ r. ⌜ (r ≤ at + 10) × Emitted (now (image .entry)) (now (image .exit)) at r (n ∷ []) ⌝ }

@@ -1,3 +1,4 @@
+-- `stage5_image_numbering::meet_row` meets its contract. The loop's invariant: the tail members of the rules before `rule` have joined.
 use Prim.Native.Nat.{_≤_, _<_, _-_}
 use native.Mathlib.Omega.{arith}
 use borrow.Author.Needs.{needs}
@@ -10,10 +11,6 @@ use Rattle.stage5_image_numbering.proofs.Meeting.{RowMet, row-start}
 use Rattle.stage5_image_numbering.proofs.Reaching.{row-members, row-turn, row-end}
 use Rattle.stage5_image_numbering.proofs.meet_row.Statement.{statement}
 use Rattle.stage5_image_numbering.proofs.meet_row.Tie as tie
-use Rattle.stage5_image_numbering.proofs.meet_row.Reads as reads
-use Rattle.stage5_image_numbering.proofs.meet_row.Lts as lts
-use Rattle.stage5_image_numbering.proofs.meet_tail.Reads as meet-tail-reads
-use Rattle.stage5_image_numbering.proofs.rule_tail.Reads as rule-tail-reads
 
 abbrev Inv-loop : tie.InvT-loop
 Inv-loop grammar node rules next₀ rule₀ next rule =
@@ -23,27 +20,21 @@ Inv-loop grammar node rules next₀ rule₀ next rule =
 abbrev μ-loop : tie.MeasureT-loop
 μ-loop grammar node rules next₀ rule₀ next rule = rules - rule
 
--- src/lib.rt:119:5
 loop-holds : tie.Need-loop-holds Inv-loop μ-loop
 loop-holds c = (search needs, search needs, λ rs e h inside. row-start _ _ _)
 
--- src/lib.rt:120:13
 rule-tail-requires : tie.Need-rule-tail-requires Inv-loop μ-loop
 rule-tail-requires c κs = search needs
 
--- src/lib.rt:121:9
 meet-tail-requires : tie.Need-meet-tail-requires Inv-loop μ-loop
 meet-tail-requires c κs = (search needs, c .rule-tail .ensures .0)
 
--- src/lib.rt:122:9
 add-rule : tie.Need-add-rule Inv-loop μ-loop
 add-rule c = search needs
 
--- src/lib.rt:119:5
 loop-less : tie.Need-loop-less Inv-loop μ-loop
 loop-less c = search needs
 
--- src/lib.rt:119:5
 loop-again : tie.Need-loop-again Inv-loop μ-loop
 loop-again c = let l = c .before .before .before in (
   search needs,
@@ -53,7 +44,6 @@ loop-again c = let l = c .before .before .before in (
       (l .loop .inv .2 rs e h inside) (c .meet-tail .ensures .1),
 )
 
--- src/lib.rt:108:1
 returns : tie.Need-returns Inv-loop μ-loop
 returns c = let l = c .before .loop in (l .inv .1, λ rs e h inside. row-end _ rs e h _ _ _ (l .rule) (l .inv .0) (c .loop-test .left) (l .inv .2 rs e h inside))
 

@@ -2,15 +2,11 @@
 use Prim.Native.Nat.{_≤_, _-_}
 use native.Mathlib.Omega.{arith}
 use borrow.Author.Needs.{needs}
-use mathlib.Core.Path.{_≡_, sym, subst}
-use mathlib.Core.Bool.{true}
+use mathlib.Core.Path.{_≡_}
 use lib.ListN.{length, take}
 use Rattle.stage5_image_numbering.proofs.Meeting.{TailMet, tail-start, tail-next, tail-none, tail-all}
 use Rattle.stage5_image_numbering.proofs.meet_tail.Statement.{statement}
 use Rattle.stage5_image_numbering.proofs.meet_tail.Tie as tie
-use Rattle.stage5_image_numbering.proofs.meet_tail.Reads as reads
-use Rattle.stage5_image_numbering.proofs.meet_tail.Lts as lts
-use Rattle.stage5_image_numbering.proofs.meet.Reads as meet-reads
 
 abbrev Inv-loop : tie.InvT-loop
 Inv-loop tail next₀ count i₀ next i =
@@ -46,10 +42,10 @@ loop-again c =
     let t = l .before .before .args .t2 in
     let size : length (t .members) ≡ 32 = search needs in
     let room : t .count ≤ length (t .members) = omega (arith, l .before .before .pre .1) in (
-  search needs,
-  c .meet .ensures .0,
-  tail-next _ _ _ (t .members) (t .count) (l .loop .i) (search needs) room (l .loop .inv .2) (c .meet .ensures .1),
-)
+      search needs,
+      c .meet .ensures .0,
+      tail-next _ _ _ (t .members) (t .count) (l .loop .i) (search needs) room (l .loop .inv .2) (c .meet .ensures .1),
+    )
 
 returns-2 : tie.Need-returns-2 Inv-loop μ-loop
 returns-2 c = let l = c .before .loop in (l .inv .1, tail-all _ _ _ _ (c .before .before .if1 .left) (l .inv .0) (c .loop-test .left) (l .inv .2))

@@ -1,6 +1,6 @@
 -- `stage5_image_numbering::number_nodes` meets its contract. The loop's invariant: the rows of the first i nodes met are done, and the
 -- rows that are left lead to all nodes reached.
-use Prim.Native.Nat.{_≤_, _<_, _-_}
+use Prim.Native.Nat.{_≤_, _-_}
 use native.Mathlib.Omega.{arith}
 use borrow.Author.Needs.{needs}
 use mathlib.Core.List.{List}
@@ -10,11 +10,6 @@ use Rattle.stage5_image_numbering.specs.Grammar.{GrammarOf}
 use Rattle.stage5_image_numbering.proofs.Reaching.{Walked, walked-start, next-node, walked-next, walked-end}
 use Rattle.stage5_image_numbering.proofs.number_nodes.Statement.{statement}
 use Rattle.stage5_image_numbering.proofs.number_nodes.Tie as tie
-use Rattle.stage5_image_numbering.proofs.number_nodes.Reads as reads
-use Rattle.stage5_image_numbering.proofs.number_nodes.Lts as lts
-use Rattle.stage5_image_numbering.proofs.meet_row.Reads as meet-row-reads
-use Rattle.stage5_image_numbering.proofs.node_at.Reads as node-at-reads
-use Rattle.stage5_image_numbering.proofs.start.Reads as start-reads
 
 abbrev Inv-loop : tie.InvT-loop
 Inv-loop grammar next₀ i₀ next i =
@@ -23,31 +18,24 @@ Inv-loop grammar next₀ i₀ next i =
 abbrev μ-loop : tie.MeasureT-loop
 μ-loop grammar next₀ i₀ next i = 64 - i
 
--- src/lib.rt:154:9
 start-requires : tie.Need-start-requires Inv-loop μ-loop
 start-requires c κs = search needs
 
--- src/lib.rt:156:5
 loop-holds : tie.Need-loop-holds Inv-loop μ-loop
 loop-holds c = (search needs, omega (arith, c .start .ensures .0), λ rules e h. walked-start _ rules e h _ (c .start .ensures .1))
 
--- src/lib.rt:157:13
 node-at-requires : tie.Need-node-at-requires Inv-loop μ-loop
 node-at-requires c κs = search needs
 
--- src/lib.rt:158:9
 meet-row-requires : tie.Need-meet-row-requires Inv-loop μ-loop
 meet-row-requires c κs = search needs
 
--- src/lib.rt:159:9
 add-i : tie.Need-add-i Inv-loop μ-loop
 add-i c = search needs
 
--- src/lib.rt:156:5
 loop-less : tie.Need-loop-less Inv-loop μ-loop
 loop-less c = search needs
 
--- src/lib.rt:156:5
 loop-again : tie.Need-loop-again Inv-loop μ-loop
 loop-again c =
     let l = c .before .before .before .before .loop in
@@ -59,7 +47,6 @@ loop-again c =
           walked-next _ rules e h _ _ w _ _ is b (c .meet-row .ensures .1 rules e h (next-node _ rules e h _ _ w _ is b)),
     )
 
--- src/lib.rt:149:1
 returns : tie.Need-returns Inv-loop μ-loop
 returns c = let l = c .before .before .loop in (l .inv .1, λ rules e h. walked-end _ rules e h _ _ (l .inv .2 rules e h) (c .if1 .left))
 

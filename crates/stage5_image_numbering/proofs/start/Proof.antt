@@ -1,16 +1,13 @@
+-- `stage5_image_numbering::start` meets its contract.
 use mathlib.Core.Path.{refl}
 use borrow.Author.Needs.{needs}
 use Rattle.stage5_image_numbering.proofs.Reaching.{start-numbers}
 use Rattle.stage5_image_numbering.proofs.start.Statement.{statement}
 use Rattle.stage5_image_numbering.proofs.start.Tie as tie
-use Rattle.stage5_image_numbering.proofs.start.Reads as reads
-use Rattle.stage5_image_numbering.proofs.start.Lts as lts
 
--- src/lib.rt:132:5
 array-write-number : tie.Need-array-write-number
 array-write-number c = search needs
 
--- src/lib.rt:128:1
 returns : tie.Need-returns
 returns c = (refl, record { count = refl; nodes = refl; numbers = start-numbers })
 

@@ -1,10 +1,10 @@
 -- `stage5_image_writer::count_productions` meets its contract. The loop's invariant: the rules before `rule` are counted.
-use mathlib.Core.Path.{_≡_, refl, sym, ap, _∙_}
-use Prim.Native.Nat.{ℕ, _+_, _*_, _-_, _≤_, _<_}
+use mathlib.Core.Path.{_≡_, _∙_}
+use Prim.Native.Nat.{ℕ, _+_, _-_, _≤_, _<_}
 use native.Mathlib.Omega.{arith}
 use borrow.Author.Needs.{needs}
 use mathlib.Core.List.{List}
-use lib.ListN.{getD, length}
+use lib.ListN.{length}
 use Rattle.stage1_sheet.specs.Expression.{Expression, size}
 use Rattle.stage1_sheet.specs.Sheet.{Rule}
 use Rattle.stage5_image_numbering.specs.Below.{concat-below}
@@ -13,10 +13,6 @@ use Rattle.stage5_image_writer.proofs.Rows.{entries, counted-none, coun
 use mathlib.Core.Bool.{Bool, true, false, cond}
 use Rattle.stage5_image_writer.proofs.count_productions.Statement.{statement}
 use Rattle.stage5_image_writer.proofs.count_productions.Tie as tie
-use Rattle.stage5_image_writer.proofs.count_productions.Reads as reads
-use Rattle.stage5_image_writer.proofs.count_productions.Lts as lts
-use Rattle.stage5_image_numbering.proofs.rule_tail.Reads as rule-tail-reads
-use Rattle.stage5_image_writer.proofs.counted.Reads as counted-reads
 
 abbrev Inv-loop : tie.InvT-loop
 Inv-loop grammar node rules count₀ rule₀ count rule =

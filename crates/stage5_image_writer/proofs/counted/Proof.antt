@@ -1,12 +1,7 @@
 -- `stage5_image_writer::counted` meets its contract.
-use mathlib.Core.Path.{_≡_, refl, sym, ap, _∙_}
-use Prim.Native.Nat.{ℕ, _+_, _*_, _-_, _≤_, _<_}
-use native.Mathlib.Omega.{arith}
 use borrow.Author.Needs.{needs}
 use Rattle.stage5_image_writer.proofs.counted.Statement.{statement}
 use Rattle.stage5_image_writer.proofs.counted.Tie as tie
-use Rattle.stage5_image_writer.proofs.counted.Reads as reads
-use Rattle.stage5_image_writer.proofs.counted.Lts as lts
 
 add-result : tie.Need-add-result
 add-result c = search needs

@@ -1,17 +1,13 @@
 -- `stage5_image_writer::emit` meets its contract: a number that was written tells its width, and any other is measured.
-use mathlib.Core.Path.{_≡_, refl, sym, ap, _∙_}
-use Prim.Native.Nat.{ℕ, _+_, _*_, _-_, _≤_, _<_}
+use mathlib.Core.Path.{ap}
+use Prim.Native.Nat.{ℕ, _+_}
 use native.Mathlib.Omega.{arith}
 use borrow.Author.Needs.{needs}
 use Rattle.stage5_image_writer.proofs.Writing.{used-width}
-use Rattle.stage5_image_writer.specs.Emitted.{Emitted, emitted-one}
+use Rattle.stage5_image_writer.specs.Emitted.{emitted-one}
 use Rattle.stage0_number.specs.Laws.{encode-ten}
 use Rattle.stage5_image_writer.proofs.emit.Statement.{statement}
 use Rattle.stage5_image_writer.proofs.emit.Tie as tie
-use Rattle.stage5_image_writer.proofs.emit.Reads as reads
-use Rattle.stage5_image_writer.proofs.emit.Lts as lts
-use Rattle.stage0_number.proofs.number_width.Reads as number-width-reads
-use Rattle.stage0_number.proofs.write_number_at.Reads as write-number-at-reads
 
 write-number-at-requires : tie.Need-write-number-at-requires
 write-number-at-requires c κs = search needs

@@ -1,17 +1,8 @@
 -- `stage5_image_writer::emit_flag` meets its contract.
-use mathlib.Core.Path.{_≡_, refl, sym, ap, _∙_}
-use Prim.Native.Nat.{ℕ, _+_, _*_, _-_, _≤_, _<_}
-use native.Mathlib.Omega.{arith}
 use borrow.Author.Needs.{needs}
-use Rattle.stage5_image_writer.specs.Emitted.{Emitted, emitted-same}
-use mathlib.Core.List.{List, [], _∷_}
-use mathlib.Core.Bool.{Bool}
 use Rattle.stage5_image.specs.Image.{flag}
 use Rattle.stage5_image_writer.proofs.emit_flag.Statement.{statement}
 use Rattle.stage5_image_writer.proofs.emit_flag.Tie as tie
-use Rattle.stage5_image_writer.proofs.emit_flag.Reads as reads
-use Rattle.stage5_image_writer.proofs.emit_flag.Lts as lts
-use Rattle.stage5_image_writer.proofs.emit.Reads as emit-reads
 
 emit-requires : tie.Need-emit-requires
 emit-requires c κs = search needs

@@ -1,16 +1,8 @@
 -- `stage5_image_writer::emit_image` meets its contract: three parts, one after the other.
-use mathlib.Core.Path.{_≡_, refl, sym, ap, _∙_}
-use Prim.Native.Nat.{ℕ, _+_, _*_, _-_, _≤_, _<_}
-use native.Mathlib.Omega.{arith}
 use borrow.Author.Needs.{needs}
 use Rattle.stage5_image_writer.proofs.Whole.{image-emitted, nodes-inside}
 use Rattle.stage5_image_writer.proofs.emit_image.Statement.{statement}
 use Rattle.stage5_image_writer.proofs.emit_image.Tie as tie
-use Rattle.stage5_image_writer.proofs.emit_image.Reads as reads
-use Rattle.stage5_image_writer.proofs.emit_image.Lts as lts
-use Rattle.stage5_image_writer.proofs.emit_positions.Reads as emit-positions-reads
-use Rattle.stage5_image_writer.proofs.emit_rows.Reads as emit-rows-reads
-use Rattle.stage5_image_writer.proofs.emit_rules.Reads as emit-rules-reads
 
 emit-rules-requires : tie.Need-emit-rules-requires
 emit-rules-requires c κs = search needs

@@ -1,15 +1,9 @@
 -- `stage5_image_writer::emit_position` meets its contract: five numbers, one after the other.
-use mathlib.Core.Path.{_≡_, refl, sym, ap, _∙_}
-use Prim.Native.Nat.{ℕ, _+_, _*_, _-_, _≤_, _<_}
 use native.Mathlib.Omega.{arith}
 use borrow.Author.Needs.{needs}
-use Rattle.stage5_image_writer.specs.Emitted.{Emitted, emitted-append}
+use Rattle.stage5_image_writer.specs.Emitted.{emitted-append}
 use Rattle.stage5_image_writer.proofs.emit_position.Statement.{statement}
 use Rattle.stage5_image_writer.proofs.emit_position.Tie as tie
-use Rattle.stage5_image_writer.proofs.emit_position.Reads as reads
-use Rattle.stage5_image_writer.proofs.emit_position.Lts as lts
-use Rattle.stage5_image_writer.proofs.emit.Reads as emit-reads
-use Rattle.stage5_image_writer.proofs.emit_flag.Reads as emit-flag-reads
 
 emit-requires : tie.Need-emit-requires
 emit-requires c κs = search needs

@@ -1,19 +1,14 @@
 -- `stage5_image_writer::emit_positions` meets its contract. The loop's invariant: the positions before i are written.
-use mathlib.Core.Path.{_≡_, refl, sym, ap, _∙_}
-use Prim.Native.Nat.{ℕ, _+_, _*_, _-_, _≤_, _<_}
+use mathlib.Core.Path.{_∙_}
+use Prim.Native.Nat.{_+_, _*_, _-_, _≤_}
 use native.Mathlib.Omega.{arith}
 use borrow.Author.Needs.{needs}
 use Rattle.stage5_image_writer.proofs.Writing.{nothing-yet, one-more, all-done, position-emitted, positions-emitted}
-use Rattle.stage5_image_writer.specs.Emitted.{Emitted, emitted-append}
+use Rattle.stage5_image_writer.specs.Emitted.{Emitted}
 use Rattle.stage5_image_numbering.specs.Below.{concat-below}
 use Rattle.stage5_image_writer.specs.Parts.{position-part}
 use Rattle.stage5_image_writer.proofs.emit_positions.Statement.{statement}
 use Rattle.stage5_image_writer.proofs.emit_positions.Tie as tie
-use Rattle.stage5_image_writer.proofs.emit_positions.Reads as reads
-use Rattle.stage5_image_writer.proofs.emit_positions.Lts as lts
-use Rattle.stage5_image_writer.proofs.emit.Reads as emit-reads
-use Rattle.stage5_image_writer.proofs.emit_position.Reads as emit-position-reads
-use Rattle.stage5_image_writer.proofs.has.Reads as has-reads
 
 abbrev Inv-loop : tie.InvT-loop
 Inv-loop image₀ at positions count next₀ i₀ image next i =

@@ -1,19 +1,14 @@
 -- `stage5_image_writer::emit_production` meets its contract. The loop's invariant: the numbers of the members before i are written.
-use mathlib.Core.Path.{_≡_, refl, sym, ap, _∙_}
-use Prim.Native.Nat.{ℕ, _+_, _*_, _-_, _≤_, _<_}
+use mathlib.Core.Path.{_≡_, sym, _∙_}
+use Prim.Native.Nat.{_+_, _*_, _-_, _≤_}
 use native.Mathlib.Omega.{arith}
 use borrow.Author.Needs.{needs}
 use Rattle.stage5_image_writer.proofs.Writing.{nothing-yet, one-more, all-done, no-production, member-number, production-emitted}
-use Rattle.stage5_image_writer.specs.Emitted.{Emitted, emitted-append}
+use Rattle.stage5_image_writer.specs.Emitted.{Emitted}
 use Rattle.stage5_image_numbering.specs.Below.{concat-below}
-use mathlib.Core.List.{List, [], _∷_}
 use lib.ListN.{length}
 use Rattle.stage5_image_writer.proofs.emit_production.Statement.{statement}
 use Rattle.stage5_image_writer.proofs.emit_production.Tie as tie
-use Rattle.stage5_image_writer.proofs.emit_production.Reads as reads
-use Rattle.stage5_image_writer.proofs.emit_production.Lts as lts
-use Rattle.stage5_image_numbering.proofs.number_of.Reads as number-of-reads
-use Rattle.stage5_image_writer.proofs.emit.Reads as emit-reads
 
 abbrev Inv-loop : tie.InvT-loop
 Inv-loop image₀ at rule numbering tail count after-rule next₀ i₀ image next i =

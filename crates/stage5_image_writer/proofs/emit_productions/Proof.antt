@@ -1,11 +1,11 @@
 -- `stage5_image_writer::emit_productions` meets its contract. The loop's invariant: the productions of the rules before `rule` are
 -- written.
-use mathlib.Core.Path.{_≡_, refl, sym, ap, _∙_}
-use Prim.Native.Nat.{ℕ, _+_, _*_, _-_, _≤_, _<_}
+use mathlib.Core.Path.{_≡_, refl, _∙_}
+use Prim.Native.Nat.{_+_, _*_, _-_, _≤_, _<_}
 use native.Mathlib.Omega.{arith}
 use borrow.Author.Needs.{needs}
 use mathlib.Core.List.{List}
-use lib.ListN.{getD, length}
+use lib.ListN.{length}
 use Rattle.stage1_sheet.specs.Expression.{Expression, size}
 use Rattle.stage1_sheet.specs.Sheet.{Rule}
 use Rattle.stage5_image_numbering.specs.Below.{concat-below}
@@ -15,10 +15,6 @@ use Rattle.stage5_image_writer.proofs.Rows.{rule-numbers, production-mo
 use Rattle.stage5_image_writer.specs.Emitted.{Emitted}
 use Rattle.stage5_image_writer.proofs.emit_productions.Statement.{statement}
 use Rattle.stage5_image_writer.proofs.emit_productions.Tie as tie
-use Rattle.stage5_image_writer.proofs.emit_productions.Reads as reads
-use Rattle.stage5_image_writer.proofs.emit_productions.Lts as lts
-use Rattle.stage5_image_numbering.proofs.rule_tail.Reads as rule-tail-reads
-use Rattle.stage5_image_writer.proofs.emit_production.Reads as emit-production-reads
 
 abbrev Inv-loop : tie.InvT-loop
 Inv-loop image₀ at grammar numbering node rules next₀ rule₀ image next rule =
@@ -60,9 +56,9 @@ same-length c = c .before .loop .inv .2
 
 returns : tie.Need-returns Inv-loop μ-loop
 returns c = let l = c .before .loop in (
-      omega (arith, l .inv .0, l .inv .1, c .before .before .before .pre .1),
-      λ rs e h inside. productions-emitted _ _ rs e h _ (l .rule) (l .inv .0) (c .loop-test .left) (l .inv .3 rs e h inside),
-    )
+  omega (arith, l .inv .0, l .inv .1, c .before .before .before .pre .1),
+  λ rs e h inside. productions-emitted _ _ rs e h _ (l .rule) (l .inv .0) (c .loop-test .left) (l .inv .3 rs e h inside),
+)
 
 pub emit-productions-spec : {M : Type 1} → statement M
 emit-productions-spec =

@@ -1,18 +1,9 @@
 -- `stage5_image_writer::emit_row` meets its contract: the flag, the count and the productions, one after the other.
-use mathlib.Core.Path.{_≡_, refl, sym, ap, _∙_}
-use Prim.Native.Nat.{ℕ, _+_, _*_, _-_, _≤_, _<_}
 use native.Mathlib.Omega.{arith}
 use borrow.Author.Needs.{needs}
 use Rattle.stage5_image_writer.proofs.Rows.{row-emitted}
 use Rattle.stage5_image_writer.proofs.emit_row.Statement.{statement}
 use Rattle.stage5_image_writer.proofs.emit_row.Tie as tie
-use Rattle.stage5_image_writer.proofs.emit_row.Reads as reads
-use Rattle.stage5_image_writer.proofs.emit_row.Lts as lts
-use Rattle.stage5_image_writer.proofs.count_productions.Reads as count-productions-reads
-use Rattle.stage5_image_writer.proofs.emit.Reads as emit-reads
-use Rattle.stage5_image_writer.proofs.emit_flag.Reads as emit-flag-reads
-use Rattle.stage5_image_writer.proofs.emit_productions.Reads as emit-productions-reads
-use Rattle.stage5_image_writer.proofs.has.Reads as has-reads
 
 has-requires : tie.Need-has-requires
 has-requires c κs = search needs

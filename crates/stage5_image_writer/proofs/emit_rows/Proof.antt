@@ -1,5 +1,5 @@
 -- `stage5_image_writer::emit_rows` meets its contract. The loop's invariant: the rows before i are written.
-use mathlib.Core.Path.{_≡_, refl, sym, ap, subst, _∙_}
+use mathlib.Core.Path.{_≡_, refl, sym, subst, _∙_}
 use Prim.Native.Nat.{ℕ, _+_, _*_, _-_, _≤_, _<_}
 use native.Mathlib.Omega.{arith}
 use borrow.Author.Needs.{needs}
@@ -14,11 +14,6 @@ use Rattle.stage5_image_writer.proofs.Rows.{numbered-row-part, row-more
 use Rattle.stage5_image_writer.specs.Emitted.{Emitted}
 use Rattle.stage5_image_writer.proofs.emit_rows.Statement.{statement}
 use Rattle.stage5_image_writer.proofs.emit_rows.Tie as tie
-use Rattle.stage5_image_writer.proofs.emit_rows.Reads as reads
-use Rattle.stage5_image_writer.proofs.emit_rows.Lts as lts
-use Rattle.stage5_image_numbering.proofs.node_at.Reads as node-at-reads
-use Rattle.stage5_image_writer.proofs.emit.Reads as emit-reads
-use Rattle.stage5_image_writer.proofs.emit_row.Reads as emit-row-reads
 
 abbrev Inv-loop : tie.InvT-loop
 Inv-loop image₀ at grammar numbering count next₀ i₀ image next i =

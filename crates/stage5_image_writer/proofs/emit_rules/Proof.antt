@@ -1,18 +1,14 @@
 -- `stage5_image_writer::emit_rules` meets its contract. The loop's invariant: the flags of the rules before i are written.
-use mathlib.Core.Path.{_≡_, refl, sym, ap, _∙_}
-use Prim.Native.Nat.{ℕ, _+_, _*_, _-_, _≤_, _<_}
+use mathlib.Core.Path.{_∙_}
+use Prim.Native.Nat.{_+_, _*_, _-_, _≤_}
 use native.Mathlib.Omega.{arith}
 use borrow.Author.Needs.{needs}
 use Rattle.stage5_image_writer.proofs.Writing.{nothing-yet, one-more, all-done, skip-emitted, rules-emitted}
-use Rattle.stage5_image_writer.specs.Emitted.{Emitted, emitted-append}
+use Rattle.stage5_image_writer.specs.Emitted.{Emitted}
 use Rattle.stage5_image_numbering.specs.Below.{concat-below}
 use Rattle.stage5_image_writer.specs.Parts.{skip-number}
 use Rattle.stage5_image_writer.proofs.emit_rules.Statement.{statement}
 use Rattle.stage5_image_writer.proofs.emit_rules.Tie as tie
-use Rattle.stage5_image_writer.proofs.emit_rules.Reads as reads
-use Rattle.stage5_image_writer.proofs.emit_rules.Lts as lts
-use Rattle.stage5_image_writer.proofs.emit.Reads as emit-reads
-use Rattle.stage5_image_writer.proofs.emit_flag.Reads as emit-flag-reads
 
 abbrev Inv-loop : tie.InvT-loop
 Inv-loop image₀ at grammar rules version next₀ i₀ image next i =

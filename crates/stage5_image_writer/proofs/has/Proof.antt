@@ -1,13 +1,10 @@
 -- `stage5_image_writer::has` meets its contract.
-use mathlib.Core.Path.{_≡_, refl, sym, ap, _∙_}
-use Prim.Native.Nat.{ℕ, _+_, _*_, _-_, _≤_, _<_}
+use mathlib.Core.Path.{sym}
 use native.Mathlib.Omega.{arith}
 use borrow.Author.Needs.{needs}
 use Rattle.stage0_laws.specs.BitLaws.{bit-high, shl-one, and-test}
 use Rattle.stage5_image_writer.proofs.has.Statement.{statement}
 use Rattle.stage5_image_writer.proofs.has.Tie as tie
-use Rattle.stage5_image_writer.proofs.has.Reads as reads
-use Rattle.stage5_image_writer.proofs.has.Lts as lts
 
 returns : tie.Need-returns
 returns c = let a = c .before .args in sym (bit-high 64 (a .set) (a .n) (omega arith) (c .if1 .taken))

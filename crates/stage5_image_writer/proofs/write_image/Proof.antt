@@ -1,14 +1,8 @@
 -- `stage5_image_writer::write_image` meets its contract.
-use mathlib.Core.Path.{_≡_, refl, sym, ap, _∙_}
-use Prim.Native.Nat.{ℕ, _+_, _*_, _-_, _≤_, _<_}
-use native.Mathlib.Omega.{arith}
 use borrow.Author.Needs.{needs}
 use Rattle.stage5_image_writer.proofs.Whole.{image-measured, image-written}
 use Rattle.stage5_image_writer.proofs.write_image.Statement.{statement}
 use Rattle.stage5_image_writer.proofs.write_image.Tie as tie
-use Rattle.stage5_image_writer.proofs.write_image.Reads as reads
-use Rattle.stage5_image_writer.proofs.write_image.Lts as lts
-use Rattle.stage5_image_writer.proofs.emit_image.Reads as emit-image-reads
 
 emit-image-requires : tie.Need-emit-image-requires
 emit-image-requires c κs = search needs
