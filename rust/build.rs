@@ -22,7 +22,7 @@ fn main() {
     println!("cargo::rerun-if-changed={}", archive.display());
     if archive.is_file() {
         println!("cargo::rustc-cfg=vinzagew_library");
-        println!("cargo::rustc-env=VINZAGEW_ARCHIVE={}", archive.display());
+        println!("cargo::rustc-env=VINZAGEW_LIBRARY={}", folder.display());
         println!("cargo::rustc-link-search=native={}", folder.display());
         println!("cargo::rustc-link-lib=static=vinzagew");
     } else {
