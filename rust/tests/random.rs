@@ -11,6 +11,7 @@ use common::random::{for_case, seed_and_cases, Random};
 use common::{compile_checked, engines, generate, run_checked, Engine, LIBRARY, REFERENCE};
 use std::collections::BTreeMap;
 use std::fmt;
+use vinzagew::builder::{Expression, PartKind};
 use vinzagew_reference::image::Image;
 use vinzagew_reference::sheet::Sheet;
 use vinzagew_reference::{answer, image_of};
@@ -94,7 +95,8 @@ impl fmt::Display for Call {
 
 fn sheet(random: &mut Random) -> Vec<u8> {
     match random.below(24) {
-        0..=8 => generate::accepted_sheet(random).to_bytes(),
+        0..=7 => generate::accepted_sheet(random).to_bytes(),
+        8 => generate::long_tailed_sheet(random).to_bytes(),
         9..=15 => {
             let sheet = generate::accepted_sheet(random).to_bytes();
             generate::damage(random, &sheet)
@@ -181,10 +183,10 @@ fn least_stack(image: &[u8], text: &[u8]) -> usize {
 }
 
 fn run_call(random: &mut Random) -> Call {
-    let image = if random.once_in(3) {
-        generate::readable_image(random)
-    } else {
-        image_of(generate::accepted_sheet(random).as_bytes()).expect("accepted")
+    let image = match random.below(12) {
+        0..=3 => generate::readable_image(random),
+        4 => image_of(generate::long_tailed_sheet(random).as_bytes()).expect("accepted"),
+        _ => image_of(generate::accepted_sheet(random).as_bytes()).expect("accepted"),
     };
     let text = generate::text(random, &image);
     let mut image = image.to_bytes();
@@ -245,20 +247,50 @@ fn every_number_comes_up() {
 #[test]
 fn typed_sheets_are_accepted() {
     let (seed, cases) = seed_and_cases(2_000);
-    let mut nodes = 0;
+    let (mut nodes, mut rows, mut members) = (0, 0, 0);
     for case in 0..cases {
         let sheet = generate::accepted_sheet(&mut for_case(seed, case));
-        let refusal = image_of(sheet.as_bytes()).err();
-        if let Some(refusal) = refusal {
+        let image = image_of(sheet.as_bytes()).unwrap_or_else(|refusal| {
             let part = sheet.locate(refusal.place);
             panic!("seed {seed}, case {case}: {refusal:?}: {part}");
-        }
+        });
         nodes += Sheet::read(sheet.as_bytes()).expect("accepted").nodes.len();
+        rows += image.rows.len();
+        let productions = image.rows.iter().flat_map(|row| &row.productions);
+        members += productions.map(|(_, tail)| tail.len()).sum::<usize>();
     }
-    println!(
-        "seed {seed}, {cases} sheets, {} nodes each",
-        nodes / cases.max(1)
-    );
+    println!("seed {seed}, {cases} sheets: {nodes} nodes, {rows} rows, {members} tail members");
+}
+
+/// The place of a refusal leads back to a part of the kind that the question is about.
+#[test]
+fn refusals_lead_back_to_their_parts() {
+    let (seed, cases) = seed_and_cases(2_000);
+    let mut tally = BTreeMap::new();
+    for case in 0..cases {
+        let sheet = generate::untyped_sheet(&mut for_case(seed, case));
+        let Err(refusal) = image_of(sheet.as_bytes()) else {
+            continue;
+        };
+        let part = sheet.locate(refusal.place);
+        assert_eq!(part.place, refusal.place);
+        let expression = match part.kind {
+            PartKind::Expression { expression, .. } => Some(expression),
+            _ => None,
+        };
+        let right = match refusal.number {
+            4 => matches!(part.kind, PartKind::RuleCount),
+            5 => matches!(part.kind, PartKind::Regex { .. }) || expression.is_some(),
+            7 => matches!(part.kind, PartKind::Action { .. }),
+            8 => matches!(expression, Some(Expression::Variable(_))),
+            9 => matches!(expression, Some(Expression::Sequence(..))),
+            10 => matches!(expression, Some(Expression::Alternative(..))),
+            _ => false,
+        };
+        assert!(right, "seed {seed}, case {case}: {refusal:?}: {part}");
+        *tally.entry(refusal.number).or_insert(0) += 1;
+    }
+    println!("seed {seed}, {cases} cases: {tally:?}");
 }
 
 /// Running the image that compiling made gives the sheet's own answer.

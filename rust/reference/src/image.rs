@@ -124,7 +124,7 @@ impl Image {
 
 /// The next number, if its value is from `low` to `high`; otherwise its place.
 fn number(reader: &mut Reader, low: u64, high: u64) -> Result<u64, usize> {
-    let Field { value, place } = reader.next()?;
+    let Field { value, place } = reader.read()?;
     if (low..=high).contains(&value) {
         Ok(value)
     } else {
@@ -166,7 +166,7 @@ fn read_image(reader: &mut Reader) -> Result<Image, usize> {
         let production_count = number(reader, 0, 32)?;
         let mut productions: Vec<(usize, Vec<usize>)> = Vec::new();
         for _ in 0..production_count {
-            let Field { value, place } = reader.next()?;
+            let Field { value, place } = reader.read()?;
             let rising = productions
                 .last()
                 .is_none_or(|(before, _)| (*before as u64) < value);

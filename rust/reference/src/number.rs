@@ -53,7 +53,7 @@ impl<'a> Reader<'a> {
     /// # Errors
     ///
     /// The place where it should start, if it is missing, not whole, not shortest or not below 2^64.
-    pub fn next(&mut self) -> Result<Field, usize> {
+    pub fn read(&mut self) -> Result<Field, usize> {
         let place = self.place;
         let (value, after) = read(self.bytes, place).ok_or(place)?;
         self.place = after;

@@ -145,7 +145,7 @@ impl Parser<'_> {
     fn number(&mut self, allowed: impl Fn(u64) -> bool) -> Result<Field, Refusal> {
         let field = self
             .numbers
-            .next()
+            .read()
             .map_err(|place| Refusal { number: 3, place })?;
         if !allowed(field.value) {
             return Err(Refusal {

@@ -88,11 +88,9 @@ fn rules(random: &mut Random) -> (SheetBuilder, Vec<Token>) {
         .collect();
     for rule in 0..rule_count {
         let size = regex_size(random, rule_count);
-        let regex = match tokens.get(rule) {
-            // Often a rule of a token has a word that few others have.
-            Some(_) if rule < ALPHABET.len() - 1 && !random.once_in(3) => {
-                Regex::byte(ALPHABET[rule])
-            }
+        // Often a rule of a token has a word that few others have.
+        let regex = match ALPHABET.get(rule) {
+            Some(&byte) if byte != b' ' && !random.once_in(3) => Regex::byte(byte),
             _ => solid_regex(random, size),
         };
         match tokens.get(rule) {
@@ -139,16 +137,20 @@ struct Typed<'a> {
 }
 
 impl Typed<'_> {
+    /// A subset, with at least one member if there is one.
     fn subset(&mut self, set: u32) -> u32 {
-        set & self.random.next() as u32
+        match set & self.random.next() as u32 {
+            0 => set & set.wrapping_neg(),
+            subset => subset,
+        }
     }
 
     fn leaf(&mut self, bounds: Bounds, open: &[Open]) -> Expression {
         let fitting: Vec<&Open> = open.iter().filter(|open| open.fits(bounds)).collect();
-        if !fitting.is_empty() && !self.random.once_in(3) {
+        if !fitting.is_empty() && !self.random.once_in(4) {
             return self.random.pick(&fitting).variable.clone();
         }
-        if bounds.nullable && self.random.once_in(2) {
+        if bounds.nullable && (bounds.first == 0 || self.random.once_in(2)) {
             return Expression::epsilon();
         }
         let tokens: Vec<Token> = self
@@ -165,42 +167,13 @@ impl Typed<'_> {
 
     /// An expression of at most `size` nodes that has a type within the bounds.
     fn expression(&mut self, size: usize, bounds: Bounds, open: &[Open]) -> Expression {
-        if size < 3 || self.random.once_in(10) {
+        if size < 3 || self.random.once_in(16) {
             return self.leaf(bounds, open);
         }
+        let several = bounds.nullable || bounds.first.count_ones() > 1;
         let made = match self.random.below(8) {
-            0..=2 => {
-                let left_size = self.random.range(1, size - 2);
-                let left = Bounds {
-                    first: self.subset(bounds.first),
-                    nullable: bounds.nullable && self.random.once_in(2),
-                    ..bounds
-                };
-                let right = Bounds {
-                    first: bounds.first & !left.first,
-                    nullable: bounds.nullable && !left.nullable,
-                    ..bounds
-                };
-                let left = self.expression(left_size, left, open);
-                left.or(self.expression(size - 1 - left_size, right, open))
-            }
-            3 => {
-                // The closer the bounds, the more places the variable fits.
-                let bounds = Bounds {
-                    first: bounds.first,
-                    nullable: bounds.nullable && !self.random.once_in(3),
-                    avoid: bounds.avoid | self.subset(u32::MAX) & self.subset(u32::MAX),
-                };
-                Expression::fix(|variable| {
-                    let mut inner = open.to_vec();
-                    inner.push(Open {
-                        variable,
-                        bounds,
-                        guarded: false,
-                    });
-                    self.expression(size - 1, bounds, &inner)
-                })
-            }
+            0..=2 if several => self.alternative(size, bounds, open, open),
+            3 => self.fix(size, bounds, open),
             _ => self.sequence(size, bounds, open),
         };
         if self.random.once_in(30) {
@@ -208,6 +181,62 @@ impl Typed<'_> {
         } else {
             made
         }
+    }
+
+    /// An alternative; its parts may have different open fixed points.
+    fn alternative(
+        &mut self,
+        size: usize,
+        bounds: Bounds,
+        open_left: &[Open],
+        open_right: &[Open],
+    ) -> Expression {
+        let left_size = match self.random.below(3) {
+            0 => 1,
+            _ => self.random.range(1, size - 2),
+        };
+        let nullable = bounds.nullable && self.random.once_in(2);
+        let first = match bounds.first.count_ones() {
+            0 | 1 => 0,
+            _ => self.subset(bounds.first),
+        };
+        let left = Bounds {
+            first,
+            nullable: nullable || first == 0,
+            ..bounds
+        };
+        let right = Bounds {
+            first: bounds.first & !left.first,
+            nullable: bounds.nullable && !left.nullable,
+            ..bounds
+        };
+        let left = self.expression(left_size, left, open_left);
+        left.or(self.expression(size - 1 - left_size, right, open_right))
+    }
+
+    fn fix(&mut self, size: usize, bounds: Bounds, open: &[Open]) -> Expression {
+        // The closer the bounds, the more places the variable fits.
+        let more = self.random.next() & self.random.next();
+        let bounds = Bounds {
+            first: bounds.first,
+            nullable: bounds.nullable && !self.random.once_in(3),
+            avoid: bounds.avoid | more as u32,
+        };
+        let several = bounds.nullable || bounds.first.count_ones() > 1;
+        Expression::fix(|variable| {
+            let mut inner = open.to_vec();
+            inner.push(Open {
+                variable,
+                bounds,
+                guarded: false,
+            });
+            // Without a part that does not come back to the variable, nothing is denoted.
+            if several && size > 4 && !self.random.once_in(8) {
+                self.alternative(size - 1, bounds, open, &inner)
+            } else {
+                self.expression(size - 1, bounds, &inner)
+            }
+        })
     }
 
     fn sequence(&mut self, size: usize, bounds: Bounds, open: &[Open]) -> Expression {
@@ -218,17 +247,19 @@ impl Typed<'_> {
                 ..open.clone()
             })
             .collect();
-        let left_size = match self.random.below(3) {
-            0 => self.random.range(1, size - 2),
+        let left_size = match self.random.below(6) {
+            0 | 1 => self.random.range(1, size - 2),
+            2 => size - 2,
             _ => 1,
         };
         let all = self
             .tokens
             .iter()
             .fold(0, |set, token| set | 1 << token.number());
-        let nullable = self.random.once_in(2);
+        let nullable = bounds.nullable && self.random.once_in(2);
+        let nullable = nullable || self.random.once_in(3);
         let mut right = Bounds {
-            first: self.subset(all) & if nullable { !bounds.avoid } else { all },
+            first: self.subset(if nullable { all & !bounds.avoid } else { all }),
             nullable,
             avoid: bounds.avoid,
         };
@@ -262,11 +293,21 @@ pub fn accepted_sheet(random: &mut Random) -> Sheet {
         first: tokens
             .iter()
             .fold(0, |set, token| set | 1 << token.number()),
-        nullable: random.once_in(2),
+        nullable: random.once_in(3),
         avoid: 0,
     };
     let expression = Typed { random, tokens }.expression(size, bounds, &[]);
     builder.finish(expression).expect("every variable is open")
+}
+
+/// A sheet whose productions have long tails: tokens in a row, nested to the left.
+pub fn long_tailed_sheet(random: &mut Random) -> Sheet {
+    let (builder, tokens) = rules(random);
+    let mut chain = Expression::token(*random.pick(&tokens));
+    for _ in 0..random.range(1, 31) {
+        chain = chain.then(*random.pick(&tokens));
+    }
+    builder.finish(chain).expect("there are no variables")
 }
 
 /// An expression of at most `size` nodes with no regard to types.
@@ -338,12 +379,8 @@ pub fn crowded_sheet(random: &mut Random) -> Vec<u8> {
         if index + 1 < classes {
             bytes.push(2);
         }
-        for _ in 0..spare / classes {
-            bytes.push(4);
-        }
-        if index < spare % classes {
-            bytes.push(4);
-        }
+        let stars = spare / classes + usize::from(index < spare % classes);
+        bytes.resize(bytes.len() + stars, 4);
         bytes.extend([1, 97, 97]);
     }
     bytes.extend([2, 0]);

@@ -6,12 +6,18 @@ pub mod generate;
 pub mod json_lines;
 pub mod random;
 
+/// Compiles a sheet: sheet, work area, image buffer, out.
+pub type Compile = fn(&[u8], &mut [u8], &mut [u8], &mut [u64]);
+
+/// Runs an image: image, text, stack, out.
+pub type Run = fn(&[u8], &[u8], &mut [u8], &mut [u64]);
+
 /// The two functions of an implementation, with the results and effects of the C interface.
 #[derive(Clone, Copy)]
 pub struct Engine {
     pub name: &'static str,
-    pub compile: fn(&[u8], &mut [u8], &mut [u8], &mut [u64]),
-    pub run: fn(&[u8], &[u8], &mut [u8], &mut [u64]),
+    pub compile: Compile,
+    pub run: Run,
 }
 
 pub const REFERENCE: Engine = Engine {
