@@ -111,3 +111,17 @@ fn tails_that_lead_nowhere_are_dropped() {
     // N·⊥ ∨ S: N begins no sequence.
     assert_eq!(read(&with_rules(&[4, 3, 2, 0, 1, 2, 1]), b"1/"), (15, 0, 0));
 }
+
+/// A follow-last set that comes from the left part of a sequence with a nullable right part.
+#[test]
+fn follow_last_of_the_left_part_counts() {
+    // Tokens A, B, C; ((A·(ε ∨ B))·(ε ∨ C))·B is not separable, and with A last it is.
+    let rules = [
+        1, 3, 3, 1, 1, 97, 97, 2, 1, 98, 98, 3, 1, 99, 99, 3, 3, 3, 2, 0, 4, 0, 2, 1, 4, 0, 2, 2, 2,
+    ];
+    let sheet = |last| [&rules[..], &[last]].concat();
+    let (result, _) = compiled(&sheet(1));
+    assert_eq!((result.number, result.place), (9, 15));
+    assert_eq!(compiled(&sheet(0)).0.number, 0);
+    assert_eq!(read(&sheet(0), b"abca"), (0, 4, 4));
+}

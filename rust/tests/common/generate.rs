@@ -134,9 +134,15 @@ impl Open {
 struct Typed<'a> {
     random: &'a mut Random,
     tokens: Vec<Token>,
+    /// Whether a bound may be forgotten now and then, so that some node may fail its question.
+    slips: bool,
 }
 
 impl Typed<'_> {
+    fn slip(&mut self) -> bool {
+        self.slips && self.random.once_in(8)
+    }
+
     /// A subset, with at least one member if there is one.
     fn subset(&mut self, set: u32) -> u32 {
         match set & self.random.next() as u32 {
@@ -205,11 +211,17 @@ impl Typed<'_> {
             nullable: nullable || first == 0,
             ..bounds
         };
-        let right = Bounds {
+        let mut right = Bounds {
             first: bounds.first & !left.first,
             nullable: bounds.nullable && !left.nullable,
             ..bounds
         };
+        if self.slip() {
+            right.first = bounds.first;
+        }
+        if self.slip() {
+            right.nullable = true;
+        }
         let left = self.expression(left_size, left, open_left);
         left.or(self.expression(size - 1 - left_size, right, open_right))
     }
@@ -228,7 +240,7 @@ impl Typed<'_> {
             inner.push(Open {
                 variable,
                 bounds,
-                guarded: false,
+                guarded: self.slip(),
             });
             // Without a part that does not come back to the variable, nothing is denoted.
             if several && size > 4 && !self.random.once_in(8) {
@@ -271,11 +283,17 @@ impl Typed<'_> {
                 right.nullable = wanted.nullable;
             }
         }
-        let left = Bounds {
+        let mut left = Bounds {
             first: bounds.first,
-            nullable: false,
-            avoid: right.first | if right.nullable { bounds.avoid } else { 0 },
+            nullable: self.slip(),
+            avoid: right.first,
         };
+        if right.nullable && !self.slip() {
+            left.avoid |= bounds.avoid;
+        }
+        if self.slip() {
+            left.avoid = 0;
+        }
         let left = self.expression(left_size, left, open);
         left.then(self.expression(size - 1 - left_size, right, &inner))
     }
@@ -283,6 +301,15 @@ impl Typed<'_> {
 
 /// A sheet that compiling accepts.
 pub fn accepted_sheet(random: &mut Random) -> Sheet {
+    typed_sheet(random, false)
+}
+
+/// A sheet that compiling would accept but for few nodes, if any.
+pub fn nearly_accepted_sheet(random: &mut Random) -> Sheet {
+    typed_sheet(random, true)
+}
+
+fn typed_sheet(random: &mut Random, slips: bool) -> Sheet {
     let (builder, tokens) = rules(random);
     let size = match random.below(4) {
         0 => random.range(1, 8),
@@ -296,7 +323,12 @@ pub fn accepted_sheet(random: &mut Random) -> Sheet {
         nullable: random.once_in(3),
         avoid: 0,
     };
-    let expression = Typed { random, tokens }.expression(size, bounds, &[]);
+    let mut typed = Typed {
+        random,
+        tokens,
+        slips,
+    };
+    let expression = typed.expression(size, bounds, &[]);
     builder.finish(expression).expect("every variable is open")
 }
 
@@ -369,7 +401,19 @@ pub fn number_soup(random: &mut Random) -> Vec<u8> {
     bytes
 }
 
-/// A sheet with very many regex nodes or classes.
+/// A sheet with about as many expression nodes as are allowed.
+pub fn long_expression_sheet(random: &mut Random) -> Vec<u8> {
+    let mut bytes = vec![1, 1, 1, 1, 1, 97, 97];
+    // Each fixed point in front is one node, each sequence with a token two.
+    let nodes = random.range(62, 67);
+    let pairs = random.range(0, (nodes - 1) / 2);
+    bytes.resize(bytes.len() + nodes - 1 - 2 * pairs, 5);
+    bytes.extend([3, 2, 0].repeat(pairs));
+    bytes.extend([2, 0]);
+    bytes
+}
+
+/// A sheet with about as many regex nodes or classes as are allowed.
 pub fn crowded_sheet(random: &mut Random) -> Vec<u8> {
     let mut bytes = vec![1, 1, 1, 1];
     let classes = random.range(60, 68);
@@ -398,6 +442,71 @@ pub fn damage(random: &mut Random, bytes: &[u8]) -> Vec<u8> {
         };
     }
     damaged
+}
+
+/// The kinds of an image's numbers.
+const KINDS: usize = 16;
+
+/// The kind of each of an image's numbers.
+fn kinds(image: &Image) -> Vec<usize> {
+    let mut kinds = vec![0, 1];
+    kinds.resize(2 + image.skips.len(), 2);
+    kinds.push(3);
+    for _ in &image.positions {
+        kinds.extend([4, 5, 6, 7, 8]);
+    }
+    kinds.extend([9, 10]);
+    for row in &image.rows {
+        kinds.extend([11, 12]);
+        for (_, tail) in &row.productions {
+            kinds.extend([13, 14]);
+            kinds.resize(kinds.len() + tail.len(), 15);
+        }
+    }
+    kinds
+}
+
+/// Changes one number of an image to a value at or near an end of its range; every kind of number is as
+/// likely as any other.
+pub fn damage_field(random: &mut Random, image: &Image) -> Vec<u8> {
+    let mut numbers = image.numbers();
+    let kinds = kinds(image);
+    assert_eq!(numbers.len(), kinds.len());
+    let kind = random.below(KINDS);
+    let places: Vec<usize> = (0..kinds.len())
+        .filter(|&place| kinds[place] == kind)
+        .collect();
+    if !places.is_empty() {
+        let place = *random.pick(&places);
+        let before = numbers[place.saturating_sub(1)];
+        let ends = match kind {
+            0 => [0, 1, 2],
+            1 => [0, 32, 33],
+            2 | 7 | 11 => [0, 1, 2],
+            3 | 10 => [0, 64, 65],
+            4 => [255, 256, numbers[place + 1] + 1],
+            5 => [255, 256, before.wrapping_sub(1)],
+            6 | 13 => [
+                numbers[1],
+                numbers[1] - 1,
+                random.below(image.skips.len()) as u64,
+            ],
+            8 | 9 => [
+                u64::MAX,
+                u64::MAX >> (64 - image.positions.len()),
+                (u64::MAX >> (64 - image.positions.len())).wrapping_add(1),
+            ],
+            12 => [0, 32, 33],
+            14 => [0, 31, 32],
+            _ => [0, image.rows.len() as u64 - 1, image.rows.len() as u64],
+        };
+        numbers[place] = *random.pick(&ends);
+    }
+    let mut bytes = Vec::new();
+    for value in numbers {
+        number::write(&mut bytes, value);
+    }
+    bytes
 }
 
 fn damage_numbers(random: &mut Random, bytes: &[u8]) -> Vec<u8> {
