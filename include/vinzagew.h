@@ -6,8 +6,7 @@
  *
  * Every buffer is a pointer to its first byte (or number) and a length. All buffers must be valid for
  * their length, pointers must not be null (any address that is not null will do for a length of 0),
- * and no buffer that is written to may overlap another. Neither function keeps a pointer, allocates
- * memory, or fails in any other way than by the numbers below.
+ * and no buffer that is written to may overlap another. Neither function keeps a pointer.
  */
 #ifndef VINZAGEW_H
 #define VINZAGEW_H

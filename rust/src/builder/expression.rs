@@ -23,6 +23,21 @@ impl Token {
     pub fn or(self, other: impl Into<Expression>) -> Expression {
         Expression::from(self).or(other)
     }
+
+    /// Any number of times this token.
+    pub fn star(self) -> Expression {
+        Expression::from(self).star()
+    }
+
+    /// One or more times this token.
+    pub fn plus(self) -> Expression {
+        Expression::from(self).plus()
+    }
+
+    /// This token or ε.
+    pub fn optional(self) -> Expression {
+        Expression::from(self).optional()
+    }
 }
 
 /// A variable.
