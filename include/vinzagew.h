@@ -1,0 +1,94 @@
+/*
+ * Vinzagew: a proved grammar compiler, and the machine that reads by its images.
+ *
+ * The functions of the static library libvinzagew.a. Their contract is document 01; the numbers and
+ * places below are those of document 01.
+ *
+ * Every buffer is a pointer to its first byte (or number) and a length. All buffers must be valid for
+ * their length, pointers must not be null (any address that is not null will do for a length of 0),
+ * and no buffer that is written to may overlap another. Neither function keeps a pointer.
+ */
+#ifndef VINZAGEW_H
+#define VINZAGEW_H
+
+#include <stddef.h>
+#include <stdint.h>
+
+#ifdef __cplusplus
+extern "C" {
+#endif
+
+/* The bytes that the work area must have at least. */
+#define VINZAGEW_WORK_BYTES 65536
+
+/* The length of an image buffer that is enough for every sheet. */
+#define VINZAGEW_IMAGE_BYTES 65536
+
+/* The most bytes that a sheet may have. */
+#define VINZAGEW_SHEET_LIMIT 4096
+
+/* The most bytes that a text may have. */
+#define VINZAGEW_TEXT_LIMIT 1048576
+
+/* The length of a stack that is enough for every text of n bytes. */
+#define VINZAGEW_STACK_LENGTH(n) (1 + 30 * (size_t)(n))
+
+/* The numbers: 0 for success, otherwise the question that was answered with no. */
+#define VINZAGEW_SUCCESS 0           /* compiled, or accepted */
+#define VINZAGEW_WORK_TOO_SHORT 1    /* the work area has fewer than 65,536 bytes */
+#define VINZAGEW_SHEET_TOO_LONG 2    /* the sheet has more than 4,096 bytes */
+#define VINZAGEW_BAD_NUMBER 3        /* a number is missing, cut off, not shortest, or 2^64 or more */
+#define VINZAGEW_BAD_VALUE 4         /* a value is not allowed in its field */
+#define VINZAGEW_TOO_MANY_NODES 5    /* a node or class limit is broken with this tag */
+#define VINZAGEW_SHEET_GOES_ON 6     /* bytes are left over after the expression */
+#define VINZAGEW_EMPTY_WORD 7        /* a rule matches the empty word */
+#define VINZAGEW_NOT_GUARDED 8       /* a variable is not guarded */
+#define VINZAGEW_NOT_SEPARABLE 9     /* a sequence is not separable */
+#define VINZAGEW_NOT_APART 10        /* alternatives are not apart */
+#define VINZAGEW_IMAGE_TOO_LONG 11   /* the image does not fit in its buffer */
+#define VINZAGEW_TEXT_TOO_LONG 12    /* the text has more than 1,048,576 bytes */
+#define VINZAGEW_NOT_READABLE 13     /* the image is not readable */
+#define VINZAGEW_NO_MATCH 14         /* no rule matches here */
+#define VINZAGEW_NOT_TAKEN 15        /* no pending nonterminal takes the token */
+#define VINZAGEW_ENDS_EARLY 16       /* at the end, a pending nonterminal is not nullable */
+#define VINZAGEW_STACK_TOO_SHORT 17  /* the stack does not hold all pending nonterminals */
+
+/*
+ * Compiles a sheet into an image.
+ *
+ * out[0]  number, 0 to 11
+ * out[1]  place: of 3 to 5 the number's first byte, of 6 the first byte left over, of 7 the rule's
+ *         action, of 8 to 10 the node's tag, otherwise 0
+ * out[2]  length: the bytes written on success, the bytes needed after 11, otherwise 0
+ *
+ * On success the first out[2] bytes of `image` are the image, and the rest are as before; a refusal
+ * leaves `image` as it was. The first 65,536 bytes of `work` end as zero, except after 1, when none
+ * changes; the rest of `work` never changes. Numbers of `out` past the third do not change. If out_len
+ * is below 3, nothing happens and nothing changes.
+ */
+void sheet_compile(const uint8_t *sheet, size_t sheet_len,
+                   uint8_t *work, size_t work_len,
+                   uint8_t *image, size_t image_len,
+                   uint64_t *out, size_t out_len);
+
+/*
+ * Runs an image over a text.
+ *
+ * out[0]  number, 0 or 12 to 17
+ * out[1]  place: on acceptance the text's length; of 13 the place in the image of the first offending
+ *         number or leftover byte; of 14 to 17 a place in the text; of 12, 0
+ * out[2]  count: the tokens taken
+ *
+ * `stack` ends all zero, except after 12 and 13, when it is as it was. Numbers of `out` past the third
+ * do not change. If out_len is below 3, nothing happens and nothing changes.
+ */
+void image_run(const uint8_t *image, size_t image_len,
+               const uint8_t *text, size_t text_len,
+               uint8_t *stack, size_t stack_len,
+               uint64_t *out, size_t out_len);
+
+#ifdef __cplusplus
+}
+#endif
+
+#endif

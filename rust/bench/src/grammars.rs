@@ -1,0 +1,197 @@
+//! The grammars that are measured, each with a text that it accepts.
+
+use vinzagew::builder::{Expression, Regex, Sheet, SheetBuilder};
+use vinzagew::TEXT_LIMIT;
+
+/// A grammar with a way to make texts.
+pub struct Grammar {
+    /// What the grammar reads.
+    pub name: &'static str,
+    /// Its sheet.
+    pub sheet: Sheet,
+    /// A text of at most [`TEXT_LIMIT`] bytes that it accepts, and not many fewer.
+    pub text: Vec<u8>,
+}
+
+/// All grammars.
+pub fn all() -> Vec<Grammar> {
+    vec![sheet_d(), s_expressions(), json(), csv()]
+}
+
+/// Numbers that vary from one to the next and are the same in every run.
+fn varied(state: &mut u32) -> u32 {
+    *state = state.wrapping_mul(1_664_525).wrapping_add(1_013_904_223);
+    *state >> 8
+}
+
+/// Repeats items between a start and an end until the limit is near.
+fn fill(start: &str, end: &str, mut item: impl FnMut(&mut u32, bool) -> String) -> Vec<u8> {
+    let mut text = start.as_bytes().to_vec();
+    let mut state = 1;
+    let mut first = true;
+    loop {
+        let next = item(&mut state, first);
+        if text.len() + next.len() + end.len() > TEXT_LIMIT {
+            break;
+        }
+        text.extend(next.as_bytes());
+        first = false;
+    }
+    text.extend(end.as_bytes());
+    text
+}
+
+/// The contract's sheet D: numbers between slashes.
+fn sheet_d() -> Grammar {
+    let mut builder = SheetBuilder::new();
+    let number = builder.token("N");
+    let slash = builder.token("S");
+    builder.rule(number, Regex::class(b'0', b'9').plus());
+    builder.rule(slash, Regex::byte(b'/'));
+    builder.skip(Regex::byte(b' '));
+    let more = Expression::fix(|more| Expression::epsilon().or(slash.then(number.then(more))));
+    Grammar {
+        name: "sheet D",
+        sheet: builder.finish(number.then(more)).expect("bound"),
+        text: fill("7", "", |state, _| format!(" /{}", varied(state) % 10_000)),
+    }
+}
+
+/// Atoms and lists in round brackets.
+fn s_expressions() -> Grammar {
+    let mut builder = SheetBuilder::new();
+    let atom = builder.token("atom");
+    let open = builder.token("open");
+    let close = builder.token("close");
+    let letter = Regex::class(b'a', b'z').or(Regex::class(b'0', b'9'));
+    builder.rule(atom, letter.plus());
+    builder.rule(open, Regex::byte(b'('));
+    builder.rule(close, Regex::byte(b')'));
+    builder.skip(Regex::byte(b' ').or(Regex::byte(b'\n')));
+    let expression = Expression::fix(|expression| {
+        let rest = Expression::fix(|rest| Expression::from(close).or(expression.then(rest)));
+        atom.or(open.then(rest))
+    });
+    Grammar {
+        name: "s-expressions",
+        sheet: builder.finish(expression).expect("bound"),
+        text: fill("(", ")", |state, _| {
+            let (one, other) = (varied(state), varied(state));
+            format!("(define f{one} (lambda (x y) (plus x (times y {other}))))\n")
+        }),
+    }
+}
+
+/// JSON.
+fn json() -> Grammar {
+    let mut builder = SheetBuilder::new();
+    let string = builder.token("string");
+    let scalar = builder.token("scalar");
+    let punctuation = ["{", "}", "[", "]", ",", ":"].map(|sign| {
+        let token = builder.token(sign);
+        builder.rule(token, Regex::literal(sign.as_bytes()));
+        token
+    });
+    let [open_object, close_object, open_array, close_array, comma, colon] = punctuation;
+
+    let digit = || Regex::class(b'0', b'9');
+    let hexadecimal =
+        || Regex::alternative([digit(), Regex::class(b'A', b'F'), Regex::class(b'a', b'f')]);
+    let escape = Regex::one_of(b"\"\\/bfnrt").or(Regex::sequence(
+        std::iter::once(Regex::byte(b'u')).chain((0..4).map(|_| hexadecimal())),
+    ));
+    let sign = Regex::alternative([
+        Regex::class(b' ', b'!'),
+        Regex::class(b'#', b'['),
+        Regex::class(b']', 255),
+        Regex::byte(b'\\').then(escape),
+    ]);
+    let quote = || Regex::byte(b'"');
+    builder.rule(string, Regex::sequence([quote(), sign.star(), quote()]));
+    builder.rule(
+        scalar,
+        Regex::sequence([
+            Regex::byte(b'-').optional(),
+            Regex::byte(b'0').or(Regex::class(b'1', b'9').then(digit().star())),
+            Regex::byte(b'.').then(digit().plus()).optional(),
+            Regex::sequence([
+                Regex::one_of(b"eE"),
+                Regex::one_of(b"+-").optional(),
+                digit().plus(),
+            ])
+            .optional(),
+        ]),
+    );
+    for word in [&b"true"[..], b"false", b"null"] {
+        builder.rule(scalar, Regex::literal(word));
+    }
+    builder.skip(Regex::alternative([
+        Regex::byte(b' '),
+        Regex::class(b'\t', b'\n'),
+        Regex::byte(b'\r'),
+    ]));
+
+    let value = Expression::fix(|value| {
+        // An item and more of them after commas, up to the closing token; or none.
+        let list = |item: Expression, close| {
+            let more = Expression::fix(|more| {
+                Expression::from(close).or(comma.then(item.clone().then(more)))
+            });
+            Expression::from(close).or(item.then(more))
+        };
+        let member = string.then(colon.then(value.clone())).label("member");
+        let object = open_object.then(list(member, close_object)).label("object");
+        let array = open_array.then(list(value, close_array)).label("array");
+        Expression::alternative([string.into(), scalar.into(), object, array])
+    });
+    Grammar {
+        name: "JSON",
+        sheet: builder.finish(value).expect("bound"),
+        text: fill("[", "]", |state, first| {
+            let comma = if first { "" } else { "," };
+            let (one, other) = (varied(state), varied(state) % 1_000);
+            format!(
+                "{comma}\n  {{\"number\": {one}, \"name\": \"sample \\\"{other}\\\"\", \
+                 \"values\": [1.5, -2e+3, {other}, null], \"sown\": true}}"
+            )
+        }),
+    }
+}
+
+/// Fields between commas and line ends; a field may be empty, bare or quoted.
+fn csv() -> Grammar {
+    let mut builder = SheetBuilder::new();
+    let field = builder.token("field");
+    let comma = builder.token("comma");
+    let end = builder.token("end of line");
+    let bare = || {
+        Regex::alternative([
+            Regex::class(b' ', b'!'),
+            Regex::class(b'#', b'+'),
+            Regex::class(b'-', 255),
+        ])
+    };
+    let quote = || Regex::byte(b'"');
+    let quoted = Regex::alternative([
+        Regex::class(0, b'!'),
+        Regex::class(b'#', 255),
+        Regex::literal(b"\"\""),
+    ]);
+    builder.rule(field, bare().plus());
+    builder.rule(field, Regex::sequence([quote(), quoted.star(), quote()]));
+    builder.rule(comma, Regex::byte(b','));
+    builder.rule(end, Regex::byte(b'\r').optional().then(Regex::byte(b'\n')));
+    let file = Expression::fix(|file| {
+        let next = comma.then(file.clone()).or(end.then(file));
+        let after_field = Expression::epsilon().or(next.clone());
+        Expression::epsilon().or(field.then(after_field).or(next))
+    });
+    Grammar {
+        name: "CSV",
+        sheet: builder.finish(file).expect("bound"),
+        text: fill("number,name,place,count\n", "", |state, _| {
+            let (one, other) = (varied(state), varied(state) % 1_000);
+            format!("{one},\"plot {other}, \"\"north\"\"\",,{other}\r\n")
+        }),
+    }
+}

@@ -1,0 +1,185 @@
+//! The sheet's own answer, from the words of the regexes and from what the expression denotes.
+//!
+//! Nothing of the image or the run is used here. The work grows with the third power of the number of
+//! tokens, so this is for short texts.
+
+use crate::machine::Ran;
+use crate::sheet::{Kind, Node, Regex, Sheet};
+
+/// The sheet's own answer for a text.
+pub fn answer(sheet: &Sheet, text: &[u8]) -> Ran {
+    let mut place = 0;
+    let mut tokens = Vec::new();
+    loop {
+        let stop = |number| Ran {
+            number,
+            place,
+            tokens: tokens.len(),
+        };
+        if place == text.len() {
+            let denoted = denotes(&sheet.nodes, &tokens);
+            return stop(if denoted { 0 } else { 16 });
+        }
+        let Some((rule, length)) = longest_front(sheet, &text[place..]) else {
+            return stop(14);
+        };
+        if let Some(token) = sheet.rules[rule].token {
+            let mut longer = tokens.clone();
+            longer.push(token);
+            if !begins(&sheet.nodes, &longer) {
+                return stop(15);
+            }
+            tokens = longer;
+        }
+        place += length;
+    }
+}
+
+/// The lowest rule that has the longest front of `rest` that is a word of any rule, and its length.
+pub fn longest_front(sheet: &Sheet, rest: &[u8]) -> Option<(usize, usize)> {
+    let mut longest: Option<(usize, usize)> = None;
+    for (rule, length) in sheet
+        .rules
+        .iter()
+        .map(|rule| word_lengths(&rule.regex, rest, 0).last().copied())
+        .enumerate()
+    {
+        if let Some(length) = length {
+            if longest.is_none_or(|(_, other)| length > other) {
+                longest = Some((rule, length));
+            }
+        }
+    }
+    longest
+}
+
+/// The places, rising, where a word of the regex that starts at `start` may end.
+pub fn word_lengths(regex: &Regex, text: &[u8], start: usize) -> Vec<usize> {
+    let mut ends = match regex {
+        Regex::Empty => vec![start],
+        Regex::Class { low, high, .. } => match text.get(start) {
+            Some(byte) if low <= byte && byte <= high => vec![start + 1],
+            _ => Vec::new(),
+        },
+        Regex::Sequence(left, right) => word_lengths(left, text, start)
+            .into_iter()
+            .flat_map(|middle| word_lengths(right, text, middle))
+            .collect(),
+        Regex::Alternative(left, right) => {
+            let mut ends = word_lengths(left, text, start);
+            ends.extend(word_lengths(right, text, start));
+            ends
+        }
+        Regex::Star(part) => {
+            let mut ends = vec![start];
+            let mut next = 0;
+            while let Some(&middle) = ends.get(next) {
+                next += 1;
+                for end in word_lengths(part, text, middle) {
+                    if !ends.contains(&end) {
+                        ends.push(end);
+                    }
+                }
+            }
+            ends
+        }
+    };
+    ends.sort_unstable();
+    ends.dedup();
+    ends
+}
+
+/// For each node and each pair of places, whether the node denotes the tokens between them.
+struct Chart {
+    count: usize,
+    holds: Vec<bool>,
+}
+
+impl Chart {
+    fn index(&self, node: usize, from: usize, to: usize) -> usize {
+        (node * (self.count + 1) + from) * (self.count + 1) + to
+    }
+
+    fn get(&self, node: usize, from: usize, to: usize) -> bool {
+        self.holds[self.index(node, from, to)]
+    }
+
+    /// The least chart that solves the equations of section 3.4 for all nodes together.
+    fn new(nodes: &[Node], tokens: &[u64]) -> Chart {
+        let count = tokens.len();
+        let mut chart = Chart {
+            count,
+            holds: vec![false; nodes.len() * (count + 1) * (count + 1)],
+        };
+        loop {
+            let mut changed = false;
+            for (node, Node { kind, .. }) in nodes.iter().enumerate().rev() {
+                for from in 0..=count {
+                    for to in from..=count {
+                        let holds = match *kind {
+                            Kind::Epsilon => from == to,
+                            Kind::Bottom => false,
+                            Kind::Token(token) => tokens[from..to] == [token],
+                            Kind::Sequence(left, right) => (from..=to).any(|middle| {
+                                chart.get(left, from, middle) && chart.get(right, middle, to)
+                            }),
+                            Kind::Alternative(left, right) => {
+                                chart.get(left, from, to) || chart.get(right, from, to)
+                            }
+                            Kind::Fix(other) | Kind::Variable(other) => chart.get(other, from, to),
+                        };
+                        let index = chart.index(node, from, to);
+                        if holds && !chart.holds[index] {
+                            chart.holds[index] = true;
+                            changed = true;
+                        }
+                    }
+                }
+            }
+            if !changed {
+                return chart;
+            }
+        }
+    }
+}
+
+/// Whether the expression denotes the tokens.
+pub fn denotes(nodes: &[Node], tokens: &[u64]) -> bool {
+    Chart::new(nodes, tokens).get(0, 0, tokens.len())
+}
+
+/// Whether some sequence that the expression denotes begins with the tokens.
+pub fn begins(nodes: &[Node], tokens: &[u64]) -> bool {
+    let count = tokens.len();
+    let chart = Chart::new(nodes, tokens);
+    // `fronts[node][from]`: whether some sequence of the node begins with the tokens from `from` on.
+    // For `from` equal to `count` this says that the node denotes some sequence at all.
+    let mut fronts = vec![vec![false; count + 1]; nodes.len()];
+    loop {
+        let mut changed = false;
+        for (node, Node { kind, .. }) in nodes.iter().enumerate().rev() {
+            for from in 0..=count {
+                let holds = match *kind {
+                    Kind::Epsilon => from == count,
+                    Kind::Bottom => false,
+                    Kind::Token(token) => [token].starts_with(&tokens[from..]),
+                    Kind::Sequence(left, right) => {
+                        (fronts[left][from] && fronts[right][count])
+                            || (from..=count).any(|middle| {
+                                chart.get(left, from, middle) && fronts[right][middle]
+                            })
+                    }
+                    Kind::Alternative(left, right) => fronts[left][from] || fronts[right][from],
+                    Kind::Fix(other) | Kind::Variable(other) => fronts[other][from],
+                };
+                if holds && !fronts[node][from] {
+                    fronts[node][from] = true;
+                    changed = true;
+                }
+            }
+        }
+        if !changed {
+            return fronts[0][0];
+        }
+    }
+}

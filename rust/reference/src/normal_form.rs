@@ -1,0 +1,73 @@
+//! Figure 4 with the variables resolved: the productions of the expression's nodes.
+
+use crate::sheet::{Kind, Node};
+
+/// A production of a node.
+#[derive(Clone, Debug, PartialEq, Eq)]
+pub enum Production {
+    /// The empty sequence.
+    Epsilon,
+    /// A token, then the nodes of the tail.
+    Token(u64, Vec<usize>),
+}
+
+/// The productions of a node, for an expression that passed questions 8 to 10.
+pub fn productions(nodes: &[Node], node: usize) -> Vec<Production> {
+    match nodes[node].kind {
+        Kind::Epsilon => vec![Production::Epsilon],
+        Kind::Bottom => Vec::new(),
+        Kind::Token(token) => vec![Production::Token(token, Vec::new())],
+        Kind::Sequence(left, right) => {
+            let mut productions = productions(nodes, left);
+            for production in &mut productions {
+                match production {
+                    Production::Token(_, tail) => tail.push(right),
+                    Production::Epsilon => unreachable!("question 9 refuses a nullable left part"),
+                }
+            }
+            productions
+        }
+        Kind::Alternative(left, right) => {
+            let mut both = productions(nodes, left);
+            both.extend(productions(nodes, right));
+            both
+        }
+        Kind::Fix(other) | Kind::Variable(other) => productions(nodes, other),
+    }
+}
+
+/// For each node, whether it derives some token sequence.
+pub fn fruitful(nodes: &[Node]) -> Vec<bool> {
+    let mut fruitful = vec![false; nodes.len()];
+    loop {
+        let next: Vec<bool> = nodes
+            .iter()
+            .map(|node| match node.kind {
+                Kind::Epsilon | Kind::Token(_) => true,
+                Kind::Bottom => false,
+                Kind::Sequence(left, right) => fruitful[left] && fruitful[right],
+                Kind::Alternative(left, right) => fruitful[left] || fruitful[right],
+                Kind::Fix(other) | Kind::Variable(other) => fruitful[other],
+            })
+            .collect();
+        if next == fruitful {
+            return fruitful;
+        }
+        fruitful = next;
+    }
+}
+
+/// The productions of every node, without those whose tail holds a node that derives nothing.
+pub fn normal_form(nodes: &[Node]) -> Vec<Vec<Production>> {
+    let fruitful = fruitful(nodes);
+    (0..nodes.len())
+        .map(|node| {
+            let mut productions = productions(nodes, node);
+            productions.retain(|production| match production {
+                Production::Epsilon => true,
+                Production::Token(_, tail) => tail.iter().all(|&member| fruitful[member]),
+            });
+            productions
+        })
+        .collect()
+}

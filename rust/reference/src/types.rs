@@ -1,0 +1,121 @@
+//! Figure 2: the least types of all nodes, and questions 8 to 10.
+
+use crate::sheet::{Kind, Node};
+use crate::Refusal;
+
+/// A type; a set of tokens has bit k for token k.
+#[derive(Clone, Copy, Debug, Default, PartialEq, Eq)]
+pub struct Type {
+    /// Whether the empty sequence may be denoted.
+    pub nullable: bool,
+    /// The tokens that may begin a sequence.
+    pub first: u32,
+    /// The tokens that may follow the last token of a sequence.
+    pub follow_last: u32,
+}
+
+impl Type {
+    fn only_if(condition: bool, set: u32) -> u32 {
+        if condition {
+            set
+        } else {
+            0
+        }
+    }
+
+    fn sequence(self, other: Type) -> Type {
+        Type {
+            nullable: self.nullable && other.nullable,
+            first: self.first | Type::only_if(self.nullable, other.first),
+            follow_last: other.follow_last
+                | Type::only_if(other.nullable, other.first | self.follow_last),
+        }
+    }
+
+    fn alternative(self, other: Type) -> Type {
+        Type {
+            nullable: self.nullable || other.nullable,
+            first: self.first | other.first,
+            follow_last: self.follow_last | other.follow_last,
+        }
+    }
+
+    fn separable(self, other: Type) -> bool {
+        self.follow_last & other.first == 0 && !self.nullable
+    }
+
+    fn apart(self, other: Type) -> bool {
+        self.first & other.first == 0 && !(self.nullable && other.nullable)
+    }
+}
+
+/// The least types that solve the equations of all nodes together.
+pub fn least_types(nodes: &[Node]) -> Vec<Type> {
+    let mut types = vec![Type::default(); nodes.len()];
+    loop {
+        let next: Vec<Type> = nodes
+            .iter()
+            .map(|node| match node.kind {
+                Kind::Epsilon => Type {
+                    nullable: true,
+                    ..Type::default()
+                },
+                Kind::Bottom => Type::default(),
+                Kind::Token(token) => Type {
+                    first: 1 << token,
+                    ..Type::default()
+                },
+                Kind::Sequence(left, right) => types[left].sequence(types[right]),
+                Kind::Alternative(left, right) => types[left].alternative(types[right]),
+                Kind::Fix(other) | Kind::Variable(other) => types[other],
+            })
+            .collect();
+        if next == types {
+            return types;
+        }
+        types = next;
+    }
+}
+
+/// Questions 8 to 10, node by node in sheet order.
+///
+/// # Errors
+///
+/// The first question that is answered with no.
+pub fn check(nodes: &[Node]) -> Result<(), Refusal> {
+    check_node(nodes, &least_types(nodes), 0, 0, 0)
+}
+
+/// Checks a node under Figure 2's two contexts, each a set of fixed points. A node comes before its
+/// parts, and the left part before the right one: that is sheet order.
+fn check_node(
+    nodes: &[Node],
+    types: &[Type],
+    node: usize,
+    gamma: u64,
+    delta: u64,
+) -> Result<(), Refusal> {
+    let demand = |number, holds| {
+        let place = nodes[node].place;
+        if holds {
+            Ok(())
+        } else {
+            Err(Refusal { number, place })
+        }
+    };
+    match nodes[node].kind {
+        Kind::Epsilon | Kind::Bottom | Kind::Token(_) => Ok(()),
+        Kind::Variable(fix) => demand(8, gamma >> fix & 1 == 1),
+        Kind::Sequence(left, right) => {
+            demand(9, types[left].separable(types[right]))?;
+            check_node(nodes, types, left, gamma, delta)?;
+            check_node(nodes, types, right, gamma | delta, 0)
+        }
+        Kind::Alternative(left, right) => {
+            demand(10, types[left].apart(types[right]))?;
+            check_node(nodes, types, left, gamma, delta)?;
+            check_node(nodes, types, right, gamma, delta)
+        }
+        Kind::Fix(body) => check_node(nodes, types, body, gamma, delta | 1 << node),
+    }
+}

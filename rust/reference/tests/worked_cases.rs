@@ -1,0 +1,127 @@
+//! The contract's worked cases.
+
+use vinzagew_reference::sheet::Sheet;
+use vinzagew_reference::{answer, compile, run, Compiled, Ran};
+
+/// Sheet D's bytes before its expression.
+const RULES: [u8; 20] = [
+    1, 2, 3, 1, 2, 1, 48, 57, 4, 1, 48, 57, 2, 1, 47, 47, 0, 1, 32, 32,
+];
+/// Sheet D's expression.
+const EXPRESSION: [u8; 14] = [3, 2, 0, 5, 4, 0, 3, 2, 1, 3, 2, 0, 6, 0];
+/// Sheet D's image.
+const IMAGE: [u8; 48] = [
+    1, 3, 0, 0, 1, 4, 48, 57, 0, 1, 2, 48, 57, 0, 1, 2, 47, 47, 1, 1, 0, 32, 32, 2, 1, 0, 13, 4, 0,
+    1, 0, 1, 1, 1, 1, 1, 1, 2, 0, 1, 0, 1, 3, 1, 1, 1, 1, 2,
+];
+
+fn with_rules(expression: &[u8]) -> Vec<u8> {
+    [&RULES[..], expression].concat()
+}
+
+fn compiled(sheet: &[u8]) -> (Compiled, Vec<u8>) {
+    let mut image = vec![0xa5; 65_536];
+    let result = compile(sheet, &mut vec![0xa5; 65_536], &mut image);
+    image.truncate(if result.number == 0 { result.length } else { 0 });
+    (result, image)
+}
+
+fn read(sheet: &[u8], text: &[u8]) -> (u64, usize, usize) {
+    let (result, image) = compiled(sheet);
+    assert_eq!(result.number, 0);
+    let ran = run(&image, text, &mut vec![0xa5; 1 + 30 * text.len()]);
+    assert_eq!(answer(&Sheet::read(sheet).unwrap(), text), ran);
+    (ran.number, ran.place, ran.tokens)
+}
+
+fn refusal(expression: &[u8]) -> (u64, usize) {
+    let (result, _) = compiled(&with_rules(expression));
+    assert_eq!(result.length, 0);
+    (result.number, result.place)
+}
+
+#[test]
+fn sheet_d_and_its_readings() {
+    let sheet = with_rules(&EXPRESSION);
+    assert_eq!(compiled(&sheet).1, IMAGE);
+    assert_eq!(read(&sheet, b"12 /7"), (0, 5, 3));
+    assert_eq!(read(&sheet, b"12/7"), (0, 4, 3));
+    assert_eq!(read(&sheet, b""), (16, 0, 0));
+    assert_eq!(read(&sheet, b"12/"), (16, 3, 2));
+    assert_eq!(read(&sheet, b"12//7"), (15, 3, 2));
+    assert_eq!(read(&sheet, b"12h"), (14, 2, 1));
+    assert_eq!(read(&sheet, b"12 7"), (15, 3, 1));
+    assert_eq!(read(&sheet, b" "), (16, 1, 0));
+}
+
+#[test]
+fn other_expressions() {
+    assert_eq!(refusal(&[4, 2, 0, 2, 0]), (10, 20));
+    assert_eq!(refusal(&[3, 4, 0, 2, 0, 2, 1]), (9, 20));
+    assert_eq!(refusal(&[5, 6, 0]), (8, 21));
+    assert_eq!(refusal(&[5, 4, 6, 0, 4, 2, 0, 2, 0]), (10, 21));
+    assert_eq!(refusal(&[4, 3, 2, 0, 1, 2, 0]), (10, 20));
+    let ends_in = |token| [3, 3, 2, 1, 5, 4, 0, 3, 2, 0, 6, 0, 2, token];
+    assert_eq!(refusal(&ends_in(0)), (9, 20));
+    assert_eq!(compiled(&with_rules(&ends_in(1))).0.number, 0);
+}
+
+#[test]
+fn an_expression_that_denotes_nothing() {
+    let (result, image) = compiled(&with_rules(&[5, 3, 2, 0, 6, 0]));
+    assert_eq!(result.number, 0);
+    assert_eq!(image[27..], [1, 0, 0]);
+}
+
+#[test]
+fn limits() {
+    let sequence = |pairs: usize| {
+        let mut expression = [3, 2, 0].repeat(pairs);
+        expression.extend([5, 2, 0]);
+        expression
+    };
+    // Each pair is two nodes, and the end two more.
+    assert_eq!(compiled(&with_rules(&sequence(31))).0.number, 0);
+    assert_eq!(refusal(&sequence(32)), (5, 20 + 32 * 3));
+
+    let sheet = with_rules(&EXPRESSION);
+    let mut image = [0xa5; 47];
+    let result = compile(&sheet, &mut [0xa5; 65_536], &mut image);
+    assert_eq!((result.number, result.place, result.length), (11, 0, 48));
+    assert_eq!(image, [0xa5; 47]);
+    let refused = Ran {
+        number: 17,
+        place: 0,
+        tokens: 0,
+    };
+    assert_eq!(run(&IMAGE, b"12/7", &mut []), refused);
+    assert_eq!(compiled(&[0x80, 0x00]).0.number, 3);
+}
+
+#[test]
+fn the_longest_match_is_over_all_rules() {
+    let sheet = [
+        1, 3, 3, 1, 1, 97, 97, 2, 2, 1, 97, 97, 1, 98, 98, 3, 1, 98, 98, 3, 2, 0, 2, 2,
+    ];
+    assert_eq!(read(&sheet, b"ab"), (15, 0, 0));
+}
+
+#[test]
+fn tails_that_lead_nowhere_are_dropped() {
+    // N·⊥ ∨ S: N begins no sequence.
+    assert_eq!(read(&with_rules(&[4, 3, 2, 0, 1, 2, 1]), b"1/"), (15, 0, 0));
+}
+
+/// A follow-last set that comes from the left part of a sequence with a nullable right part.
+#[test]
+fn follow_last_of_the_left_part_counts() {
+    // Tokens A, B, C; ((A·(ε ∨ B))·(ε ∨ C))·B is not separable, and with A last it is.
+    let rules = [
+        1, 3, 3, 1, 1, 97, 97, 2, 1, 98, 98, 3, 1, 99, 99, 3, 3, 3, 2, 0, 4, 0, 2, 1, 4, 0, 2, 2, 2,
+    ];
+    let sheet = |last| [&rules[..], &[last]].concat();
+    let (result, _) = compiled(&sheet(1));
+    assert_eq!((result.number, result.place), (9, 15));
+    assert_eq!(compiled(&sheet(0)).0.number, 0);
+    assert_eq!(read(&sheet(0), b"abca"), (0, 4, 4));
+}

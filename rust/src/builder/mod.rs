@@ -1,0 +1,177 @@
+//! Writes sheets as Rust code.
+//!
+//! A [`SheetBuilder`] takes tokens and rules and, at the end, one expression; a [`Sheet`] then has the
+//! bytes for [`compile`](crate::compile). The builder computes the numbers of variables, and it leads
+//! from the place of a refusal back to the part that was written there: see [`Sheet::locate`].
+//!
+//! The builder refuses only what cannot be written down, a variable outside its fixed point. Limits,
+//! value ranges and types are the compiler's business.
+//!
+//! ```
+//! use vinzagew::builder::{Expression, Regex, SheetBuilder};
+//!
+//! let mut builder = SheetBuilder::new();
+//! let number = builder.token("N");
+//! let slash = builder.token("S");
+//! builder.rule(number, Regex::class(b'0', b'9').plus());
+//! builder.rule(slash, Regex::byte(b'/'));
+//! builder.skip(Regex::byte(b' '));
+//! let sheet = builder.finish(number.then(slash.then(number).star()))?;
+//! assert_eq!(
+//!     sheet.to_bytes(),
+//!     [
+//!         1, 2, 3, 1, 2, 1, 48, 57, 4, 1, 48, 57, 2, 1, 47, 47, 0, 1, 32, 32, 3, 2, 0, 5, 4, 0, 3, 3,
+//!         2, 1, 2, 0, 6, 0,
+//!     ]
+//! );
+//! assert_eq!(sheet.locate(20).to_string(), "expression node 0: (N·μx2.(ε ∨ ((S·N)·x2)))");
+//! assert_eq!(sheet.locate(12).to_string(), "action of rule 1 (returns S)");
+//! # Ok::<(), vinzagew::builder::UnboundVariable>(())
+//! ```
+
+mod expression;
+mod part;
+mod regex;
+
+pub use expression::{Expression, Token, Variable};
+pub use part::{Field, Part, PartKind};
+pub use regex::Regex;
+
+use std::error::Error;
+use std::fmt;
+
+/// A lexer rule.
+#[derive(Clone, Debug)]
+pub struct Rule {
+    /// The token that it returns; a rule that returns none skips.
+    pub token: Option<Token>,
+    /// The words that it matches.
+    pub regex: Regex,
+}
+
+/// Gathers tokens and rules.
+#[derive(Clone, Debug, Default)]
+pub struct SheetBuilder {
+    tokens: Vec<String>,
+    rules: Vec<Rule>,
+}
+
+impl SheetBuilder {
+    /// A builder with no tokens and no rules.
+    pub fn new() -> Self {
+        SheetBuilder::default()
+    }
+
+    /// Adds a token. The name is for [`Sheet::locate`] alone.
+    pub fn token(&mut self, name: impl Into<String>) -> Token {
+        self.tokens.push(name.into());
+        Token(self.tokens.len() - 1)
+    }
+
+    /// Adds a rule that returns a token, and gives its number.
+    ///
+    /// A token may have several rules or none.
+    pub fn rule(&mut self, token: Token, regex: Regex) -> usize {
+        self.push(Some(token), regex)
+    }
+
+    /// Adds a rule that skips, and gives its number.
+    pub fn skip(&mut self, regex: Regex) -> usize {
+        self.push(None, regex)
+    }
+
+    fn push(&mut self, token: Option<Token>, regex: Regex) -> usize {
+        self.rules.push(Rule { token, regex });
+        self.rules.len() - 1
+    }
+
+    /// Takes the expression and makes the sheet.
+    ///
+    /// # Errors
+    ///
+    /// A variable that stands outside its fixed point.
+    pub fn finish(self, expression: impl Into<Expression>) -> Result<Sheet, UnboundVariable> {
+        let mut sheet = Sheet {
+            tokens: self.tokens,
+            rules: self.rules,
+            expression: expression.into(),
+            binders: Vec::new(),
+            bytes: Vec::new(),
+        };
+        let numbers = part::numbers(&sheet)?;
+        let bytes = numbers.bytes();
+        sheet.binders = numbers.binders;
+        sheet.bytes = bytes;
+        Ok(sheet)
+    }
+}
+
+/// A sheet: tokens, rules and one expression.
+#[derive(Clone, Debug)]
+pub struct Sheet {
+    tokens: Vec<String>,
+    rules: Vec<Rule>,
+    expression: Expression,
+    /// For each expression node that is a variable, the node of its fixed point; for others, itself.
+    binders: Vec<usize>,
+    bytes: Vec<u8>,
+}
+
+impl Sheet {
+    /// The bytes of the sheet.
+    pub fn to_bytes(&self) -> Vec<u8> {
+        self.bytes.clone()
+    }
+
+    /// The bytes of the sheet, without a copy.
+    pub fn as_bytes(&self) -> &[u8] {
+        &self.bytes
+    }
+
+    /// The names of the tokens.
+    pub fn tokens(&self) -> &[String] {
+        &self.tokens
+    }
+
+    /// The rules.
+    pub fn rules(&self) -> &[Rule] {
+        &self.rules
+    }
+
+    /// The expression.
+    pub fn expression(&self) -> &Expression {
+        &self.expression
+    }
+
+    /// The part of the sheet whose number stands at a place, such as a refusal's.
+    pub fn locate(&self, place: usize) -> Part<'_> {
+        part::locate(self, place)
+    }
+
+    /// The name of a token, or its number if it has no name here.
+    fn token_name(&self, token: Token) -> String {
+        match self.tokens.get(token.0) {
+            Some(name) => name.clone(),
+            None => format!("token {}", token.0),
+        }
+    }
+}
+
+/// A variable that stands outside its fixed point.
+#[derive(Clone, Debug, PartialEq, Eq)]
+pub struct UnboundVariable {
+    /// The variable.
+    pub variable: Variable,
+}
+
+impl fmt::Display for UnboundVariable {
+    fn fmt(&self, formatter: &mut fmt::Formatter) -> fmt::Result {
+        write!(
+            formatter,
+            "the variable {} stands outside its fixed point",
+            self.variable
+        )
+    }
+}
+
+impl Error for UnboundVariable {}

@@ -1,0 +1,204 @@
+//! A proved grammar compiler, and the machine that reads by its images.
+//!
+//! A *sheet* has lexer rules and one typed context-free expression. [`compile`] turns a sheet into an
+//! [`Image`], and [`Image::run`] reads a text by it. Both call a static library whose code is proved to
+//! meet its contract, document 01; this package links it and lends it the buffers that it needs. The
+//! places and numbers in this documentation are those of document 01.
+//!
+//! [`builder`] writes sheets as Rust code.
+//!
+//! The library is found when this package is built: in the folder that the environment variable
+//! `VINZAGEW_LIB_DIR` names, or else in `target/staticlib` at the top of the repository. If it is not
+//! there, [`LIBRARY_LINKED`] is false and every function that needs it panics.
+//!
+#![cfg_attr(vinzagew_library, doc = "```")]
+#![cfg_attr(not(vinzagew_library), doc = "```no_run")]
+//! use vinzagew::builder::{Expression, Regex, SheetBuilder};
+//!
+//! let mut builder = SheetBuilder::new();
+//! let number = builder.token("number");
+//! let slash = builder.token("slash");
+//! builder.rule(number, Regex::class(b'0', b'9').plus());
+//! builder.rule(slash, Regex::byte(b'/'));
+//! builder.skip(Regex::byte(b' '));
+//!
+//! // A number, then any number of times a slash and a number.
+//! let more = number.then(Expression::fix(|more| {
+//!     Expression::epsilon().or(slash.then(number.then(more)))
+//! }));
+//! let sheet = builder.finish(more)?;
+//!
+//! let image = vinzagew::compile(&sheet.to_bytes())?;
+//! assert_eq!(image.run(b"12 /7"), Ok(3));
+//!
+//! let refusal = image.run(b"12//7").unwrap_err();
+//! assert_eq!((refusal.number, refusal.place), (15, 3));
+//!
+//! // A sheet that is refused names the part that is to blame.
+//! let mut builder = SheetBuilder::new();
+//! let number = builder.token("number");
+//! builder.rule(number, Regex::class(b'0', b'9').plus());
+//! let sheet = builder.finish(number.or(number))?;
+//! let refusal = vinzagew::compile(&sheet.to_bytes()).unwrap_err();
+//! assert_eq!(refusal.number, 10);
+//! let part = sheet.locate(refusal.place);
+//! assert_eq!(part.to_string(), "expression node 0: (number ∨ number)");
+//! # Ok::<(), Box<dyn std::error::Error>>(())
+//! ```
+
+#![warn(missing_docs)]
+
+pub mod builder;
+pub mod library;
+mod refusal;
+
+pub use library::LIBRARY_LINKED;
+pub use refusal::Refusal;
+
+use library::{image_run, sheet_compile};
+
+/// The bytes that the work area of [`compile_into`] must have at least.
+pub const WORK_BYTES: usize = 65_536;
+
+/// The length of an image buffer that is enough for every sheet.
+pub const IMAGE_BYTES: usize = 65_536;
+
+/// The most bytes that a sheet may have.
+pub const SHEET_LIMIT: usize = 4_096;
+
+/// The most bytes that a text may have.
+pub const TEXT_LIMIT: usize = 1_048_576;
+
+/// The length of a stack that is enough for every text of `text_length` bytes.
+///
+/// ```
+/// assert_eq!(vinzagew::stack_length(4), 121);
+/// ```
+pub const fn stack_length(text_length: usize) -> usize {
+    1 + 30 * text_length
+}
+
+/// Compiles a sheet, with buffers of its own.
+///
+/// # Errors
+///
+/// The first of questions 2 to 10 that is answered with no.
+#[cfg_attr(vinzagew_library, doc = "```")]
+#[cfg_attr(not(vinzagew_library), doc = "```no_run")]
+/// let refusal = vinzagew::compile(b"").unwrap_err();
+/// assert_eq!((refusal.number, refusal.place), (3, 0));
+/// ```
+pub fn compile(sheet: &[u8]) -> Result<Image, Refusal> {
+    let mut work = vec![0; WORK_BYTES];
+    let mut image = vec![0; IMAGE_BYTES];
+    let length = compile_into(sheet, &mut work, &mut image)?.len();
+    image.truncate(length);
+    image.shrink_to_fit();
+    Ok(Image { bytes: image })
+}
+
+/// Compiles a sheet into a buffer, and gives the part of the buffer that was written.
+///
+/// The first [`WORK_BYTES`] bytes of the work area end as zero, except after 1, when none changes; the
+/// rest never change. A refusal leaves the image buffer untouched; success leaves the bytes past the
+/// image. [`IMAGE_BYTES`] are enough for every sheet.
+///
+/// # Errors
+///
+/// The first of questions 1 to 11 that is answered with no.
+pub fn compile_into<'a>(
+    sheet: &[u8],
+    work: &mut [u8],
+    image: &'a mut [u8],
+) -> Result<&'a [u8], Refusal> {
+    let mut out = [0; 3];
+    sheet_compile(sheet, work, image, &mut out);
+    let [number, place, length] = out;
+    if number == 0 {
+        return Ok(&image[..length as usize]);
+    }
+    Err(Refusal {
+        number,
+        place: place as usize,
+        needed: length as usize,
+        tokens: 0,
+    })
+}
+
+/// Runs an image over a text on a stack, and gives how many tokens were taken.
+///
+/// The stack ends all zero, except after 12 and 13, when it is untouched. [`stack_length`] says how long
+/// a stack is enough for an image that compiling made.
+///
+/// # Errors
+///
+/// The first of questions 12 to 17 that is answered with no.
+pub fn run_with(image: &[u8], text: &[u8], stack: &mut [u8]) -> Result<usize, Refusal> {
+    let mut out = [0; 3];
+    image_run(image, text, stack, &mut out);
+    let [number, place, tokens] = out;
+    if number == 0 {
+        return Ok(tokens as usize);
+    }
+    Err(Refusal {
+        number,
+        place: place as usize,
+        needed: 0,
+        tokens: tokens as usize,
+    })
+}
+
+/// A readable image.
+#[derive(Clone, Debug, PartialEq, Eq)]
+pub struct Image {
+    bytes: Vec<u8>,
+}
+
+impl Image {
+    /// Takes bytes as an image, if they are readable.
+    ///
+    /// # Errors
+    ///
+    /// 13 with the place of the first offending number or leftover byte.
+    pub fn from_bytes(bytes: impl Into<Vec<u8>>) -> Result<Image, Refusal> {
+        let bytes = bytes.into();
+        match run_with(&bytes, b"", &mut [0]) {
+            Err(refusal) if refusal.number == 13 => Err(refusal),
+            _ => Ok(Image { bytes }),
+        }
+    }
+
+    /// The bytes of the image.
+    pub fn as_bytes(&self) -> &[u8] {
+        &self.bytes
+    }
+
+    /// The bytes of the image, without a copy.
+    pub fn into_bytes(self) -> Vec<u8> {
+        self.bytes
+    }
+
+    /// Runs the image over a text on a long enough stack, and gives how many tokens were taken.
+    ///
+    /// For an image that compiling made, this is the sheet's own answer. The stack is long enough for
+    /// every readable image: a tail has at most 31 members, and replaces one.
+    ///
+    /// # Errors
+    ///
+    /// The first of questions 12 to 16 that is answered with no.
+    pub fn run(&self, text: &[u8]) -> Result<usize, Refusal> {
+        // A text over the limit is refused before the stack is looked at.
+        let room = if text.len() > TEXT_LIMIT {
+            0
+        } else {
+            stack_length(text.len())
+        };
+        run_with(&self.bytes, text, &mut vec![0; room])
+    }
+}
+
+impl AsRef<[u8]> for Image {
+    fn as_ref(&self) -> &[u8] {
+        &self.bytes
+    }
+}

@@ -1,0 +1,91 @@
+//! The two functions of the static library, over slices.
+//!
+//! They have all results and all effects of the C functions: an `out` shorter than 3 is left untouched,
+//! and nothing else happens then. Without the library they panic.
+
+/// Whether the static library was found when this package was built.
+pub const LIBRARY_LINKED: bool = cfg!(vinzagew_library);
+
+pub use linked::{image_run, sheet_compile};
+
+#[cfg(vinzagew_library)]
+mod linked {
+    mod c {
+        extern "C" {
+            pub fn sheet_compile(
+                sheet: *const u8,
+                sheet_len: usize,
+                work: *mut u8,
+                work_len: usize,
+                image: *mut u8,
+                image_len: usize,
+                out: *mut u64,
+                out_len: usize,
+            );
+
+            pub fn image_run(
+                image: *const u8,
+                image_len: usize,
+                text: *const u8,
+                text_len: usize,
+                stack: *mut u8,
+                stack_len: usize,
+                out: *mut u64,
+                out_len: usize,
+            );
+        }
+    }
+
+    /// Compiles a sheet: number, place and length go to `out[0..3]`.
+    pub fn sheet_compile(sheet: &[u8], work: &mut [u8], image: &mut [u8], out: &mut [u64]) {
+        // SAFETY: each pointer comes from a slice with the length that is passed beside it. The slices
+        // that are written to are borrowed for this call alone, so no two overlap. The function keeps
+        // no pointer.
+        unsafe {
+            c::sheet_compile(
+                sheet.as_ptr(),
+                sheet.len(),
+                work.as_mut_ptr(),
+                work.len(),
+                image.as_mut_ptr(),
+                image.len(),
+                out.as_mut_ptr(),
+                out.len(),
+            );
+        }
+    }
+
+    /// Runs an image over a text: number, place and count go to `out[0..3]`.
+    pub fn image_run(image: &[u8], text: &[u8], stack: &mut [u8], out: &mut [u64]) {
+        // SAFETY: as for `sheet_compile`. The image and the text are only read.
+        unsafe {
+            c::image_run(
+                image.as_ptr(),
+                image.len(),
+                text.as_ptr(),
+                text.len(),
+                stack.as_mut_ptr(),
+                stack.len(),
+                out.as_mut_ptr(),
+                out.len(),
+            );
+        }
+    }
+}
+
+#[cfg(not(vinzagew_library))]
+mod linked {
+    /// Stands where the library's function would be.
+    pub fn sheet_compile(_sheet: &[u8], _work: &mut [u8], _image: &mut [u8], _out: &mut [u64]) {
+        missing();
+    }
+
+    /// Stands where the library's function would be.
+    pub fn image_run(_image: &[u8], _text: &[u8], _stack: &mut [u8], _out: &mut [u64]) {
+        missing();
+    }
+
+    fn missing() {
+        panic!("libvinzagew.a was not found when this package was built");
+    }
+}

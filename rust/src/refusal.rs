@@ -1,0 +1,111 @@
+//! Refusals.
+
+use std::error::Error;
+use std::fmt;
+
+/// A refusal: which question was answered with no, and where.
+#[derive(Clone, Copy, Debug, PartialEq, Eq, Hash)]
+pub struct Refusal {
+    /// The number of the question, 1 to 17.
+    pub number: u64,
+    /// The place in the sheet (3 to 10), in the image (13) or in the text (14 to 17); 0 if the refusal
+    /// names none.
+    pub place: usize,
+    /// After 11 the bytes that the image needs, otherwise 0.
+    pub needed: usize,
+    /// The tokens that running took before the refusal, 0 for compiling.
+    pub tokens: usize,
+}
+
+impl Refusal {
+    /// The question that was answered with no.
+    ///
+    /// ```
+    /// let refusal = vinzagew::Refusal { number: 10, place: 20, needed: 0, tokens: 0 };
+    /// assert_eq!(refusal.question(), "Are the alternatives apart?");
+    /// ```
+    pub fn question(&self) -> &'static str {
+        match self.number {
+            1 => "Has the work area at least 65,536 bytes?",
+            2 => "Is the sheet within 4,096 bytes?",
+            3 => "Is this number present, whole, shortest and below 2^64?",
+            4 => "Is its value allowed in its field?",
+            5 => "Are the node and class limits kept with this tag?",
+            6 => "Does the sheet end after its expression?",
+            7 => "Does every rule match only non-empty words?",
+            8 => "Is the variable guarded?",
+            9 => "Is the sequence separable?",
+            10 => "Are the alternatives apart?",
+            11 => "Does the image fit in its buffer?",
+            12 => "Is the text within 1,048,576 bytes?",
+            13 => "Is the image readable?",
+            14 => "Does a rule match here?",
+            15 => "Does a pending nonterminal take it?",
+            16 => "At the end, are the pending nonterminals nullable?",
+            17 => "Does the stack hold all pending nonterminals?",
+            _ => "There is no question with this number.",
+        }
+    }
+
+    /// What the place counts in, if the refusal names a place.
+    fn input(&self) -> Option<&'static str> {
+        match self.number {
+            3..=10 => Some("sheet"),
+            13 => Some("image"),
+            14..=17 => Some("text"),
+            _ => None,
+        }
+    }
+}
+
+impl fmt::Display for Refusal {
+    fn fmt(&self, formatter: &mut fmt::Formatter) -> fmt::Result {
+        write!(formatter, "refused with {}", self.number)?;
+        if let Some(input) = self.input() {
+            write!(formatter, " at place {} of the {input}", self.place)?;
+        }
+        write!(formatter, ": {} No", self.question())?;
+        match self.number {
+            11 => write!(formatter, ": it needs {} bytes", self.needed),
+            14..=17 => write!(formatter, ", after {} tokens", self.tokens),
+            _ => Ok(()),
+        }
+    }
+}
+
+impl Error for Refusal {}
+
+#[cfg(test)]
+mod tests {
+    use super::*;
+
+    fn words(number: u64, place: usize, needed: usize, tokens: usize) -> String {
+        Refusal {
+            number,
+            place,
+            needed,
+            tokens,
+        }
+        .to_string()
+    }
+
+    #[test]
+    fn refusals_in_words() {
+        assert_eq!(
+            words(1, 0, 0, 0),
+            "refused with 1: Has the work area at least 65,536 bytes? No"
+        );
+        assert_eq!(
+            words(9, 20, 0, 0),
+            "refused with 9 at place 20 of the sheet: Is the sequence separable? No"
+        );
+        assert_eq!(
+            words(11, 0, 48, 0),
+            "refused with 11: Does the image fit in its buffer? No: it needs 48 bytes"
+        );
+        assert_eq!(
+            words(15, 3, 0, 2),
+            "refused with 15 at place 3 of the text: Does a pending nonterminal take it? No, after 2 tokens"
+        );
+    }
+}

@@ -1,0 +1,75 @@
+//! Builds the C example with its script and runs it.
+
+use std::path::{Path, PathBuf};
+use std::process::Command;
+use std::{env, fs};
+
+fn top() -> PathBuf {
+    Path::new(env!("CARGO_MANIFEST_DIR")).join("..")
+}
+
+/// The header must be C that compiles with no warning, library or not.
+#[test]
+fn the_example_compiles() {
+    let object = Path::new(env!("CARGO_TARGET_TMPDIR")).join("read.o");
+    let status = Command::new("cc")
+        .args([
+            "-std=c11",
+            "-Wall",
+            "-Wextra",
+            "-Wpedantic",
+            "-Werror",
+            "-c",
+            "-I",
+        ])
+        .arg(top().join("include"))
+        .arg(top().join("examples/c/read.c"))
+        .arg("-o")
+        .arg(object)
+        .status()
+        .expect("cc is there");
+    assert!(status.success());
+}
+
+#[test]
+#[cfg_attr(not(vinzagew_library), ignore = "the static library was not found")]
+fn the_example_reads_by_sheet_d() {
+    let folder = Path::new(env!("CARGO_TARGET_TMPDIR")).join("c-example");
+    fs::create_dir_all(&folder).expect("a folder of our own");
+    let status = Command::new(top().join("examples/c/build.sh"))
+        .arg(&folder)
+        .env(
+            "VINZAGEW_LIB_DIR",
+            option_env!("VINZAGEW_LIBRARY").unwrap_or_default(),
+        )
+        .status()
+        .expect("sh is there");
+    assert!(status.success());
+
+    let sheet = [
+        1, 2, 3, 1, 2, 1, 48, 57, 4, 1, 48, 57, 2, 1, 47, 47, 0, 1, 32, 32, 3, 2, 0, 5, 4, 0, 3, 2,
+        1, 3, 2, 0, 6, 0,
+    ];
+    let read = |sheet: &[u8], text: &[u8]| {
+        fs::write(folder.join("sheet"), sheet).expect("a sheet");
+        fs::write(folder.join("text"), text).expect("a text");
+        let output = Command::new(folder.join("read"))
+            .current_dir(&folder)
+            .args(["sheet", "text"])
+            .output()
+            .expect("the example runs");
+        let line = String::from_utf8(output.stdout).expect("a line");
+        (line.trim_end().to_owned(), output.status.code())
+    };
+    assert_eq!(read(&sheet, b"12/7"), ("0 4 3".to_owned(), Some(0)));
+    assert_eq!(read(&sheet, b"12//7"), ("15 3 2".to_owned(), Some(1)));
+    assert_eq!(read(&sheet, b"12h"), ("14 2 1".to_owned(), Some(1)));
+    assert_eq!(read(&sheet[..20], b""), ("3 20 0".to_owned(), Some(1)));
+    assert_eq!(read(&[0; 4_097], b""), ("2 0 0".to_owned(), Some(1)));
+    let long = vec![b'1'; 1_048_577];
+    assert_eq!(read(&sheet, &long), ("12 0 0".to_owned(), Some(1)));
+    assert_eq!(
+        read(&sheet, &long[1..]),
+        ("0 1048576 1".to_owned(), Some(0))
+    );
+}

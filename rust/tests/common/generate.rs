@@ -1,0 +1,722 @@
+//! Random sheets, images and texts, valid and damaged.
+
+use super::random::Random;
+use vinzagew::builder::{Expression, Regex, Sheet, SheetBuilder, Token};
+use vinzagew_reference::image::{Image, Row};
+use vinzagew_reference::lexer::Position;
+use vinzagew_reference::number;
+
+/// The bytes that most classes are made of: few, so that rules compete.
+const ALPHABET: &[u8] = b"abc01/ ";
+
+fn letter(random: &mut Random) -> u8 {
+    match random.below(24) {
+        0 => random.next() as u8,
+        _ => *random.pick(ALPHABET),
+    }
+}
+
+fn class(random: &mut Random) -> Regex {
+    let low = letter(random);
+    let high = match random.below(8) {
+        0 => low.saturating_add(random.below(4) as u8),
+        1 => low.max(letter(random)),
+        2 if random.once_in(8) => 255,
+        _ => low,
+    };
+    Regex::class(low, high)
+}
+
+/// A regex of at most `size` nodes without the empty word.
+fn solid_regex(random: &mut Random, size: usize) -> Regex {
+    if size < 3 {
+        return class(random);
+    }
+    let left = random.range(1, size - 2);
+    let right = size - 1 - left;
+    match random.below(6) {
+        0 => class(random),
+        1 => solid_regex(random, left).or(solid_regex(random, right)),
+        2 => any_regex(random, left).then(solid_regex(random, right)),
+        3 => solid_regex(random, (size - 2) / 2).plus(),
+        _ => solid_regex(random, left).then(any_regex(random, right)),
+    }
+}
+
+/// A regex of at most `size` nodes.
+fn any_regex(random: &mut Random, size: usize) -> Regex {
+    if size < 3 {
+        return match random.below(4) {
+            0 => Regex::empty(),
+            1 if size == 2 => class(random).star(),
+            _ => class(random),
+        };
+    }
+    let left = random.range(1, size - 2);
+    let right = size - 1 - left;
+    match random.below(6) {
+        0 => any_regex(random, size - 1).star(),
+        1 => any_regex(random, left).or(any_regex(random, right)),
+        2 => any_regex(random, left).then(any_regex(random, right)),
+        _ => solid_regex(random, size),
+    }
+}
+
+/// How many nodes a regex has at most, so that all rules together keep the limits.
+fn regex_size(random: &mut Random, rules: usize) -> usize {
+    let most = (64 / rules).min(20);
+    match random.below(4) {
+        0 => 1,
+        1 => random.range(1, most),
+        _ => random.range(1, most.min(6)),
+    }
+}
+
+/// Tokens and rules.
+fn rules(random: &mut Random) -> (SheetBuilder, Vec<Token>) {
+    let mut builder = SheetBuilder::new();
+    let (token_count, rule_count) = match random.below(8) {
+        0 => (random.range(1, 24), random.range(1, 32)),
+        1 => (random.range(1, 24), random.range(24, 32)),
+        _ => {
+            let tokens = random.range(1, 6);
+            (tokens, tokens + random.below(3))
+        }
+    };
+    let tokens: Vec<Token> = (0..token_count)
+        .map(|index| builder.token(format!("t{index}")))
+        .collect();
+    for rule in 0..rule_count {
+        let size = regex_size(random, rule_count);
+        // Often a rule of a token has a word that few others have.
+        let regex = match ALPHABET.get(rule) {
+            Some(&byte) if byte != b' ' && !random.once_in(3) => Regex::byte(byte),
+            _ => solid_regex(random, size),
+        };
+        match tokens.get(rule) {
+            Some(&token) if !random.once_in(16) => builder.rule(token, regex),
+            _ if random.once_in(2) => builder.rule(*random.pick(&tokens), regex),
+            _ if random.once_in(2) => builder.skip(Regex::byte(b' ')),
+            _ => builder.skip(regex),
+        };
+    }
+    (builder, tokens)
+}
+
+/// What the type of an expression must keep.
+#[derive(Clone, Copy)]
+struct Bounds {
+    /// The first set is within this one.
+    first: u32,
+    /// Whether the expression may be nullable.
+    nullable: bool,
+    /// The follow-last set has none of these.
+    avoid: u32,
+}
+
+/// An open fixed point.
+#[derive(Clone)]
+struct Open {
+    variable: Expression,
+    bounds: Bounds,
+    guarded: bool,
+}
+
+impl Open {
+    fn fits(&self, bounds: Bounds) -> bool {
+        self.guarded
+            && self.bounds.first & !bounds.first == 0
+            && (bounds.nullable || !self.bounds.nullable)
+            && bounds.avoid & !self.bounds.avoid == 0
+    }
+}
+
+struct Typed<'a> {
+    random: &'a mut Random,
+    tokens: Vec<Token>,
+    /// Whether a bound may be forgotten now and then, so that some node may fail its question.
+    slips: bool,
+}
+
+impl Typed<'_> {
+    fn slip(&mut self) -> bool {
+        self.slips && self.random.once_in(8)
+    }
+
+    /// A subset, with at least one member if there is one.
+    fn subset(&mut self, set: u32) -> u32 {
+        match set & self.random.next() as u32 {
+            0 => set & set.wrapping_neg(),
+            subset => subset,
+        }
+    }
+
+    fn leaf(&mut self, bounds: Bounds, open: &[Open]) -> Expression {
+        let fitting: Vec<&Open> = open.iter().filter(|open| open.fits(bounds)).collect();
+        if !fitting.is_empty() && !self.random.once_in(4) {
+            return self.random.pick(&fitting).variable.clone();
+        }
+        if bounds.nullable && (bounds.first == 0 || self.random.once_in(2)) {
+            return Expression::epsilon();
+        }
+        let tokens: Vec<Token> = self
+            .tokens
+            .iter()
+            .copied()
+            .filter(|token| bounds.first >> token.number() & 1 == 1)
+            .collect();
+        if tokens.is_empty() || self.random.once_in(40) {
+            return Expression::bottom();
+        }
+        Expression::token(*self.random.pick(&tokens))
+    }
+
+    /// An expression of at most `size` nodes that has a type within the bounds.
+    fn expression(&mut self, size: usize, bounds: Bounds, open: &[Open]) -> Expression {
+        if size < 3 || self.random.once_in(16) {
+            return self.leaf(bounds, open);
+        }
+        let several = bounds.nullable || bounds.first.count_ones() > 1;
+        let made = match self.random.below(8) {
+            0..=2 if several => self.alternative(size, bounds, open, open),
+            3 => self.fix(size, bounds, open),
+            _ => self.sequence(size, bounds, open),
+        };
+        if self.random.once_in(30) {
+            made.label("labelled")
+        } else {
+            made
+        }
+    }
+
+    /// An alternative; its parts may have different open fixed points.
+    fn alternative(
+        &mut self,
+        size: usize,
+        bounds: Bounds,
+        open_left: &[Open],
+        open_right: &[Open],
+    ) -> Expression {
+        let left_size = match self.random.below(3) {
+            0 => 1,
+            _ => self.random.range(1, size - 2),
+        };
+        let nullable = bounds.nullable && self.random.once_in(2);
+        let first = match bounds.first.count_ones() {
+            0 | 1 => 0,
+            _ => self.subset(bounds.first),
+        };
+        let left = Bounds {
+            first,
+            nullable: nullable || first == 0,
+            ..bounds
+        };
+        let mut right = Bounds {
+            first: bounds.first & !left.first,
+            nullable: bounds.nullable && !left.nullable,
+            ..bounds
+        };
+        if self.slip() {
+            right.first = bounds.first;
+        }
+        if self.slip() {
+            right.nullable = true;
+        }
+        let left = self.expression(left_size, left, open_left);
+        left.or(self.expression(size - 1 - left_size, right, open_right))
+    }
+
+    fn fix(&mut self, size: usize, bounds: Bounds, open: &[Open]) -> Expression {
+        // The closer the bounds, the more places the variable fits.
+        let more = self.random.next() & self.random.next();
+        let bounds = Bounds {
+            first: bounds.first,
+            nullable: bounds.nullable && !self.random.once_in(3),
+            avoid: bounds.avoid | more as u32,
+        };
+        let several = bounds.nullable || bounds.first.count_ones() > 1;
+        Expression::fix(|variable| {
+            let mut inner = open.to_vec();
+            inner.push(Open {
+                variable,
+                bounds,
+                guarded: self.slip(),
+            });
+            // Without a part that does not come back to the variable, nothing is denoted.
+            if several && size > 4 && !self.random.once_in(8) {
+                self.alternative(size - 1, bounds, open, &inner)
+            } else {
+                self.expression(size - 1, bounds, &inner)
+            }
+        })
+    }
+
+    fn sequence(&mut self, size: usize, bounds: Bounds, open: &[Open]) -> Expression {
+        let inner: Vec<Open> = open
+            .iter()
+            .map(|open| Open {
+                guarded: true,
+                ..open.clone()
+            })
+            .collect();
+        let left_size = match self.random.below(6) {
+            0 | 1 => self.random.range(1, size - 2),
+            2 => size - 2,
+            _ => 1,
+        };
+        let all = self
+            .tokens
+            .iter()
+            .fold(0, |set, token| set | 1 << token.number());
+        let nullable = bounds.nullable && self.random.once_in(2);
+        let nullable = nullable || self.random.once_in(3);
+        let mut right = Bounds {
+            first: self.subset(if nullable { all & !bounds.avoid } else { all }),
+            nullable,
+            avoid: bounds.avoid,
+        };
+        // Often the right part is made so that some variable fits.
+        if !inner.is_empty() && self.random.once_in(2) {
+            let wanted = self.random.pick(&inner).bounds;
+            if !wanted.nullable || wanted.first & bounds.avoid == 0 {
+                right.first = wanted.first;
+                right.nullable = wanted.nullable;
+            }
+        }
+        let mut left = Bounds {
+            first: bounds.first,
+            nullable: self.slip(),
+            avoid: right.first,
+        };
+        if right.nullable && !self.slip() {
+            left.avoid |= bounds.avoid;
+        }
+        if self.slip() {
+            left.avoid = 0;
+        }
+        let left = self.expression(left_size, left, open);
+        left.then(self.expression(size - 1 - left_size, right, &inner))
+    }
+}
+
+/// A sheet that compiling accepts.
+pub fn accepted_sheet(random: &mut Random) -> Sheet {
+    typed_sheet(random, false)
+}
+
+/// A sheet that compiling would accept but for few nodes, if any.
+pub fn nearly_accepted_sheet(random: &mut Random) -> Sheet {
+    typed_sheet(random, true)
+}
+
+fn typed_sheet(random: &mut Random, slips: bool) -> Sheet {
+    let (builder, tokens) = rules(random);
+    let size = match random.below(4) {
+        0 => random.range(1, 8),
+        1 => 64,
+        _ => random.range(4, 40),
+    };
+    let bounds = Bounds {
+        first: tokens
+            .iter()
+            .fold(0, |set, token| set | 1 << token.number()),
+        nullable: random.once_in(3),
+        avoid: 0,
+    };
+    let mut typed = Typed {
+        random,
+        tokens,
+        slips,
+    };
+    let expression = typed.expression(size, bounds, &[]);
+    builder.finish(expression).expect("every variable is open")
+}
+
+/// A sheet whose productions have long tails: tokens in a row, nested to the left.
+pub fn long_tailed_sheet(random: &mut Random) -> Sheet {
+    let (builder, tokens) = rules(random);
+    let mut chain = Expression::token(*random.pick(&tokens));
+    for _ in 0..random.range(1, 31) {
+        chain = chain.then(*random.pick(&tokens));
+    }
+    builder.finish(chain).expect("there are no variables")
+}
+
+/// An expression of at most `size` nodes with no regard to types.
+fn untyped(
+    random: &mut Random,
+    size: usize,
+    tokens: &[Token],
+    open: &mut Vec<Expression>,
+) -> Expression {
+    if size < 3 || random.once_in(10) {
+        return match random.below(8) {
+            0 => Expression::epsilon(),
+            1 if random.once_in(4) => Expression::bottom(),
+            2..=4 if !open.is_empty() => random.pick(open).clone(),
+            _ => Expression::token(*random.pick(tokens)),
+        };
+    }
+    let left = random.range(1, size - 2);
+    let right = size - 1 - left;
+    match random.below(5) {
+        0 => Expression::fix(|variable| {
+            open.push(variable);
+            let body = untyped(random, size - 1, tokens, open);
+            open.pop();
+            body
+        }),
+        1 | 2 => untyped(random, left, tokens, open).or(untyped(random, right, tokens, open)),
+        _ => untyped(random, left, tokens, open).then(untyped(random, right, tokens, open)),
+    }
+}
+
+/// A sheet that is well formed but for limits, with no regard to types and empty words.
+pub fn untyped_sheet(random: &mut Random) -> Sheet {
+    let (mut builder, tokens) = rules(random);
+    if random.once_in(6) {
+        for _ in 0..random.range(1, 4) {
+            let size = random.range(1, 40);
+            let regex = any_regex(random, size);
+            builder.rule(*random.pick(&tokens), regex);
+        }
+    }
+    let size = match random.below(6) {
+        0 => random.range(60, 70),
+        1 => random.range(1, 64),
+        _ => random.range(1, 9),
+    };
+    let expression = untyped(random, size, &tokens, &mut Vec::new());
+    builder.finish(expression).expect("every variable is open")
+}
+
+/// Numbers that are allowed in many fields, in no order.
+pub fn number_soup(random: &mut Random) -> Vec<u8> {
+    let mut bytes = Vec::new();
+    number::write(&mut bytes, 1);
+    for _ in 0..random.below(60) {
+        let value = random.below(7) as u64;
+        number::write(&mut bytes, value);
+    }
+    bytes
+}
+
+/// A sheet with about as many expression nodes as are allowed.
+pub fn long_expression_sheet(random: &mut Random) -> Vec<u8> {
+    let mut bytes = vec![1, 1, 1, 1, 1, 97, 97];
+    // Each fixed point in front is one node, each sequence with a token two.
+    let nodes = random.range(62, 67);
+    let pairs = random.range(0, (nodes - 1) / 2);
+    bytes.resize(bytes.len() + nodes - 1 - 2 * pairs, 5);
+    bytes.extend([3, 2, 0].repeat(pairs));
+    bytes.extend([2, 0]);
+    bytes
+}
+
+/// A sheet with about as many regex nodes or classes as are allowed.
+pub fn crowded_sheet(random: &mut Random) -> Vec<u8> {
+    let mut bytes = vec![1, 1, 1, 1];
+    let classes = random.range(60, 68);
+    let spare = random.range(120, 136);
+    // A sequence of classes and stars: classes - 1 sequences, classes, and spare stars.
+    for index in 0..classes {
+        if index + 1 < classes {
+            bytes.push(2);
+        }
+        let stars = spare / classes + usize::from(index < spare % classes);
+        bytes.resize(bytes.len() + stars, 4);
+        bytes.extend([1, 97, 97]);
+    }
+    bytes.extend([2, 0]);
+    bytes
+}
+
+/// Changes a sheet's or an image's numbers or bytes.
+pub fn damage(random: &mut Random, bytes: &[u8]) -> Vec<u8> {
+    let mut damaged = bytes.to_vec();
+    for _ in 0..random.range(1, 2) {
+        damaged = if random.once_in(3) {
+            damage_bytes(random, damaged)
+        } else {
+            damage_numbers(random, &damaged)
+        };
+    }
+    damaged
+}
+
+/// The kinds of an image's numbers.
+const KINDS: usize = 16;
+
+/// The kind of each of an image's numbers.
+fn kinds(image: &Image) -> Vec<usize> {
+    let mut kinds = vec![0, 1];
+    kinds.resize(2 + image.skips.len(), 2);
+    kinds.push(3);
+    for _ in &image.positions {
+        kinds.extend([4, 5, 6, 7, 8]);
+    }
+    kinds.extend([9, 10]);
+    for row in &image.rows {
+        kinds.extend([11, 12]);
+        for (_, tail) in &row.productions {
+            kinds.extend([13, 14]);
+            kinds.resize(kinds.len() + tail.len(), 15);
+        }
+    }
+    kinds
+}
+
+/// Changes one number of an image to a value at or near an end of its range; every kind of number is as
+/// likely as any other.
+pub fn damage_field(random: &mut Random, image: &Image) -> Vec<u8> {
+    let mut numbers = image.numbers();
+    let kinds = kinds(image);
+    assert_eq!(numbers.len(), kinds.len());
+    let kind = random.below(KINDS);
+    let places: Vec<usize> = (0..kinds.len())
+        .filter(|&place| kinds[place] == kind)
+        .collect();
+    if !places.is_empty() {
+        let place = *random.pick(&places);
+        let before = numbers[place.saturating_sub(1)];
+        let ends = match kind {
+            0 => [0, 1, 2],
+            1 => [0, 32, 33],
+            2 | 7 | 11 => [0, 1, 2],
+            3 | 10 => [0, 64, 65],
+            4 => [255, 256, numbers[place + 1] + 1],
+            5 => [255, 256, before.wrapping_sub(1)],
+            6 | 13 => [
+                numbers[1],
+                numbers[1] - 1,
+                random.below(image.skips.len()) as u64,
+            ],
+            8 | 9 => [
+                u64::MAX,
+                u64::MAX >> (64 - image.positions.len()),
+                (u64::MAX >> (64 - image.positions.len())).wrapping_add(1),
+            ],
+            12 => [0, 32, 33],
+            14 => [0, 31, 32],
+            _ => [0, image.rows.len() as u64 - 1, image.rows.len() as u64],
+        };
+        numbers[place] = *random.pick(&ends);
+    }
+    let mut bytes = Vec::new();
+    for value in numbers {
+        number::write(&mut bytes, value);
+    }
+    bytes
+}
+
+fn damage_numbers(random: &mut Random, bytes: &[u8]) -> Vec<u8> {
+    let mut fields = Vec::new();
+    let mut place = 0;
+    while let Some((value, after)) = number::read(bytes, place) {
+        fields.push(value);
+        place = after;
+    }
+    if fields.is_empty() {
+        return bytes.to_vec();
+    }
+    let chosen = random.below(fields.len());
+    let value = fields[chosen];
+    let mut padded = None;
+    match random.below(12) {
+        0 => drop(fields.remove(chosen)),
+        1 => fields.insert(chosen, random.below(8) as u64),
+        2 => fields[chosen] = random.next() >> random.below(64),
+        3 => fields[chosen] = value.wrapping_add(1),
+        4 => fields[chosen] = value.wrapping_sub(1),
+        5 => fields[chosen] = *random.pick(&[23, 24, 25, 31, 32, 33, 63, 64, 65, 255, 256]),
+        6 => fields[chosen] = value ^ 1 << random.below(64),
+        7 => fields.truncate(chosen),
+        8 => padded = Some(chosen),
+        9 => {
+            let other = random.below(fields.len());
+            fields.swap(chosen, other);
+        }
+        _ => fields[chosen] = random.below(8) as u64,
+    }
+    let mut damaged = Vec::new();
+    for (index, &value) in fields.iter().enumerate() {
+        number::write(&mut damaged, value);
+        if padded == Some(index) {
+            let last = damaged.len() - 1;
+            damaged[last] |= 0x80;
+            damaged.resize(last + random.range(1, 10), 0x80);
+            damaged.push(random.below(3) as u8);
+        }
+    }
+    damaged.extend(&bytes[place..]);
+    damaged
+}
+
+/// Changes a byte, or takes or adds some.
+pub fn damage_bytes(random: &mut Random, mut bytes: Vec<u8>) -> Vec<u8> {
+    let place = random.below(bytes.len() + 1);
+    match random.below(6) {
+        0 => bytes.truncate(place),
+        1 => bytes.insert(place, letter(random)),
+        2 => bytes.insert(place, random.next() as u8),
+        3 => {
+            let more = random.range(1, 5);
+            let more = random.bytes(more);
+            bytes.extend(more);
+        }
+        4 if place < bytes.len() => drop(bytes.remove(place)),
+        _ if place < bytes.len() => {
+            bytes[place] = match random.below(3) {
+                0 => letter(random),
+                1 => bytes[place] ^ 1 << random.below(8),
+                _ => random.next() as u8,
+            };
+        }
+        _ => {}
+    }
+    bytes
+}
+
+/// A readable image that no sheet need have.
+pub fn readable_image(random: &mut Random) -> Image {
+    let rules = match random.below(4) {
+        0 => random.range(1, 32),
+        _ => random.range(1, 5),
+    };
+    let skips: Vec<bool> = (0..rules).map(|_| random.once_in(4)).collect();
+    let position_count = match random.below(4) {
+        0 => random.range(1, 64),
+        1 => 64,
+        _ => random.range(1, 10),
+    };
+    let all = u64::MAX >> (64 - position_count);
+    let set = |random: &mut Random| {
+        let mut set = random.next() & all;
+        for _ in 0..random.below(5) {
+            set &= random.next();
+        }
+        set
+    };
+    let mut of_positions: Vec<usize> = (0..position_count).map(|_| random.below(rules)).collect();
+    of_positions.sort_unstable();
+    let positions = of_positions
+        .into_iter()
+        .map(|rule| {
+            let low = letter(random);
+            Position {
+                low,
+                high: low.max(letter(random)),
+                rule,
+                last: random.once_in(2),
+                follow: set(random),
+            }
+        })
+        .collect();
+    let row_count = match random.below(4) {
+        0 => random.range(1, 64),
+        1 => 1,
+        _ => random.range(1, 8),
+    };
+    let rows = (0..row_count)
+        .map(|_| Row {
+            nullable: random.once_in(2),
+            productions: (0..rules)
+                .filter(|&rule| !skips[rule])
+                .filter(|_| !random.once_in(3))
+                .collect::<Vec<_>>()
+                .into_iter()
+                .map(|rule| {
+                    let length = match random.below(8) {
+                        0 => random.range(0, 31),
+                        _ => random.below(3),
+                    };
+                    let tail = (0..length).map(|_| random.below(row_count)).collect();
+                    (rule, tail)
+                })
+                .collect(),
+        })
+        .collect();
+    Image {
+        skips,
+        positions,
+        first: set(random) | 1,
+        rows,
+    }
+}
+
+/// A word of a rule, by a walk over its positions; nothing if no walk begins.
+fn word(random: &mut Random, image: &Image, rule: usize) -> Vec<u8> {
+    let own = |set: u64| -> Vec<usize> {
+        (0..image.positions.len())
+            .filter(|&position| set >> position & 1 == 1)
+            .filter(|&position| image.positions[position].rule == rule)
+            .collect()
+    };
+    let mut word = Vec::new();
+    let mut next = own(image.first);
+    while !next.is_empty() && word.len() < 30 {
+        let position = image.positions[*random.pick(&next)];
+        let byte = random.range(position.low.into(), position.high.into());
+        word.push(byte as u8);
+        if position.last && random.once_in(2) {
+            break;
+        }
+        next = own(position.follow);
+    }
+    word
+}
+
+/// A text of about `size` tokens that is derived from the start.
+pub fn derived_text(random: &mut Random, image: &Image, size: usize) -> Vec<u8> {
+    let mut text = Vec::new();
+    // The first pending nonterminal comes last.
+    let mut pending = vec![0];
+    let skipping: Vec<usize> = (0..image.skips.len())
+        .filter(|&rule| image.skips[rule])
+        .collect();
+    for taken in 0..3 * size {
+        if !skipping.is_empty() && random.once_in(3) {
+            let rule = *random.pick(&skipping);
+            text.extend(word(random, image, rule));
+        }
+        // Each choice is the number of pending ones that stay, and a production.
+        let mut choices = Vec::new();
+        for (stay, &nonterminal) in pending.iter().enumerate().rev() {
+            let row: &Row = &image.rows[nonterminal];
+            choices.extend(row.productions.iter().map(|production| (stay, production)));
+            if !row.nullable {
+                break;
+            }
+        }
+        let may_end = pending.iter().all(|&number| image.rows[number].nullable);
+        let winding_down = taken >= size;
+        if choices.is_empty() || may_end && (winding_down || random.once_in(12)) {
+            break;
+        }
+        if winding_down {
+            let shortest = choices.iter().map(|(_, (_, tail))| tail.len()).min();
+            choices.retain(|(_, (_, tail))| Some(tail.len()) == shortest);
+        }
+        let (stay, (rule, tail)) = *random.pick(&choices);
+        pending.truncate(stay);
+        pending.extend(tail.iter().rev());
+        text.extend(word(random, image, *rule));
+    }
+    text
+}
+
+/// A text for an image: derived from the start and often damaged, or letters.
+pub fn text(random: &mut Random, image: &Image) -> Vec<u8> {
+    if random.once_in(8) {
+        return (0..random.below(12)).map(|_| letter(random)).collect();
+    }
+    let size = match random.below(8) {
+        0 => random.below(80),
+        _ => random.below(10),
+    };
+    let mut text = derived_text(random, image, size);
+    while random.once_in(2) {
+        text = damage_bytes(random, text);
+    }
+    text
+}

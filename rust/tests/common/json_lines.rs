@@ -1,0 +1,78 @@
+//! A reader for lines that are flat JSON objects of strings without escapes and whole numbers.
+
+use std::collections::HashMap;
+
+/// One object.
+pub struct Object(HashMap<String, Value>);
+
+enum Value {
+    Text(String),
+    Number(u64),
+}
+
+impl Object {
+    /// The string of a key.
+    pub fn text(&self, key: &str) -> &str {
+        match &self.0[key] {
+            Value::Text(text) => text,
+            Value::Number(_) => panic!("{key} is a number"),
+        }
+    }
+
+    /// The number of a key.
+    pub fn number(&self, key: &str) -> u64 {
+        match &self.0[key] {
+            Value::Number(number) => *number,
+            Value::Text(_) => panic!("{key} is a string"),
+        }
+    }
+
+    /// The bytes of a key whose string has them in hexadecimal.
+    pub fn bytes(&self, key: &str) -> Vec<u8> {
+        let text = self.text(key);
+        assert!(text.len().is_multiple_of(2), "{key} has half a byte");
+        (0..text.len())
+            .step_by(2)
+            .map(|place| u8::from_str_radix(&text[place..place + 2], 16).expect("hexadecimal"))
+            .collect()
+    }
+}
+
+/// Reads a line.
+pub fn read(line: &str) -> Object {
+    let inner = line
+        .trim()
+        .strip_prefix('{')
+        .and_then(|rest| rest.strip_suffix('}'))
+        .expect("an object");
+    let mut fields = HashMap::new();
+    let mut rest = inner.trim_start();
+    while !rest.is_empty() {
+        let (key, after) = string(rest);
+        let after = after.trim_start().strip_prefix(':').expect("a colon");
+        let (value, after) = value(after.trim_start());
+        fields.insert(key, value);
+        let after = after.trim_start();
+        rest = after.strip_prefix(',').unwrap_or(after).trim_start();
+    }
+    Object(fields)
+}
+
+fn string(text: &str) -> (String, &str) {
+    let inner = text.strip_prefix('"').expect("a string");
+    let (string, after) = inner.split_once('"').expect("the end of a string");
+    assert!(!string.contains('\\'), "escapes are not read");
+    (string.to_owned(), after)
+}
+
+fn value(text: &str) -> (Value, &str) {
+    if text.starts_with('"') {
+        let (string, after) = string(text);
+        return (Value::Text(string), after);
+    }
+    let end = text
+        .find(|sign: char| !sign.is_ascii_digit())
+        .unwrap_or(text.len());
+    let number = text[..end].parse().expect("a whole number");
+    (Value::Number(number), &text[end..])
+}

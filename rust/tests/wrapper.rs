@@ -1,0 +1,208 @@
+//! The wrapper, the builder together with the compiler, and the limits.
+
+mod common;
+
+use common::{compile_checked, engines, run_checked, FILL};
+use vinzagew::builder::{Expression, PartKind, Regex, Sheet, SheetBuilder};
+#[cfg(vinzagew_library)]
+use vinzagew::{compile, compile_into, run_with, Image};
+
+fn builder() -> SheetBuilder {
+    let mut builder = SheetBuilder::new();
+    let number = builder.token("N");
+    let slash = builder.token("S");
+    builder.rule(number, Regex::class(b'0', b'9').plus());
+    builder.rule(slash, Regex::byte(b'/'));
+    builder.skip(Regex::byte(b' '));
+    builder
+}
+
+/// Sheet D.
+fn sheet_d() -> Sheet {
+    let mut other = SheetBuilder::new();
+    let (number, slash) = (other.token("N"), other.token("S"));
+    let more = Expression::fix(|more| Expression::epsilon().or(slash.then(number.then(more))));
+    builder().finish(number.then(more)).unwrap()
+}
+
+#[test]
+fn the_builder_writes_sheet_d() {
+    let expected = [
+        1, 2, 3, 1, 2, 1, 48, 57, 4, 1, 48, 57, 2, 1, 47, 47, 0, 1, 32, 32, 3, 2, 0, 5, 4, 0, 3, 2,
+        1, 3, 2, 0, 6, 0,
+    ];
+    assert_eq!(sheet_d().to_bytes(), expected);
+}
+
+#[test]
+fn places_lead_back_to_parts() {
+    let sheet = sheet_d();
+    let words = |place| sheet.locate(place).to_string();
+    assert_eq!(words(0), "version");
+    assert_eq!(words(1), "token count");
+    assert_eq!(words(2), "rule count");
+    assert_eq!(words(3), "action of rule 0 (returns N)");
+    assert_eq!(
+        words(4),
+        "regex node 0 of rule 0 (returns N): ([0-9] [0-9]*)"
+    );
+    assert_eq!(
+        words(11),
+        "high byte of regex node 3 of rule 0 (returns N): [0-9]"
+    );
+    assert_eq!(words(16), "action of rule 2 (skips)");
+    assert_eq!(words(20), "expression node 0: (N·μx2.(ε ∨ (S·(N·x2))))");
+    assert_eq!(words(22), "token of expression node 1: N");
+    assert_eq!(words(32), "expression node 9: x2");
+    assert_eq!(words(33), "number of expression node 9: x2");
+    assert_eq!(words(34), "end of the sheet");
+    assert!(matches!(
+        sheet.locate(29).kind,
+        PartKind::Expression {
+            node: 7,
+            expression: Expression::Sequence(..),
+            label: None,
+            ..
+        }
+    ));
+}
+
+#[test]
+fn labels_and_names_show() {
+    let mut builder = SheetBuilder::new();
+    let a = builder.token("a");
+    builder.rule(a, Regex::byte(b'a'));
+    let inner = Expression::variable("list").or(a).label("item");
+    let sheet = builder
+        .finish(Expression::fix_named("list", a.then(inner)))
+        .unwrap();
+    // Version, counts, action, class, then fixed point, sequence, token, alternative.
+    assert_eq!(
+        sheet.locate(11).to_string(),
+        "expression node 3 in item: (list ∨ a)"
+    );
+}
+
+#[test]
+fn a_variable_outside_its_fixed_point_is_refused() {
+    let error = builder().finish(Expression::variable("x")).unwrap_err();
+    assert_eq!(
+        error.to_string(),
+        "the variable x stands outside its fixed point"
+    );
+}
+
+/// Numbers of 128 and more take two bytes; places stay right.
+#[test]
+fn places_count_bytes() {
+    let mut builder = SheetBuilder::new();
+    let token = builder.token("high");
+    builder.rule(token, Regex::class(200, 255));
+    let sheet = builder.finish(token.or(token)).unwrap();
+    for engine in engines() {
+        let ([number, place, _], _) = compile_checked(engine, sheet.as_bytes(), 65_536, 0);
+        assert_eq!((number, place), (10, 9));
+    }
+    assert_eq!(
+        sheet.locate(9).to_string(),
+        "expression node 0: (high ∨ high)"
+    );
+}
+
+#[test]
+fn limits() {
+    let sheet = sheet_d();
+    for engine in engines() {
+        let compile = |work, image| compile_checked(engine, sheet.as_bytes(), work, image).0;
+        assert_eq!(compile(65_535, 48), [1, 0, 0]);
+        assert_eq!(compile(65_536, 47), [11, 0, 48]);
+        assert_eq!(compile(65_537, 48), [0, 0, 48]);
+        assert_eq!(compile_checked(engine, &[1; 4_097], 65_536, 0).0, [2, 0, 0]);
+
+        let (_, image) = compile_checked(engine, sheet.as_bytes(), 65_536, 65_536);
+        let long = vec![b'7'; 1_048_577];
+        assert_eq!(run_checked(engine, &image, &long, 5), [12, 0, 0]);
+        assert_eq!(run_checked(engine, &[], &long, 5), [12, 0, 0]);
+        assert_eq!(
+            run_checked(engine, &image, &long[1..], 2),
+            [0, 1_048_576, 1]
+        );
+        assert_eq!(run_checked(engine, &image, b"", 0), [17, 0, 0]);
+        assert_eq!(run_checked(engine, &image, b"h", 0), [17, 0, 0]);
+    }
+}
+
+/// With an `out` shorter than 3 nothing changes.
+#[test]
+fn a_short_out_changes_nothing() {
+    let sheet = sheet_d();
+    for engine in engines() {
+        let (_, compiled) = compile_checked(engine, sheet.as_bytes(), 65_536, 65_536);
+        for length in 0..3 {
+            let mut out = vec![7; length];
+            let mut work = vec![FILL; 65_536];
+            let mut image = vec![FILL; 65_536];
+            (engine.compile)(sheet.as_bytes(), &mut work, &mut image, &mut out);
+            let mut stack = vec![FILL; 100];
+            (engine.run)(&compiled, b"12", &mut stack, &mut out);
+            assert!(work.iter().all(|&byte| byte == FILL));
+            assert!(image.iter().all(|&byte| byte == FILL));
+            assert!(stack.iter().all(|&byte| byte == FILL));
+            assert_eq!(out, vec![7; length]);
+        }
+    }
+}
+
+#[cfg(vinzagew_library)]
+#[test]
+fn the_wrapper_compiles_and_runs() {
+    let sheet = sheet_d();
+    let image = compile(sheet.as_bytes()).unwrap();
+    assert_eq!(image.as_bytes().len(), 48);
+    assert_eq!(image.run(b"12 /7"), Ok(3));
+    let refusal = image.run(b"12h").unwrap_err();
+    assert_eq!((refusal.number, refusal.place, refusal.tokens), (14, 2, 1));
+    assert_eq!(image.run(&vec![b'1'; 1_048_577]).unwrap_err().number, 12);
+
+    let mut buffer = [FILL; 50];
+    let written = compile_into(sheet.as_bytes(), &mut vec![FILL; 65_536], &mut buffer).unwrap();
+    assert_eq!(written, image.as_bytes());
+    let refusal =
+        compile_into(sheet.as_bytes(), &mut vec![FILL; 65_536], &mut [FILL; 47]).unwrap_err();
+    assert_eq!((refusal.number, refusal.needed), (11, 48));
+
+    assert_eq!(run_with(image.as_bytes(), b"1", &mut [FILL]), Ok(1));
+    assert_eq!(
+        run_with(image.as_bytes(), b"1", &mut [])
+            .unwrap_err()
+            .number,
+        17
+    );
+}
+
+#[cfg(vinzagew_library)]
+#[test]
+fn images_come_from_readable_bytes_only() {
+    let image = compile(sheet_d().as_bytes()).unwrap();
+    assert_eq!(Image::from_bytes(image.as_bytes()), Ok(image.clone()));
+    let mut bytes = image.into_bytes();
+    bytes.push(0);
+    let refusal = Image::from_bytes(bytes).unwrap_err();
+    assert_eq!((refusal.number, refusal.place), (13, 48));
+}
+
+/// A variable that is not guarded, found by its place.
+#[cfg(vinzagew_library)]
+#[test]
+fn a_refusal_leads_back_to_its_part() {
+    let sheet = builder().finish(Expression::fix(|own| own)).unwrap();
+    let refusal = compile(sheet.as_bytes()).unwrap_err();
+    assert_eq!(
+        refusal.to_string(),
+        "refused with 8 at place 21 of the sheet: Is the variable guarded? No"
+    );
+    assert_eq!(
+        sheet.locate(refusal.place).to_string(),
+        "expression node 1: x0"
+    );
+}
