@@ -1,0 +1,3 @@
+pub mod Grammars
+pub mod Endings
+pub mod Parts

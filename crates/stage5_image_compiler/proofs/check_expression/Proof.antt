@@ -1,0 +1,84 @@
+-- `stage5_image_compiler::check_expression` meets its contract.
+use borrow.Author.Needs.{needs}
+use denote.Ref.{now}
+use lib.ListN.{length}
+use Rattle.stage5_image_compiler.proofs.Endings.{sheet-expression, links-most, no-fault, fault-entry, ends-untyped, ends-typed}
+use Rattle.stage5_image_compiler.proofs.check_expression.Statement.{statement}
+use Rattle.stage5_image_compiler.proofs.check_expression.Tie as tie
+use Rattle.stage5_image_compiler.proofs.check_expression.Reads as reads
+use Rattle.stage5_image_compiler.proofs.check_expression.Lts as lts
+use Rattle.stage2_types_checker.proofs.check_types.Reads as check-types-reads
+use Rattle.stage5_image_compiler.proofs.grammar_of.Reads as grammar-of-reads
+use Rattle.stage5_image_compiler.proofs.write_if_fits.Reads as write-if-fits-reads
+
+check-types-requires : tie.Need-check-types-requires
+check-types-requires c κs = let w = c .before .pre in sheet-expression (w .0) _ _ (w .1)
+
+enum-known-fault : tie.Need-enum-known-fault
+enum-known-fault c = search needs
+
+cast-at : tie.Need-cast-at
+cast-at c = search needs
+
+mul-place : tie.Need-mul-place
+mul-place c = search needs
+
+element-copy-out-place : tie.Need-element-copy-out-place
+element-copy-out-place c =
+    let w = c .before .before .before .before .before .pre in
+    let k = c .before .before .before .check-types in
+    fault-entry (w .0) _ _ (w .1) (k .result) (k .ensures) (c .before .fault .given .1)
+
+cast-place : tie.Need-cast-place
+cast-place c = search needs
+
+enum-told : tie.Need-enum-told
+enum-told c = search needs
+
+grammar-of-requires : tie.Need-grammar-of-requires
+grammar-of-requires c κs =
+    let w = c .before .before .before .before .pre in
+    let k = c .before .before .check-types in
+    links-most (w .0) _ _ (w .1) (k .result) (k .ensures)
+
+write-if-fits-requires : tie.Need-write-if-fits-requires
+write-if-fits-requires c κs =
+    let w = c .before .before .before .before .before .before .pre in
+    let k = c .before .before .before .before .check-types in
+    let right = no-fault (w .0) _ _ (w .1) (k .result) (k .ensures) (c .before .before .enum-told .given .1) in
+    (w .0 .sheet, record { grammar = c .before .grammar-of .ensures (w .0) _ (w .1) (k .ensures) right; held = w .2 })
+
+returns : tie.Need-returns
+returns c =
+    let z = c .before .before .before .before .before .before in
+    let k = c .before .before .before .before .check-types in
+    λ d s p. ends-untyped d (z .args .rules) (z .args .t1) s (k .result) (k .ensures) _ (now (z .args .image)) (c .before .before .fault .given .1)
+
+same-length : tie.Need-same-length
+same-length c = search needs
+
+returns-2 : tie.Need-returns-2
+returns-2 c =
+    let z = c .before .before .before .before .before .before .before .before .before in
+    let k = c .before .before .before .before .before .before .before .check-types in
+    λ d s p.
+    let right = no-fault d (z .args .rules) (z .args .t1) s (k .result) (k .ensures) (c .before .before .before .before .before .enum-told .given .1) in
+    let grammar = c .before .before .before .before .grammar-of .ensures d _ s (k .ensures) right in
+    ends-typed d (z .args .rules) (z .args .t1) s (length (now (z .args .image))) right (c .before .before .write-if-fits .ensures (d .sheet) (record { grammar = grammar; held = p }))
+
+pub check-expression-spec : {M : Type 1} → statement M
+check-expression-spec =
+    tie.close
+    (tie.spec
+    check-types-requires
+    enum-known-fault
+    cast-at
+    mul-place
+    element-copy-out-place
+    cast-place
+    enum-told
+    grammar-of-requires
+    write-if-fits-requires
+    returns
+    same-length
+    returns-2)
