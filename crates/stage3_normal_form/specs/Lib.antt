@@ -19,5 +19,8 @@ pub mod Tails
 pub mod Examples
 pub mod TypesExact
 pub mod Expansion
+pub mod LinkRanges
 pub mod RightParts
 pub mod ProductionWalk
+pub mod ProductionWalkLaws
+pub mod WalkExamples

@@ -19,7 +19,9 @@ use Rattle.stage3_normal_form.specs.Productions.{Production, row-of}
 use Rattle.stage3_normal_form.specs.Derives.{derives-at, derives}
 use Rattle.stage3_normal_form.specs.NormalForm.{normal-form}
 use Rattle.stage3_normal_form.specs.Places.{node-at}
-use Rattle.stage3_normal_form.specs.ProductionWalk.{walk-step, walk, walk-of, with-head, walk-finds, walk-short, first-has-not, LinksBelow, links-below}
+use Rattle.stage3_normal_form.specs.ProductionWalk.{walk-step, walk, walk-of, with-head}
+use Rattle.stage3_normal_form.specs.ProductionWalkLaws.{walk-finds, walk-short, first-has-not}
+use Rattle.stage3_normal_form.specs.LinkRanges.{LinksBelow, links-below}
 use Rattle.stage5_image.specs.Fusion.{production-of}
 use Rattle.stage3_normal_form_walk.specs.Columns.{ColumnsOf, tail-held, production-held}
 use Rattle.stage3_normal_form_walk.specs.ColumnLaws.{beginning-is-production}

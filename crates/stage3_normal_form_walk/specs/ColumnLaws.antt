@@ -25,7 +25,8 @@ use Rattle.stage3_normal_form.specs.Productions.{Production, row-of}
 use Rattle.stage3_normal_form.specs.Derives.{derives}
 use Rattle.stage3_normal_form.specs.NormalForm.{normal-form}
 use Rattle.stage3_normal_form.specs.Tails.{most-tail, tails-at-most, normal-form-in-range}
-use Rattle.stage3_normal_form.specs.ProductionWalk.{beginning-with, Found, beginning-found}
+use Rattle.stage3_normal_form.specs.ProductionWalk.{beginning-with}
+use Rattle.stage3_normal_form.specs.ProductionWalkLaws.{Found, beginning-found}
 use Rattle.stage5_image.specs.Fusion.{production-of}
 use Rattle.stage3_normal_form.specs.Places.{node-at, nodes-count}
 use Rattle.stage3_normal_form_walk.specs.Columns.{SetOf, ColumnsOf, tail-held, production-held}
