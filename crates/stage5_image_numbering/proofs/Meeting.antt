@@ -70,13 +70,13 @@ module _ (c : Numbering) (met : List ℕ) (h : Numbers c met) (n : ℕ) (small :
         numbers = λ m b. elim (ℕ-discrete m n) [
           | yes e ↦ subst (λ (z : ℕ). getD (set (c .number) n (c .count)) z 0 ≡ cond (is-met z (met ++ (n ∷ []))) (number-of (met ++ (n ∷ [])) z) 64) (sym e)
               (getD-set-same (c .number) n (c .count) 0 inside ∙ h .count ∙ sym (number-last n met (not-met l))
-              ∙ sym (ap (λ (k : Bool). cond k (number-of (met ++ (n ∷ [])) n) 64) (met-here (is-met n met))))
+              ∙ sym (ap (λ (k : Bool). cond k (number-of (met ++ (n ∷ [])) n) 64) met-here))
           | no e ↦ getD-set-other (c .number) n m (c .count) 0 e ∙ h .numbers m b ∙ other m (λ q. e (sym q)) (is-met m met) refl
         ];
       })
     where
-      met-here : (b : Bool) → is-met n (met ++ (n ∷ [])) ≡ true
-      met-here b = met-last n n met ∙ ap (λ (k : Bool). is-met n met || k) (eq-eqb n n refl) ∙ or-true (is-met n met)
+      met-here : is-met n (met ++ (n ∷ [])) ≡ true
+      met-here = met-last n n met ∙ ap (λ (k : Bool). is-met n met || k) (eq-eqb n n refl) ∙ or-true (is-met n met)
         where
           or-true : (b : Bool) → (b || true) ≡ true
           or-true true = refl

@@ -48,7 +48,7 @@ pub counted-more : (rules : List Rule) (e : Expression) (node r count : ℕ) (t 
     → count ≡ length (concat-below (entries rules e node) r)
     → cond (t .found) (count + 1) count ≡ length (concat-below (entries rules e node) (r + 1))
 counted-more rules e node r count t found so-far =
-    let one = one-entry (t .found) ∙ ap (λ (o : Option (List ℕ)). length (rule-part (λ p. 0 ∷ []) r o)) found in
+    let one = one-entry ∙ ap (λ (o : Option (List ℕ)). length (rule-part (λ p. 0 ∷ []) r o)) found in
     more (t .found) (length (entries rules e node r)) one ∙ ap (λ (k : ℕ). k + length (entries rules e node r)) so-far
     ∙ sym (length-append (concat-below (entries rules e node) r) (entries rules e node r)) ∙ last
     ∙ ap (λ (k : ℕ). length (concat-below (entries rules e node) k)) (sym (add-one r))
@@ -56,8 +56,8 @@ counted-more rules e node r count t found so-far =
     last : length (concat-below (entries rules e node) r ++ entries rules e node r) ≡ length (concat-below (entries rules e node) (suc r))
     last = unfold concat-below in refl
 
-    one-entry : (b : Bool) → cond (t .found) 1 0 ≡ length (rule-part (λ p. 0 ∷ []) r (tail-held t))
-    one-entry b = unfold tail-held rule-part in cases (t .found)
+    one-entry : cond (t .found) 1 0 ≡ length (rule-part (λ p. 0 ∷ []) r (tail-held t))
+    one-entry = unfold tail-held rule-part in cases (t .found)
       where
         cases : (b : Bool) → cond b 1 0 ≡ length {A = ℕ} (rule-part (λ p. 0 ∷ []) r (cond b (some (take (t .count) (t .members))) none))
         cases true = unfold rule-part in refl
