@@ -63,8 +63,12 @@ module _ (c : Numbering) (met : List ℕ) (h : Numbers c met) (n : ℕ) (small :
 
   pub joined : 64 ≤ getD (c .number) n 0 → c .count < length (c .met) → n < length (c .number)
       → Numbers (record { count = c .count + 1; met = set (c .met) (c .count) n; number = set (c .number) n (c .count) }) (meet met n)
-  joined l room inside = subst (Numbers (record { count = c .count + 1; met = set (c .met) (c .count) n; number = set (c .number) n
-      (c .count) }))
+  joined l room inside = subst (Numbers (record {
+    count = c .count + 1;
+    met = set (c .met) (c .count) n;
+    number = set (c .number) n
+        (c .count);
+  }))
       (sym (meet-new (not-met l))) (record {
         count = let a = length-append met (n ∷ []) in let b = h .count in omega arith;
         nodes = rw add-one (take-suc-set (c .met) (c .count) n room ∙ ap (λ (k : List ℕ). k ++ (n ∷ [])) (h .nodes));
@@ -107,7 +111,7 @@ meet-one met n = refl
 pub meet-last : (met l : List ℕ) (i : ℕ) → i < length l → meet-all met (take (i + 1) l) ≡ meet (meet-all met (take i l)) (getD l i 0)
 meet-last met l i b =
     rw add-one (ap (meet-all met) (take-suc l i 0 b) ∙ meet-all-append met (take i l) (getD l i 0 ∷ [])
-        ∙ meet-one (meet-all met (take i l)) (getD l i 0))
+    ∙ meet-one (meet-all met (take i l)) (getD l i 0))
 
 -- The members of a tail, in so many turns: `done` of the list `whole` have joined.
 abbrev pub TailMet : Numbering → Numbering → List ℕ → List ℕ → Type 0
@@ -121,7 +125,7 @@ tail-start c whole met h all few = h
 pub tail-next : (c d e : Numbering) (members : List ℕ) (count i : ℕ) → i < count → count ≤ length members
     → TailMet c d (take count members) (take i members)
     → ((met : List ℕ) → Numbers d met → getD members i 0 < 64 → length (meet met (getD members i 0)) ≤ 64
-        → Numbers e (meet met (getD members i 0)))
+    → Numbers e (meet met (getD members i 0)))
     → TailMet c e (take count members) (take (i + 1) members)
 tail-next c d e members count i l b so-far one met h all few =
     let whole = take count members in
@@ -152,7 +156,7 @@ pub tail-all : (c d : Numbering) (t : Tail) (i : ℕ) → not (t .found) ≡ fal
 tail-all c d t i e a b so-far =
     let same : i ≡ t .count = omega arith in
     rw (found-members t (not-false (t .found) e)) (subst (λ (k : ℕ). TailMet c d (take (t .count) (t .members)) (take k
-        (t .members))) same so-far)
+    (t .members))) same so-far)
 
 -- ---- the members of a row
 

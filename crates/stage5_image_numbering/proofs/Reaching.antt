@@ -123,7 +123,7 @@ module _ (g : Grammar) (rules : List Rule) (e : Expression) (h : GrammarOf g rul
     numbers = n;
     rest = unfold reached in
         ap (λ (k : ℕ). meet-rows (fused rules (normal-form e)) k 0 (0 ∷ []))
-            (let s = rows-size g rules e h in let z : size e - 0 ≡ length (fused rules (normal-form e)) = omega arith in z);
+        (let s = rows-size g rules e h in let z : size e - 0 ≡ length (fused rules (normal-form e)) = omega arith in z);
   }
 
   module _ (c : Numbering) (i : ℕ) (w : Walked rules e c i) where

@@ -34,7 +34,7 @@ rule-part g r (some tail) = g (record { head = r; tail = tail })
 module _ (g : Production → List ℕ) (ps : List Production) where
   first-rule-part : (rule : Rule) (rules : List Rule) (r : ℕ)
       → all-numbers g (fused-from (rule ∷ rules) r ps) ≡ rule-part g r (action-tail (rule .action) ps) ++ all-numbers g
-          (fused-from rules (suc r) ps)
+      (fused-from rules (suc r) ps)
   unfolding fused-from rule-part action-tail by-rule
   first-rule-part rule rules r = go (rule .action)
     where

@@ -160,7 +160,7 @@ same-parts : {r r' p p' f f' n n' : ℕ} {a a' b b' d d' : List ℕ} → r ≡ r
     → (1 ∷ r ∷ a) ++ ((p ∷ (b ++ (f ∷ []))) ++ (n ∷ d)) ≡ 1 ∷ r' ∷ (a' ++ (p' ∷ (b' ++ (f' ∷ n' ∷ d'))))
 same-parts {r} {r'} {p} {p'} {f} {f'} {n} {n'} {a} {a'} {b} {b'} {d} {d'} e1 e2 e3 e4 e5 e6 e7 =
     ap (λ (l : List ℕ). 1 ∷ r ∷ (a ++ (p ∷ l))) (append-assoc b (f ∷ []) (n ∷ d)) ∙ (let z : 1 ∷ r ∷ (a ++ (p ∷ (b ++
-        (f ∷ n ∷ d)))) ≡ 1 ∷ r' ∷ (a' ++ (p' ∷ (b' ++ (f' ∷ n' ∷ d')))) = cc in z)
+    (f ∷ n ∷ d)))) ≡ 1 ∷ r' ∷ (a' ++ (p' ∷ (b' ++ (f' ∷ n' ∷ d')))) = cc in z)
 
 module _ (g : Grammar) (p : PositionColumns) (c : Numbering) (s : Sheet) (h : PartsOf g p c s) where
   parts-numbers : rules-part g ++ (positions-part p ++ rows-part c (s .rules) (s .expression)) ≡ image-numbers (image-of s)
@@ -170,7 +170,7 @@ module _ (g : Grammar) (p : PositionColumns) (c : Numbering) (s : Sheet) (h : Pa
       (positions-count p (positions (s .rules)) (h .positions-held)) (places-are p (positions (s .rules)) (h .positions-held))
       (h .first-held)
       (rows-count g (s .rules) (s .expression) (h .grammar) c (h .numbers)) (rows-numbers g (s .rules) (s .expression) (h .grammar) c
-          (h .numbers))
+      (h .numbers))
 
   pub image-emitted : {a b d f : List ℕ} {at v n m : ℕ} → Emitted a b at v (rules-part g) → Emitted b d v n (positions-part p)
       → Emitted d f n m (rows-part c (s .rules) (s .expression)) → Emitted a f at m (image-numbers (image-of s))

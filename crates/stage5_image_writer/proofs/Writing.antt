@@ -66,7 +66,7 @@ pub position-emitted : {a b : List ℕ} {at n : ℕ} (p : PositionColumns) (i : 
 unfolding position-part held-position
 position-emitted {a} {b} {at} {n} p i last e x =
     subst (λ (l : Bool). Emitted a b at n (getD (p .low) i 0 ∷ getD (p .high) i 0 ∷ getD (p .rule) i 0 ∷ flag l ∷ getD
-        (p .follow) i 0 ∷ [])) e x
+    (p .follow) i 0 ∷ [])) e x
 
 pub positions-emitted : {a b c d : List ℕ} {at v n m : ℕ} (p : PositionColumns) → Emitted a b at v (p .count ∷ [])
     → Emitted b c v n (concat-below (position-part p) (p .count)) → Emitted c d n m (p .first ∷ []) → Emitted a d at m (positions-part p)

@@ -29,8 +29,12 @@ number-width-requires : tie.Need-number-width-requires
 number-width-requires c κs = search needs
 
 add-result-2 : tie.Need-add-result-2
-add-result-2 c = let z = c .before .before .before .before .before .before .before in omega (arith, c .number-width .ensures,
-    encode-ten (z .args .n), z .pre)
+add-result-2 c = let z = c .before .before .before .before .before .before .before in omega (
+  arith,
+  c .number-width .ensures,
+  encode-ten (z .args .n),
+  z .pre,
+)
 
 same-length-2 : tie.Need-same-length-2
 same-length-2 c = search needs

@@ -31,13 +31,25 @@ loop-holds : tie.Need-loop-holds Inv-loop μ-loop
 loop-holds c = (omega arith, omega arith, refl, λ rs e h inside. nothing-yet _ _ _)
 
 node-at-requires : tie.Need-node-at-requires Inv-loop μ-loop
-node-at-requires c κs = let l = c .before .loop in omega (arith, c .loop-test .taken,
-    c .before .before .before .before .before .before .before .pre .2)
+node-at-requires c κs = let l = c .before .loop in omega (
+  arith,
+  c .loop-test .taken,
+  c .before .before .before .before .before .before .before .pre .2,
+)
 
 emit-row-requires : tie.Need-emit-row-requires Inv-loop μ-loop
 emit-row-requires c κs = let l = c .before .before .before .loop in let z = c .before .before .before .before .before .before
-    .before .before .before in (omega (arith, l .inv .0, l .inv .1, c .before .before .before .before .before .before .emit .ensures .0,
-    z .pre .0, z .pre .2), z .pre .1)
+    .before .before .before in (
+      omega (
+        arith,
+        l .inv .0,
+        l .inv .1,
+        c .before .before .before .before .before .before .emit .ensures .0,
+        z .pre .0,
+        z .pre .2,
+      ),
+      z .pre .1,
+    )
 
 add-i : tie.Need-add-i Inv-loop μ-loop
 add-i c = search needs
