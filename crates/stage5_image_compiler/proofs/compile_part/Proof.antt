@@ -5,7 +5,7 @@ use denote.Ref.{now}
 use lib.ListN.{length}
 use lib.Seq.{length-take-le}
 use Rattle.stage5_image.specs.Compile as page
-use Rattle.stage5_image_compiler.proofs.Parts.{written-front, numbers-done, part-too-long, part-refused}
+use Rattle.stage5_image_compiler.proofs.Parts.{part-done, part-too-long, part-refused}
 use Rattle.stage5_image_compiler.proofs.compile_part.Statement.{statement}
 use Rattle.stage5_image_compiler.proofs.compile_part.Tie as tie
 
@@ -26,7 +26,7 @@ slice-aggregate-result c =
     let z = called .before .before .before .before .before .before in
     let r = called .compile in
     let e = sym (r .ensures .3) ∙ told .compiled .given .1 in
-    sym (length-take-le _ (r .last .1 .1 .0) (written-front (made z) (now (z .args .image)) (r .last .1 .1 .0) e (r .ensures .1) .0))
+    sym (length-take-le _ (r .last .1 .1 .0) (part-done (made z) (now (z .args .image)) (r .last .1 .1 .0) e (r .ensures .1) .0))
 
 enum-known-compiled-2 : tie.Need-enum-known-compiled-2
 enum-known-compiled-2 c = search needs
@@ -53,7 +53,7 @@ returns c =
     let z = called .before .before .before .before .before .before in
     let r = called .compile in
     let e = sym (r .ensures .3) ∙ told .compiled .given .1 in
-    (written-front (made z) (now (z .args .image)) (r .last .1 .1 .0) e (r .ensures .1) .1, numbers-done (made z) e, r .ensures .2)
+    let p = part-done (made z) (now (z .args .image)) (r .last .1 .1 .0) e (r .ensures .1) in (p .1, p .2, r .ensures .2)
 
 same-length-2 : tie.Need-same-length-2
 same-length-2 c = search needs

@@ -35,8 +35,8 @@ returns-2 : tie.Need-returns-2
 returns-2 c =
     let r = c .before .before .before .read-sheet in
     let asked = c .before .before .before .before in
-    let z = asked .before .before .before in
-    ends-unreadable (now (z .args .sheet)) (asked .if1 .left) (r .result) (r .ensures) _ (now (z .args .image)) (c .before .outcome .given .1)
+    let z = asked .before .before .before .args in
+    ends-unreadable (now (z .sheet)) (asked .if1 .left) (r .result) (r .ensures) _ (now (z .image)) (c .before .outcome .given .1)
 
 same-length : tie.Need-same-length
 same-length c = search needs
