@@ -21,7 +21,6 @@ pub mod TypesExact
 pub mod Expansion
 pub mod LinkRanges
 pub mod RightParts
-pub mod LinkRanges
 pub mod ProductionWalk
 pub mod ProductionWalkLaws
 pub mod WalkExamples
