@@ -10,7 +10,6 @@ use stage7_engine::Line;
 use stage7_engine::TextRead;
 ghost use Prim.Native.Nat.{_≤_};
 ghost use lib.ListN.{length};
-ghost use Rattle.io.specs.Counts.{Counts};
 
 const PATTERN: u8 = 165;
 
@@ -155,6 +154,18 @@ fn run_case(text: &[u8], at: usize)
     );
 }
 
+// A text one byte too long for running, by no image.
+fn run_too_long(input: &[u8; 1048577]) {
+    let mut stack = [PATTERN; STACK];
+    run_with(b"", input, STACK, &mut stack);
+}
+
+// The longest text that running takes, by no image, which is the refusal then.
+fn run_longest(input: &[u8; 1048576]) {
+    let mut stack = [PATTERN; STACK];
+    run_with(b"", input, STACK, &mut stack);
+}
+
 // Has the engine read a text by a sheet, with as much room as the program lends.
 fn read_with(sheet: &[u8], input: &[u8], limit: usize) -> TextRead {
     let mut work = [0u8; 65536];
@@ -251,5 +262,7 @@ fn main() {
     show_file(Kind::Compile, b"compile");
     show_file(Kind::Read, b"read");
     show_file(Kind::Run, b"run");
+    run_too_long(&[0u8; 1048577]);
+    run_longest(&[0u8; 1048576]);
     show_file(Kind::Program, b"program");
 }
