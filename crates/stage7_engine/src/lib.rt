@@ -54,7 +54,7 @@ pub fn read_text(
 }
 
 // The line for what was read.
-pub fn line(read: TextRead) -> Line
+pub fn line_for(read: TextRead) -> Line
     ensures { λ r. ⌜ r ≡ line-of (told read) ⌝ }
 {
     match read {

@@ -5,7 +5,10 @@ use Prim.Native.Nat.{ℕ, _≤_, _<_}
 use native.Mathlib.Omega.{arith}
 use lib.ListN.{length, drop, set}
 use borrow.Author.Tests.{lt-ltb, le-ltb}
-use Rattle.vinzagew.specs.Out.{out-after, if-room}
+use Rattle.stage5_image_compiler.specs.Answer.{answer-of}
+use Rattle.stage5_image_compiler.specs.declared.Compiled.{Compiled}
+use Rattle.stage5_image_compiler.specs.declared.Compiled.the-variants.{Done, TooLong, Refused}
+use Rattle.vinzagew.specs.Out.{numbers-held, out-after, if-room}
 
 three-stored : (l : List ℕ) (a b c : ℕ) → 3 ≤ length l → set (set (set l 0 a) 1 b) 2 c ≡ a ∷ b ∷ c ∷ drop 3 l
 three-stored [] a b c h = absurd (omega arith)
@@ -30,3 +33,17 @@ module _ (out : List ℕ) where
   pub after-long : (after buffer : List ℕ) → 3 ≤ length out → after ≡ if-room out after buffer
   unfolding if-room
   after-long after buffer h = rw (le-ltb (length out) 3 h)
+
+-- The numbers of each case.
+pub held-done : (made : Compiled) (written : ℕ) → made ≡ Done written → numbers-held (record { number = 0; place = 0; length = written }) ≡ answer-of made
+unfolding numbers-held answer-of
+held-done made written e = rw e
+
+pub held-long : (made : Compiled) (needed : ℕ) → made ≡ TooLong needed → numbers-held (record { number = 11; place = 0; length = needed }) ≡ answer-of made
+unfolding numbers-held answer-of
+held-long made needed e = rw e
+
+pub held-refused : (made : Compiled) (number place : ℕ) → made ≡ Refused number place
+    → numbers-held (record { number = number; place = place; length = 0 }) ≡ answer-of made
+unfolding numbers-held answer-of
+held-refused made number place e = rw e

@@ -55,5 +55,5 @@ fn main() {
         &mut image,
         &mut stack,
     );
-    print_line(stage7_engine::line(read));
+    print_line(stage7_engine::line_for(read));
 }

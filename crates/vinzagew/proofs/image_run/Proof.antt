@@ -58,9 +58,10 @@ unfolding answer-of run-numbers
 returns-2 c =
     let z = c .before .before .before .before .before .before .before .before .before .before .args in
     let long = c .before .before .before .before .before .if1 .left in
-    let e = c .before .before .before .run .ensures in
-    (out-long (z .out .now) _ _ _ (ap run-numbers (e .0)) long,
-    e .1 ∙ ap (λ (a : Answer). stack-after a (z .stack .now)) (e .0) ∙ after-long (z .out .now) _ (z .stack .now) long)
+    let e = c .before .before .before .run .ensures in (
+      out-long (z .out .now) _ _ _ (ap run-numbers (e .0)) long,
+      e .1 ∙ ap (λ (a : Answer). stack-after a (z .stack .now)) (e .0) ∙ after-long (z .out .now) _ (z .stack .now) long,
+    )
 
 pub image-run-spec : {M : Type 1} → statement M
 image-run-spec =

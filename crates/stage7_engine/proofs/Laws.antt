@@ -1,0 +1,118 @@
+-- One law for each way through the engine: what is told, what the stack holds, and that it is the sheet's own answer.
+use mathlib.Core.Path.{_≡_, refl, sym, ap, subst, _∙_}
+use mathlib.Core.Bool.{Bool, true, false, cond}
+use mathlib.Core.List.{List, _++_}
+use Prim.Native.Nat.{ℕ, _≤_, _<_}
+use native.Mathlib.Omega.{arith}
+use lib.ListN.{length, take, drop}
+use borrow.Author.Tests.{lt-ltb, le-ltb, eq-eqb, ne-eqb}
+use Rattle.stage1_sheet.specs.Sheet.{Sheet}
+use Rattle.stage1_sheet.specs.FieldLaws.{Bytes}
+use Rattle.stage5_image.specs.Compile.{refused, too-long, compiled, compile, image-after}
+use Rattle.stage5_image.specs.Compile as page
+use Rattle.stage5_image.specs.CompileLaws.{Acceptable, acceptable-compiles, compiled-fits}
+use Rattle.stage5_image.specs.BufferLaws.{image-written}
+use Rattle.stage5_image_compiler.specs.Answer.{case-of}
+use Rattle.stage5_image_compiler.specs.declared.Compiled.{Compiled}
+use Rattle.stage5_image_compiler.specs.declared.Compiled.the-variants.{Done, TooLong, Refused}
+use Rattle.stage6_machine.specs.Answer.{Answer, answer}
+use Rattle.stage6_machine.specs.Run.{run, stack-after}
+use Rattle.stage7_demands.specs.Proofs.{demand-3}
+use Rattle.stage7_demands.specs.Demands.{Demand3}
+use Rattle.stage6_machine_runner.specs.Steps.{answer-of}
+use Rattle.stage6_machine_runner.specs.declared.RunAnswer.{RunAnswer}
+use Rattle.stage7_engine.specs.declared.TextRead.{TextRead}
+use Rattle.stage7_engine.specs.declared.TextRead.the-variants as read
+use Rattle.stage7_engine.specs.declared.Line.the-variants as printed
+use Rattle.stage7_engine.specs.Reading.{told, text-line, line-of}
+use Rattle.stage7_engine.specs.Reading.{Told, sheet-refused, text-answered, answer-within, reading, stack-after-reading, OwnReading}
+
+-- The case of compiling's answer tells how compiling ended.
+pub case-refused : (m : page.Compiled) (number place : ℕ) → case-of m ≡ Refused number place → m ≡ refused number place
+unfolding case-of
+case-refused (refused n p) number place e = let a : n ≡ number = cc in let b : p ≡ place = cc in cc
+case-refused (too-long n) number place e = let z : _≡_ {A = ℕ} 0 1 = cc in absurd (omega arith)
+case-refused (compiled image) number place e = let z : _≡_ {A = ℕ} 0 1 = cc in absurd (omega arith)
+
+pub case-long : (m : page.Compiled) (needed : ℕ) → case-of m ≡ TooLong needed → m ≡ too-long needed
+unfolding case-of
+case-long (refused n p) needed e = let z : _≡_ {A = ℕ} 0 1 = cc in absurd (omega arith)
+case-long (too-long n) needed e = let a : n ≡ needed = cc in cc
+case-long (compiled image) needed e = let z : _≡_ {A = ℕ} 0 1 = cc in absurd (omega arith)
+
+pub case-done : (m : page.Compiled) (size : ℕ) → case-of m ≡ Done size → (image : List ℕ) × (m ≡ compiled image) × (size ≡ length image)
+unfolding case-of
+case-done (refused n p) size e = let z : _≡_ {A = ℕ} 0 1 = cc in absurd (omega arith)
+case-done (too-long n) size e = let z : _≡_ {A = ℕ} 0 1 = cc in absurd (omega arith)
+case-done (compiled image) size e = (image, refl, (let a : length image ≡ size = cc in sym a))
+
+module _ (limit : ℕ) (sheet text : List ℕ) (work room : ℕ) where
+  -- A sheet that was refused is not acceptable.
+  not-compiled : {X : Type 0} (s : Sheet) → Acceptable sheet room s → page.work-bytes ≤ work → (m : page.Compiled) → compile sheet work room ≡ m
+      → ((image : List ℕ) → m ≡ compiled image → ⊥) → X
+  not-compiled s a w m e f = absurd (f _ (sym e ∙ acceptable-compiles sheet work room s w a))
+
+  pub own-refused : (entries number place : ℕ) → compile sheet work room ≡ refused number place
+      → OwnReading limit sheet text work room entries (sheet-refused number place)
+  own-refused entries number place e = record {
+    own-answer = λ s a w l m k. not-compiled s a w (refused number place) e (λ image f. let z : _≡_ {A = ℕ} 0 1 = cc in omega arith);
+  }
+
+  pub own-long : (entries needed : ℕ) → compile sheet work room ≡ too-long needed → OwnReading limit sheet text work room entries (sheet-refused 11 0)
+  own-long entries needed e = record {
+    own-answer = λ s a w l m k. not-compiled s a w (too-long needed) e (λ image f. let z : _≡_ {A = ℕ} 0 1 = cc in omega arith);
+  }
+
+  -- A text over the limit is not spoken of.
+  pub own-over : (entries : ℕ) (t : Told) → limit < length text → OwnReading limit sheet text work room entries t
+  own-over entries t h = record { own-answer = λ s a w l m k. absurd (omega arith) }
+
+  -- The image was run: demand 3.
+  pub own-run : (entries : ℕ) (image : List ℕ) → Bytes sheet → compile sheet work room ≡ compiled image
+      → OwnReading limit sheet text work room entries (text-answered (run image text entries))
+  own-run entries image bytes e = record {
+    own-answer = λ s a w l m k. (run image text entries, demand-3 .own-answer sheet bytes work room image e s (a .well-formed) text entries m k, refl);
+  }
+
+-- What is told and what the stack holds, by cases.
+module _ (limit : ℕ) (text stack : List ℕ) {m : page.Compiled} where
+  pub told-refused : (entries number place : ℕ) → m ≡ refused number place
+      → (sheet-refused number place ≡ reading limit m text entries) × (stack ≡ stack-after-reading limit m text stack)
+  unfolding reading stack-after-reading
+  told-refused entries number place e = rw e (refl, refl)
+
+  pub told-long : (entries needed : ℕ) → m ≡ too-long needed
+      → (sheet-refused 11 0 ≡ reading limit m text entries) × (stack ≡ stack-after-reading limit m text stack)
+  unfolding reading stack-after-reading
+  told-long entries needed e = rw e (refl, refl)
+
+  pub told-over : (entries : ℕ) (image : List ℕ) → m ≡ compiled image → limit < length text
+      → (text-answered (answer 12 0 0) ≡ reading limit m text entries) × (stack ≡ stack-after-reading limit m text stack)
+  unfolding reading stack-after-reading answer-within
+  told-over entries image e h = rw (e, lt-ltb limit (length text) h) (refl, refl)
+
+  pub told-run : (image : List ℕ) (a : Answer) (exit : List ℕ) → m ≡ compiled image → length text ≤ limit → a ≡ run image text (length stack)
+      → exit ≡ stack-after a stack
+      → (text-answered a ≡ reading limit m text (length stack)) × (exit ≡ stack-after-reading limit m text stack)
+  unfolding reading stack-after-reading answer-within
+  told-run image a exit e h f g =
+      rw (e, le-ltb limit (length text) h) (ap text-answered f, g ∙ ap (λ (x : Answer). stack-after x stack) f)
+
+-- The part of the image buffer that was written is the image.
+pub written-image : (m : page.Compiled) (image buffer exit : List ℕ) → m ≡ compiled image → exit ≡ image-after m buffer → take (length image) exit ≡ image
+unfolding page.written-part
+written-image m image buffer exit e f = ap (take (length image)) (f ∙ ap (λ (x : page.Compiled). image-after x buffer) e) ∙ image-written image buffer
+
+-- The program's line.
+pub line-sheet : (r : TextRead) (number place : ℕ) → r ≡ read.Sheet number place → printed.Sheet number place ≡ line-of (told r)
+unfolding line-of
+line-sheet r number place e = rw e
+
+module _ (r : TextRead) (a : RunAnswer) (e : r ≡ read.Text a) where
+  pub line-accepted : a .number ≡ 0 → printed.Accepted (a .count) ≡ line-of (told r)
+  unfolding line-of text-line answer-of
+  line-accepted h = rw (e, eq-eqb (a .number) 0 h)
+
+  pub line-refused : (a .number ≡ 0 → ⊥) → printed.Text (a .number) (a .place) ≡ line-of (told r)
+  unfolding line-of text-line answer-of
+  line-refused h = rw (e, ne-eqb (a .number) 0 h)
