@@ -19,6 +19,7 @@ pub mod Tails
 pub mod Examples
 pub mod TypesExact
 pub mod Expansion
+pub mod LinkRanges
 pub mod RightParts
 pub mod LinkRanges
 pub mod ProductionWalk

@@ -1,19 +1,17 @@
 -- One law for each way in which compiling ends, from the last question back to the first. The questions themselves are decided
 -- elsewhere.
-use mathlib.Core.Path.{_≡_, refl, sym, ap, subst, _∙_}
-use mathlib.Core.Bool.{cond}
-use mathlib.Core.List.{List, [], _∷_, _++_}
+use mathlib.Core.Path.{_≡_, refl, sym, ap, _∙_}
+use mathlib.Core.List.{List, _++_}
 use mathlib.Core.Option.{none, some}
 use Prim.Native.Nat.{ℕ, _≤_, _<_}
 use native.Mathlib.Omega.{arith}
-use lib.ListN.{length, getD, take, drop, replicate, length-map}
+use lib.ListN.{length, getD, take, drop, length-map}
 use lib.Seq.{getD-take}
-use lib.Dec.{ltb, leb}
 use borrow.Author.Tests.{lt-ltb, le-ltb, le-leb, lt-leb}
 use Rattle.stage0_buffers.specs.Cleared.{cleared, cleared-front}
 use Rattle.stage1_sheet.specs.Limits.{most-sheet-bytes}
 use Rattle.stage1_sheet.specs.Sheet.{Sheet}
-use Rattle.stage1_sheet.specs.Field.{stop, got}
+use Rattle.stage1_sheet.specs.Field.{got}
 use Rattle.stage1_sheet.specs.FieldLaws.{Bytes}
 use Rattle.stage1_sheet.specs.Reading.{Contents, read-sheet}
 use Rattle.stage1_sheet.specs.ReadingLaws.{read-accepted}
@@ -23,7 +21,7 @@ use Rattle.stage1_sheet_reader.specs.Reads.{Reads}
 use Rattle.stage1_sheet_reader.specs.ReadsLaws.{outcome-done, outcome-refused}
 use Rattle.stage1_sheet_reader.specs.declared.SheetColumns.{SheetColumns}
 use Rattle.stage1_sheet_reader.specs.declared.Outcome.the-variants as read
-use Rattle.stage2_types.specs.Questions.{Fault, type-fault}
+use Rattle.stage2_types.specs.Questions.{type-fault}
 use Rattle.stage2_types.specs.QuestionLaws.{type-fault-first}
 use Rattle.stage2_types_columns.specs.Linked.{SheetExpression}
 use Rattle.stage2_types_checker.specs.Checking.{CheckedOf}
@@ -40,11 +38,12 @@ use Rattle.stage4_lexer_sets.specs.Laws.{found-below, nothing-found}
 use Rattle.stage4_lexer_sets.specs.declared.RulePositions.{RulePositions}
 use Rattle.stage4_lexer_sets.specs.declared.EmptyRule.the-variants as sets
 use Rattle.stage5_image.specs.Compile as page
-use Rattle.stage5_image.specs.Compile.{work-bytes, fitted, after-types, after-rules, after-reading, compile, compile-answer, image-after, work-after}
+use Rattle.stage5_image.specs.Compile.{work-bytes, fitted, after-types, after-rules, after-reading, compile}
+use Rattle.stage5_image.specs.Compile.{compile-answer, image-after, work-after}
 use Rattle.stage5_image.specs.Fusion.{fused}
 use Rattle.stage5_image.specs.Image.{image-of, image-bytes}
 use Rattle.stage5_image.specs.Numbering.{reached}
-use Rattle.stage5_image_numbering.specs.Grammar.{GrammarOf, Numbers}
+use Rattle.stage5_image_numbering.specs.Grammar.{Numbers}
 use Rattle.stage5_image_numbering.specs.declared.Grammar.{Grammar}
 use Rattle.stage5_image_numbering.specs.declared.Numbering.{Numbering}
 use Rattle.stage5_image_writer.specs.Parts.{PartsOf}
@@ -57,7 +56,12 @@ use Rattle.stage5_image_compiler.specs.declared.Compiled.the-variants.{D
 
 pub parts-of : (s : Sheet) (g : Grammar) (p : PositionColumns) (n : Numbering) → Accepted s g p
     → Numbers n (reached (fused (s .rules) (normal-form (s .expression)))) → PartsOf g p n s
-parts-of s g p n a m = record { grammar = a .grammar; positions-held = a .held .positions-held; first-held = a .held .first-held; numbers = m }
+parts-of s g p n a m = record {
+  grammar = a .grammar;
+  positions-held = a .held .positions-held;
+  first-held = a .held .first-held;
+  numbers = m;
+}
 
 pub rules-most : (s : Sheet) (g : Grammar) (p : PositionColumns) → Accepted s g p → g .rules ≤ 32
 rules-most s g p a = omega (arith, a .grammar .rule-count, a .grammar .rules-most)
@@ -88,7 +92,8 @@ place-held : (column : List ℕ) {places : List ℕ} (count i : ℕ) → take co
 place-held column count i e h = sym (getD-take count column i 0 h) ∙ ap (λ (l : List ℕ). getD l i 0) e
 
 -- A refusal leaves the image buffer.
-ends-refused : {number place other : ℕ} (buffer : List ℕ) → place ≡ other → Ends (page.refused number other) (Refused number place) buffer buffer
+ends-refused : {number place other : ℕ} (buffer : List ℕ) → place ≡ other
+    → Ends (page.refused number other) (Refused number place) buffer buffer
 unfolding case-of image-after
 ends-refused {number} buffer e = record { answer = ap (Refused number) e; image = refl }
 
@@ -107,7 +112,8 @@ module _ (c : Contents) (rules : RuleColumns) (columns : NodeColumns) (s : Sheet
     pub links-most : k .links .count ≤ 64
     links-most = omega (arith, h .links-held .as-many, s .nodes-held .nodes-fit)
 
-    fault-here : {number node : ℕ} → k .fault ≡ At number node → type-fault (c .sheet .expression) ≡ some (record { number = number; node = node })
+    fault-here : {number node : ℕ} → k .fault ≡ At number node
+        → type-fault (c .sheet .expression) ≡ some (record { number = number; node = node })
     unfolding fault-of
     fault-here e = sym (h .fault-found (c .sheet .expression) (c .node-places) (s .nodes-held)) ∙ ap fault-of e
 
@@ -132,7 +138,8 @@ module _ (c : Contents) (rules : RuleColumns) (columns : NodeColumns) (s : Sheet
         → Ends (after-types room c (type-fault (c .sheet .expression))) (Refused number (getD (columns .place) node 0)) buffer buffer
     unfolding after-types
     ends-untyped {number} {node} room buffer e =
-        rw (fault-here e) (ends-refused buffer (place-held (columns .place) (columns .count) node (s .nodes-held .places-held) (fault-inside e)))
+        rw (fault-here e)
+        (ends-refused buffer (place-held (columns .place) (columns .count) node (s .nodes-held .places-held) (fault-inside e)))
 
   pub ends-typed : (room : ℕ) {r : Compiled} {entry exit : List ℕ} → type-fault (c .sheet .expression) ≡ none
       → Ends (fitted room (image-bytes (image-of (c .sheet)))) r entry exit
@@ -142,7 +149,8 @@ module _ (c : Contents) (rules : RuleColumns) (columns : NodeColumns) (s : Sheet
 
   module _ (p : RulePositions) (h : PositionsOf (c .sheet .rules) p) where
     rule-inside : {rule : ℕ} → p .empty ≡ sets.Rule rule → rule < rules .count
-    rule-inside {rule} e = omega (arith, found-below (c .sheet .rules) p rule h e .1, s .rules-held .rules, length-map (c .sheet .rules) (λ r. r .action))
+    rule-inside {rule} e =
+        omega (arith, found-below (c .sheet .rules) p rule h e .1, s .rules-held .rules, length-map (c .sheet .rules) (λ r. r .action))
 
     pub rule-entry : {rule : ℕ} → p .empty ≡ sets.Rule rule → rule < 32
     rule-entry e = omega (arith, rule-inside e, s .rules-held .rules-fit)
@@ -151,7 +159,8 @@ module _ (c : Contents) (rules : RuleColumns) (columns : NodeColumns) (s : Sheet
         → Ends (after-rules room c (empty-match (c .sheet .rules) 0)) (Refused 7 (getD (rules .place) rule 0)) buffer buffer
     unfolding after-rules
     ends-empty {rule} room buffer e =
-        rw (found-below (c .sheet .rules) p rule h e .0) (ends-refused buffer (place-held (rules .place) (rules .count) rule (s .rules-held .places-held) (rule-inside e)))
+        rw (found-below (c .sheet .rules) p rule h e .0)
+        (ends-refused buffer (place-held (rules .place) (rules .count) rule (s .rules-held .places-held) (rule-inside e)))
 
     pub positions-held : p .empty ≡ sets.Nothing → PositionsHeld (c .sheet .rules) (p .columns)
     positions-held e =
@@ -211,7 +220,8 @@ module _ (sheet : List ℕ) where
 
 -- What compiling promises, with the work area that it leaves.
 abbrev pub Promised : page.Compiled → Compiled → List ℕ → List ℕ → List ℕ → List ℕ → Type 0
-Promised m r entry exit work after = (answer-of r ≡ compile-answer m) × (exit ≡ image-after m entry) × (after ≡ work-after work) × (r ≡ case-of m)
+Promised m r entry exit work after =
+    (answer-of r ≡ compile-answer m) × (exit ≡ image-after m entry) × (after ≡ work-after work) × (r ≡ case-of m)
 
 promised : {m : page.Compiled} {r : Compiled} {entry exit after : List ℕ} (work : List ℕ) → Ends m r entry exit → after ≡ work-after work
     → Promised m r entry exit work after

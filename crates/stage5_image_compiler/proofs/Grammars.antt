@@ -5,7 +5,7 @@ use mathlib.Core.Option.{none}
 use Prim.Native.Nat.{ℕ, _<_}
 use native.Mathlib.Nat.{zero-add}
 use native.Mathlib.Omega.{arith}
-use lib.ListN.{length, length-map}
+use lib.ListN.{length-map}
 use Rattle.stage0_laws.specs.Bits.{bit}
 use Rattle.stage1_sheet.specs.Expression.{size}
 use Rattle.stage1_sheet.specs.Reading.{Contents}
@@ -37,7 +37,8 @@ made rules k productive = record {
   productive = productive;
 }
 
-module _ (c : Contents) (rules : RuleColumns) (columns : NodeColumns) (k : Checked) (s : SheetOf c rules columns) (h : CheckedOf columns k) where
+module _ (c : Contents) (rules : RuleColumns) (columns : NodeColumns) (k : Checked) (s : SheetOf c rules columns)
+    (h : CheckedOf columns k) where
   pub linked : held-nodes (k .links) ≡ nodes (c .sheet .expression)
   linked = h .links-held .linked (c .sheet .expression) (c .node-places) (s .nodes-held)
 
@@ -59,7 +60,7 @@ module _ (c : Contents) (rules : RuleColumns) (columns : NodeColumns) (k : Check
         rule-count = s .rules-held .rules ∙ length-map (c .sheet .rules) (λ r. r .action);
         rules-most = w .rules-most;
         actions-held = s .rules-held .actions-held;
-        columns = columns-of (k .links) (k .types) (c .sheet .expression) linked typed (c .sheet .tokens) productive (w .tokens-most) (w .closed)
-            (w .nodes-most) right set;
+        columns = columns-of (k .links) (k .types) (c .sheet .expression) linked typed (c .sheet .tokens) productive (w .tokens-most)
+            (w .closed) (w .nodes-most) right set;
         null-held = null-here;
       }

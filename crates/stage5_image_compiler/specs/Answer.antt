@@ -3,6 +3,7 @@
 use mathlib.Core.Path.{_≡_, refl}
 use mathlib.Core.List.{List, [], _∷_}
 use Prim.Native.Nat.{ℕ}
+use native.Mathlib.Omega.{arith}
 use lib.ListN.{length}
 use Rattle.stage5_image.specs.Compile.{CompileAnswer, compile-answer, image-after}
 use Rattle.stage5_image.specs.Compile as page
@@ -24,6 +25,26 @@ unfoldable pub case-of : page.Compiled → Compiled
 case-of (page.refused number place) = Refused number place
 case-of (page.too-long needed) = TooLong needed
 case-of (page.compiled image) = Done (length image)
+
+-- What a case tells of the way to end.
+pub case-done : (m : page.Compiled) {written : ℕ} → case-of m ≡ Done written
+    → (image : List ℕ) × (m ≡ page.compiled image) × (written ≡ length image)
+unfolding case-of
+case-done (page.refused number place) e = let z : _≡_ {A = ℕ} 0 1 = cc in absurd (omega arith)
+case-done (page.too-long needed) e = let z : _≡_ {A = ℕ} 0 1 = cc in absurd (omega arith)
+case-done (page.compiled image) e = (image, refl, cc)
+
+pub case-too-long : (m : page.Compiled) {needed : ℕ} → case-of m ≡ TooLong needed → m ≡ page.too-long needed
+unfolding case-of
+case-too-long (page.refused number place) e = let z : _≡_ {A = ℕ} 0 1 = cc in absurd (omega arith)
+case-too-long (page.too-long needed) e = cc
+case-too-long (page.compiled image) e = let z : _≡_ {A = ℕ} 0 1 = cc in absurd (omega arith)
+
+pub case-refused : (m : page.Compiled) {number place : ℕ} → case-of m ≡ Refused number place → m ≡ page.refused number place
+unfolding case-of
+case-refused (page.refused number place) e = cc
+case-refused (page.too-long needed) e = let z : _≡_ {A = ℕ} 0 1 = cc in absurd (omega arith)
+case-refused (page.compiled image) e = let z : _≡_ {A = ℕ} 0 1 = cc in absurd (omega arith)
 
 -- A case's answer is that of the way to end.
 pub case-answer : (m : page.Compiled) → answer-of (case-of m) ≡ compile-answer m

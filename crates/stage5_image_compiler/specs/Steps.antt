@@ -42,6 +42,7 @@ unfoldable pub after-work : ℕ → List ℕ → Compiled
 after-work room sheet = cond (ltb most-sheet-bytes (length sheet)) (refused 2 0) (after-reading room (read-sheet sheet))
 
 -- Question 1 comes before it.
-pub work-first : (sheet : List ℕ) (work room : ℕ) → compile sheet work room ≡ cond (ltb work work-bytes) (refused 1 0) (after-work room sheet)
+pub work-first : (sheet : List ℕ) (work room : ℕ)
+    → compile sheet work room ≡ cond (ltb work work-bytes) (refused 1 0) (after-work room sheet)
 unfolding compile after-work
 work-first sheet work room = refl

@@ -9,9 +9,8 @@ use stage4_lexer_columns::PositionColumns;
 use stage4_lexer_sets::EmptyRule;
 use stage5_image_numbering::Grammar;
 ghost use mathlib.Core.Path.{_≡_};
-ghost use mathlib.Core.List.{List, []};
 ghost use mathlib.Core.Option.{none};
-ghost use Prim.Native.Nat.{ℕ, _≤_};
+ghost use Prim.Native.Nat.{_≤_};
 ghost use lib.ListN.{length};
 ghost use Rattle.stage1_sheet.specs.Sheet.{Sheet};
 ghost use Rattle.stage1_sheet.specs.Reading.{Contents};
@@ -85,7 +84,8 @@ fn check_expression(
 ) -> Compiled
     requires { ⌜ ((c : Contents) × SheetOf c rules nodes × PositionsHeld (c .sheet .rules) positions) ⌝ }
     ensures { λ r. ⌜ ((c : Contents) → SheetOf c rules nodes → PositionsHeld (c .sheet .rules) positions
-        → Ends (after-types (length (now (image .entry))) c (type-fault (c .sheet .expression))) r (now (image .entry)) (now (image .exit))) ⌝ }
+        → Ends (after-types (length (now (image .entry))) c (type-fault (c .sheet .expression))) r
+        (now (image .entry)) (now (image .exit))) ⌝ }
 {
     let checked = stage2_types_checker::check_types(nodes);
     let fault = checked.fault;
@@ -106,7 +106,8 @@ fn check_expression(
 fn check_rules(rules: RuleColumns, nodes: NodeColumns, image: &mut [u8]) -> Compiled
     requires { ⌜ ((c : Contents) × SheetOf c rules nodes) ⌝ }
     ensures { λ r. ⌜ ((c : Contents) → SheetOf c rules nodes
-        → Ends (after-rules (length (now (image .entry))) c (empty-match (c .sheet .rules) 0)) r (now (image .entry)) (now (image .exit))) ⌝ }
+        → Ends (after-rules (length (now (image .entry))) c (empty-match (c .sheet .rules) 0)) r
+        (now (image .entry)) (now (image .exit))) ⌝ }
 {
     let found = stage4_lexer_sets::positions_of(rules);
     let empty = found.empty;
@@ -145,8 +146,10 @@ fn compile_sheet(sheet: &[u8], image: &mut [u8]) -> Compiled
 // Compiles a sheet into the image buffer. The work area is asked for and cleared; what compiling keeps is small enough to be held
 // by value.
 pub fn compile(sheet: &[u8], work: &mut [u8], image: &mut [u8]) -> Compiled
-    ensures { λ r. ⌜ (answer-of r ≡ compile-answer (compile (now (sheet .entry)) (length (now (work .entry))) (length (now (image .entry)))))
-        × (now (image .exit) ≡ image-after (compile (now (sheet .entry)) (length (now (work .entry))) (length (now (image .entry)))) (now (image .entry)))
+    ensures { λ r.
+        ⌜ (answer-of r ≡ compile-answer (compile (now (sheet .entry)) (length (now (work .entry))) (length (now (image .entry)))))
+        × (now (image .exit) ≡ image-after
+        (compile (now (sheet .entry)) (length (now (work .entry))) (length (now (image .entry)))) (now (image .entry)))
         × (now (work .exit) ≡ work-after (now (work .entry)))
         × (r ≡ case-of (compile (now (sheet .entry)) (length (now (work .entry))) (length (now (image .entry))))) ⌝ }
 {
@@ -165,8 +168,10 @@ pub fn compile_part<'a>(
     image: &'a mut [u8],
     answer: &mut [usize; 3],
 ) -> &'a mut [u8]
-    ensures { λ r. ⌜ (now r ≡ written-part (compile (now (sheet .entry)) (length (now (work .entry))) (length (now (image .entry)))))
-        × (now (answer .exit) ≡ answer-numbers (compile-answer (compile (now (sheet .entry)) (length (now (work .entry))) (length (now (image .entry))))))
+    ensures { λ r.
+        ⌜ (now r ≡ written-part (compile (now (sheet .entry)) (length (now (work .entry))) (length (now (image .entry)))))
+        × (now (answer .exit) ≡ answer-numbers
+        (compile-answer (compile (now (sheet .entry)) (length (now (work .entry))) (length (now (image .entry))))))
         × (now (work .exit) ≡ work-after (now (work .entry))) ⌝ }
 {
     let compiled = compile(sheet, work, image);

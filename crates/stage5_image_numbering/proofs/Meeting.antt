@@ -63,20 +63,26 @@ module _ (c : Numbering) (met : List ℕ) (h : Numbers c met) (n : ℕ) (small :
 
   pub joined : 64 ≤ getD (c .number) n 0 → c .count < length (c .met) → n < length (c .number)
       → Numbers (record { count = c .count + 1; met = set (c .met) (c .count) n; number = set (c .number) n (c .count) }) (meet met n)
-  joined l room inside = subst (Numbers (record { count = c .count + 1; met = set (c .met) (c .count) n; number = set (c .number) n (c .count) }))
+  joined l room inside = subst (Numbers (record {
+    count = c .count + 1;
+    met = set (c .met) (c .count) n;
+    number = set (c .number) n
+        (c .count);
+  }))
       (sym (meet-new (not-met l))) (record {
         count = let a = length-append met (n ∷ []) in let b = h .count in omega arith;
         nodes = rw add-one (take-suc-set (c .met) (c .count) n room ∙ ap (λ (k : List ℕ). k ++ (n ∷ [])) (h .nodes));
         numbers = λ m b. elim (ℕ-discrete m n) [
-          | yes e ↦ subst (λ (z : ℕ). getD (set (c .number) n (c .count)) z 0 ≡ cond (is-met z (met ++ (n ∷ []))) (number-of (met ++ (n ∷ [])) z) 64) (sym e)
+          | yes e ↦ subst (λ (z : ℕ). getD (set (c .number) n (c .count)) z 0 ≡ cond (is-met z (met ++ (n ∷ []))) (number-of (met ++
+              (n ∷ [])) z) 64) (sym e)
               (getD-set-same (c .number) n (c .count) 0 inside ∙ h .count ∙ sym (number-last n met (not-met l))
-              ∙ sym (ap (λ (k : Bool). cond k (number-of (met ++ (n ∷ [])) n) 64) (met-here (is-met n met))))
+              ∙ sym (ap (λ (k : Bool). cond k (number-of (met ++ (n ∷ [])) n) 64) met-here))
           | no e ↦ getD-set-other (c .number) n m (c .count) 0 e ∙ h .numbers m b ∙ other m (λ q. e (sym q)) (is-met m met) refl
         ];
       })
     where
-      met-here : (b : Bool) → is-met n (met ++ (n ∷ [])) ≡ true
-      met-here b = met-last n n met ∙ ap (λ (k : Bool). is-met n met || k) (eq-eqb n n refl) ∙ or-true (is-met n met)
+      met-here : is-met n (met ++ (n ∷ [])) ≡ true
+      met-here = met-last n n met ∙ ap (λ (k : Bool). is-met n met || k) (eq-eqb n n refl) ∙ or-true (is-met n met)
         where
           or-true : (b : Bool) → (b || true) ≡ true
           or-true true = refl
@@ -104,7 +110,8 @@ meet-one met n = refl
 
 pub meet-last : (met l : List ℕ) (i : ℕ) → i < length l → meet-all met (take (i + 1) l) ≡ meet (meet-all met (take i l)) (getD l i 0)
 meet-last met l i b =
-    rw add-one (ap (meet-all met) (take-suc l i 0 b) ∙ meet-all-append met (take i l) (getD l i 0 ∷ []) ∙ meet-one (meet-all met (take i l)) (getD l i 0))
+    rw add-one (ap (meet-all met) (take-suc l i 0 b) ∙ meet-all-append met (take i l) (getD l i 0 ∷ [])
+    ∙ meet-one (meet-all met (take i l)) (getD l i 0))
 
 -- The members of a tail, in so many turns: `done` of the list `whole` have joined.
 abbrev pub TailMet : Numbering → Numbering → List ℕ → List ℕ → Type 0
@@ -117,7 +124,8 @@ tail-start c whole met h all few = h
 
 pub tail-next : (c d e : Numbering) (members : List ℕ) (count i : ℕ) → i < count → count ≤ length members
     → TailMet c d (take count members) (take i members)
-    → ((met : List ℕ) → Numbers d met → getD members i 0 < 64 → length (meet met (getD members i 0)) ≤ 64 → Numbers e (meet met (getD members i 0)))
+    → ((met : List ℕ) → Numbers d met → getD members i 0 < 64 → length (meet met (getD members i 0)) ≤ 64
+    → Numbers e (meet met (getD members i 0)))
     → TailMet c e (take count members) (take (i + 1) members)
 tail-next c d e members count i l b so-far one met h all few =
     let whole = take count members in
@@ -147,7 +155,8 @@ pub tail-all : (c d : Numbering) (t : Tail) (i : ℕ) → not (t .found) ≡ fal
     → TailMet c d (take (t .count) (t .members)) (take i (t .members)) → TailMet c d (members-of (tail-held t)) (members-of (tail-held t))
 tail-all c d t i e a b so-far =
     let same : i ≡ t .count = omega arith in
-    rw (found-members t (not-false (t .found) e)) (subst (λ (k : ℕ). TailMet c d (take (t .count) (t .members)) (take k (t .members))) same so-far)
+    rw (found-members t (not-false (t .found) e)) (subst (λ (k : ℕ). TailMet c d (take (t .count) (t .members)) (take k
+    (t .members))) same so-far)
 
 -- ---- the members of a row
 
@@ -165,7 +174,8 @@ pub row-start : (c : Numbering) (f : ℕ → List ℕ) (n : ℕ) → RowMet c c 
 unfolding meet-all concat-below
 row-start c f n met h few = h
 
-below-more : (met : List ℕ) (f : ℕ → List ℕ) (n r : ℕ) → r ≤ n → length (meet-all met (concat-below f r)) ≤ length (meet-all met (concat-below f n))
+below-more : (met : List ℕ) (f : ℕ → List ℕ) (n r : ℕ) → r ≤ n → length (meet-all met (concat-below f r)) ≤ length (meet-all met
+    (concat-below f n))
 unfolding concat-below
 below-more met f zero zero h = omega arith
 below-more met f zero (suc r) h = absurd (omega arith)

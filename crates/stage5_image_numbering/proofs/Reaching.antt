@@ -105,7 +105,8 @@ rows-done rows (suc k) i met l =
       | false ↦ met
     ]) (le-ltb i (length met) l)
 
-fused-members : (rules : List Rule) (row : Row) → tail-members ((fused-row rules row) .productions) ≡ tail-members (fused-from rules 0 (row .productions))
+fused-members : (rules : List Rule) (row : Row) → tail-members ((fused-row rules row) .productions) ≡ tail-members (fused-from rules 0
+    (row .productions))
 unfolding fused-row
 fused-members rules row = refl
 
@@ -121,7 +122,8 @@ module _ (g : Grammar) (rules : List Rule) (e : Expression) (h : GrammarOf g rul
     met = 0 ∷ [];
     numbers = n;
     rest = unfold reached in
-        ap (λ (k : ℕ). meet-rows (fused rules (normal-form e)) k 0 (0 ∷ [])) (let s = rows-size g rules e h in let z : size e - 0 ≡ length (fused rules (normal-form e)) = omega arith in z);
+        ap (λ (k : ℕ). meet-rows (fused rules (normal-form e)) k 0 (0 ∷ []))
+        (let s = rows-size g rules e h in let z : size e - 0 ≡ length (fused rules (normal-form e)) = omega arith in z);
   }
 
   module _ (c : Numbering) (i : ℕ) (w : Walked rules e c i) where

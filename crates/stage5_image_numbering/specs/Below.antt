@@ -20,7 +20,8 @@ concat-below-same f g (suc n) h = ap₂ _++_ (concat-below-same f g n (λ k l. h
 
 pub all-numbers-append : {A : Type 0} (g : A → List ℕ) (k l : List A) → all-numbers g (k ++ l) ≡ all-numbers g k ++ all-numbers g l
 all-numbers-append g [] l = refl
-all-numbers-append g (a ∷ k) l = ap (λ (m : List ℕ). g a ++ m) (all-numbers-append g k l) ∙ sym (append-assoc (g a) (all-numbers g k) (all-numbers g l))
+all-numbers-append g (a ∷ k) l = ap (λ (m : List ℕ). g a ++ m) (all-numbers-append g k l) ∙ sym (append-assoc (g a) (all-numbers g k)
+    (all-numbers g l))
 
 -- A loop over the places of a list gives the numbers of all its members.
 pub concat-below-list : {A : Type 0} (f : ℕ → List ℕ) (g : A → List ℕ) (l : List A) (other : A)

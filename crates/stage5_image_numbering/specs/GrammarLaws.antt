@@ -38,7 +38,8 @@ grammar-from rules links types productive = record {
   productive = productive;
 }
 
-null-here : (links : NodeLinks) (types : TypeColumns) (e : Expression) → held-nodes links ≡ nodes e → held-types (links .count) types ≡ least-types e
+null-here : (links : NodeLinks) (types : TypeColumns) (e : Expression) → held-nodes links ≡ nodes e
+    → held-types (links .count) types ≡ least-types e
     → (n : ℕ) → n < size e → bit (types .null) n ≡ (type-of (least-types e) n) .null
 unfolding held-types held-type
 null-here links types e held typed n l =

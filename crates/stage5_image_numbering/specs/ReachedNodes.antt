@@ -21,7 +21,8 @@ use Rattle.stage5_image_numbering.specs.Grammar.{GrammarOf}
 use Rattle.stage5_image_numbering.specs.declared.Grammar.{Grammar}
 
 -- The nodes reached are rows' numbers.
-reached-nodes : (rows : List Row) → TailsInside rows → 0 < length rows → Reached rows (reached rows) → (x : ℕ) → List·Memᴰ x (reached rows) → x < length rows
+reached-nodes : (rows : List Row) → TailsInside rows → 0 < length rows → Reached rows (reached rows) → (x : ℕ)
+    → List·Memᴰ x (reached rows) → x < length rows
 reached-nodes rows inside some r x m =
     ⊎-elim (λ e. omega arith)
     (λ k. let a = of-flatMap (λ n. flatMap-tails ((row-of rows n) .productions)) (reached rows) x k in

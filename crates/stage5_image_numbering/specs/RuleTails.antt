@@ -33,7 +33,8 @@ rule-part g r (some tail) = g (record { head = r; tail = tail })
 
 module _ (g : Production → List ℕ) (ps : List Production) where
   first-rule-part : (rule : Rule) (rules : List Rule) (r : ℕ)
-      → all-numbers g (fused-from (rule ∷ rules) r ps) ≡ rule-part g r (action-tail (rule .action) ps) ++ all-numbers g (fused-from rules (suc r) ps)
+      → all-numbers g (fused-from (rule ∷ rules) r ps) ≡ rule-part g r (action-tail (rule .action) ps) ++ all-numbers g
+      (fused-from rules (suc r) ps)
   unfolding fused-from rule-part action-tail by-rule
   first-rule-part rule rules r = go (rule .action)
     where
@@ -67,7 +68,8 @@ module _ (g : Production → List ℕ) (ps : List Production) where
       ∙ rules-done rules i (omega arith)
 
   -- All rules' parts, in order, are those of the fused row.
-  pub fused-parts : (rules : List Rule) → concat-below (λ r. rule-part g r (rule-tail rules ps r)) (length rules) ≡ all-numbers g (fused-from rules 0 ps)
+  pub fused-parts : (rules : List Rule) → concat-below (λ r. rule-part g r (rule-tail rules ps r)) (length rules) ≡ all-numbers g
+      (fused-from rules 0 ps)
   fused-parts rules =
       let all = concat-below (λ r. rule-part g r (rule-tail rules ps r)) (length rules) in
       sym (append-nil all)

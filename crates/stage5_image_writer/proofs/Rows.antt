@@ -48,7 +48,7 @@ pub counted-more : (rules : List Rule) (e : Expression) (node r count : ℕ) (t 
     → count ≡ length (concat-below (entries rules e node) r)
     → cond (t .found) (count + 1) count ≡ length (concat-below (entries rules e node) (r + 1))
 counted-more rules e node r count t found so-far =
-    let one = one-entry (t .found) ∙ ap (λ (o : Option (List ℕ)). length (rule-part (λ p. 0 ∷ []) r o)) found in
+    let one = one-entry ∙ ap (λ (o : Option (List ℕ)). length (rule-part (λ p. 0 ∷ []) r o)) found in
     more (t .found) (length (entries rules e node r)) one ∙ ap (λ (k : ℕ). k + length (entries rules e node r)) so-far
     ∙ sym (length-append (concat-below (entries rules e node) r) (entries rules e node r)) ∙ last
     ∙ ap (λ (k : ℕ). length (concat-below (entries rules e node) k)) (sym (add-one r))
@@ -56,8 +56,8 @@ counted-more rules e node r count t found so-far =
     last : length (concat-below (entries rules e node) r ++ entries rules e node r) ≡ length (concat-below (entries rules e node) (suc r))
     last = unfold concat-below in refl
 
-    one-entry : (b : Bool) → cond (t .found) 1 0 ≡ length (rule-part (λ p. 0 ∷ []) r (tail-held t))
-    one-entry b = unfold tail-held rule-part in cases (t .found)
+    one-entry : cond (t .found) 1 0 ≡ length (rule-part (λ p. 0 ∷ []) r (tail-held t))
+    one-entry = unfold tail-held rule-part in cases (t .found)
       where
         cases : (b : Bool) → cond b 1 0 ≡ length {A = ℕ} (rule-part (λ p. 0 ∷ []) r (cond b (some (take (t .count) (t .members))) none))
         cases true = unfold rule-part in refl
@@ -88,7 +88,8 @@ pub production-more : {a b c : List ℕ} {at n m : ℕ} (number : List ℕ) (rul
     → tail-held t ≡ rule-tail rules (productions-of e node) r → Emitted a b at n (concat-below (rule-numbers number rules e node) r)
     → Emitted b c n m (production-part number r t) → Emitted a c at m (concat-below (rule-numbers number rules e node) (r + 1))
 production-more number rules e node r t found so-far one =
-    one-more (rule-numbers number rules e node) r so-far (emitted-same (same ∙ ap (rule-part (λ p. one-production-numbers (mapped number p)) r) found) one)
+    one-more (rule-numbers number rules e node) r so-far (emitted-same (same ∙ ap (rule-part (λ p. one-production-numbers
+    (mapped number p)) r) found) one)
   where
     same : production-part number r t ≡ rule-part (λ p. one-production-numbers (mapped number p)) r (tail-held t)
     same = unfold production-part in refl
@@ -114,7 +115,8 @@ null-empty : (g : Grammar) (rules : List Rule) (e : Expression) → GrammarOf g 
 null-empty g rules e h node inside =
     let k = h .columns in
     h .null-held node inside
-    ∙ null-is-epsilon (no-fault-typed (k .tokens) (k .tokens-most) e (k .closed) (k .no-fault)) (least-solves (k .tokens) (k .tokens-most) e (k .closed)) node
+    ∙ null-is-epsilon (no-fault-typed (k .tokens) (k .tokens-most) e (k .closed) (k .no-fault)) (least-solves (k .tokens)
+    (k .tokens-most) e (k .closed)) node
     ∙ sym (ap (λ (r : Row). r .empty) (normal-form-row e node) ∙ kept-empty (derives e) (row-of (all-rows e) node))
 
 map-numbers : {A B : Type 0} (f : B → List ℕ) (m : A → B) (l : List A) → all-numbers f (map m l) ≡ all-numbers (λ a. f (m a)) l
@@ -122,13 +124,15 @@ map-numbers f m [] = refl
 map-numbers f m (a ∷ l) = ap (λ (k : List ℕ). f (m a) ++ k) (map-numbers f m l)
 
 pub row-emitted : {a b c d : List ℕ} {at v n m : ℕ} (g : Grammar) (number : List ℕ) (rules : List Rule) (e : Expression) → GrammarOf g rules e
-    → (node : ℕ) → node < size e → (null : Bool) (count : ℕ) → null ≡ bit (g .null) node → count ≡ length (fused-from rules 0 (productions-of e node))
+    → (node : ℕ) → node < size e → (null : Bool) (count : ℕ) → null ≡ bit (g .null) node → count ≡ length (fused-from rules 0
+    (productions-of e node))
     → Emitted a b at v (flag null ∷ []) → Emitted b c v n (count ∷ []) → Emitted c d n m (productions-part number rules e node)
     → Emitted a d at m (row-part number rules e node)
 unfolding row-part mapped-row fused-row productions-part
 row-emitted g number rules e h node inside null count is-null is-count x y z =
     let ps = fused-from rules 0 (productions-of e node) in
-    let flags : flag null ∷ [] ≡ flag ((row-of (normal-form e) node) .empty) ∷ [] = ap (λ (b : Bool). flag b ∷ []) (is-null ∙ null-empty g rules e h node inside) in
+    let flags : flag null ∷ [] ≡ flag ((row-of (normal-form e) node) .empty) ∷ [] = ap (λ (b : Bool). flag b ∷ []) (is-null
+    ∙ null-empty g rules e h node inside) in
     let counts : count ∷ [] ≡ length (map (mapped number) ps) ∷ [] = ap (λ (k : ℕ). k ∷ []) (is-count ∙ sym (length-map ps (mapped number))) in
     let numbers : all-numbers (λ p. one-production-numbers (mapped number p)) ps ≡ production-numbers (map (mapped number) ps) =
     sym (map-numbers one-production-numbers (mapped number) ps) ∙ productions-are (map (mapped number) ps) in

@@ -67,7 +67,8 @@ module _ (low high rule follow : List ℕ) (last : ℕ) where
   held-length i zero = refl
   held-length i (suc n) = ap suc (held-length (suc i) n)
 
-  held-at : (i n k : ℕ) (other : Position) → k < n → getD (held-from low high rule follow last i n) k other ≡ held-position low high rule follow last (i + k)
+  held-at : (i n k : ℕ) (other : Position) → k < n
+      → getD (held-from low high rule follow last i n) k other ≡ held-position low high rule follow last (i + k)
   unfolding held-from
   held-at i zero k other l = absurd (omega arith)
   held-at i (suc n) zero other l = ap (held-position low high rule follow last) (omega arith)
@@ -158,7 +159,8 @@ module _ (g : Grammar) (rules : List Rule) (e : Expression) (h : GrammarOf g rul
 same-parts : {r r' p p' f f' n n' : ℕ} {a a' b b' d d' : List ℕ} → r ≡ r' → a ≡ a' → p ≡ p' → b ≡ b' → f ≡ f' → n ≡ n' → d ≡ d'
     → (1 ∷ r ∷ a) ++ ((p ∷ (b ++ (f ∷ []))) ++ (n ∷ d)) ≡ 1 ∷ r' ∷ (a' ++ (p' ∷ (b' ++ (f' ∷ n' ∷ d'))))
 same-parts {r} {r'} {p} {p'} {f} {f'} {n} {n'} {a} {a'} {b} {b'} {d} {d'} e1 e2 e3 e4 e5 e6 e7 =
-    ap (λ (l : List ℕ). 1 ∷ r ∷ (a ++ (p ∷ l))) (append-assoc b (f ∷ []) (n ∷ d)) ∙ (let z : 1 ∷ r ∷ (a ++ (p ∷ (b ++ (f ∷ n ∷ d)))) ≡ 1 ∷ r' ∷ (a' ++ (p' ∷ (b' ++ (f' ∷ n' ∷ d')))) = cc in z)
+    ap (λ (l : List ℕ). 1 ∷ r ∷ (a ++ (p ∷ l))) (append-assoc b (f ∷ []) (n ∷ d)) ∙ (let z : 1 ∷ r ∷ (a ++ (p ∷ (b ++
+    (f ∷ n ∷ d)))) ≡ 1 ∷ r' ∷ (a' ++ (p' ∷ (b' ++ (f' ∷ n' ∷ d')))) = cc in z)
 
 module _ (g : Grammar) (p : PositionColumns) (c : Numbering) (s : Sheet) (h : PartsOf g p c s) where
   parts-numbers : rules-part g ++ (positions-part p ++ rows-part c (s .rules) (s .expression)) ≡ image-numbers (image-of s)
@@ -167,7 +169,8 @@ module _ (g : Grammar) (p : PositionColumns) (c : Numbering) (s : Sheet) (h : Pa
       (rules-count g (s .rules) (s .expression) (h .grammar)) (skips-are g (s .rules) (s .expression) (h .grammar))
       (positions-count p (positions (s .rules)) (h .positions-held)) (places-are p (positions (s .rules)) (h .positions-held))
       (h .first-held)
-      (rows-count g (s .rules) (s .expression) (h .grammar) c (h .numbers)) (rows-numbers g (s .rules) (s .expression) (h .grammar) c (h .numbers))
+      (rows-count g (s .rules) (s .expression) (h .grammar) c (h .numbers)) (rows-numbers g (s .rules) (s .expression) (h .grammar) c
+      (h .numbers))
 
   pub image-emitted : {a b d f : List ℕ} {at v n m : ℕ} → Emitted a b at v (rules-part g) → Emitted b d v n (positions-part p)
       → Emitted d f n m (rows-part c (s .rules) (s .expression)) → Emitted a f at m (image-numbers (image-of s))

@@ -48,7 +48,8 @@ all-done {a} {b} {at} {n} f i count l m e =
 
 -- ---- the rules
 
-pub skip-emitted : {a b : List ℕ} {at n : ℕ} (g : Grammar) (i : ℕ) → Emitted a b at n (flag (eqb (getD (g .action) i 0) 0) ∷ []) → Emitted a b at n (skip-number g i)
+pub skip-emitted : {a b : List ℕ} {at n : ℕ} (g : Grammar) (i : ℕ) → Emitted a b at n (flag (eqb (getD (g .action) i 0) 0) ∷ [])
+    → Emitted a b at n (skip-number g i)
 unfolding skip-number
 skip-emitted g i e = e
 
@@ -64,7 +65,8 @@ pub position-emitted : {a b : List ℕ} {at n : ℕ} (p : PositionColumns) (i : 
     → Emitted a b at n (position-part p i)
 unfolding position-part held-position
 position-emitted {a} {b} {at} {n} p i last e x =
-    subst (λ (l : Bool). Emitted a b at n (getD (p .low) i 0 ∷ getD (p .high) i 0 ∷ getD (p .rule) i 0 ∷ flag l ∷ getD (p .follow) i 0 ∷ [])) e x
+    subst (λ (l : Bool). Emitted a b at n (getD (p .low) i 0 ∷ getD (p .high) i 0 ∷ getD (p .rule) i 0 ∷ flag l ∷ getD
+    (p .follow) i 0 ∷ [])) e x
 
 pub positions-emitted : {a b c d : List ℕ} {at v n m : ℕ} (p : PositionColumns) → Emitted a b at v (p .count ∷ [])
     → Emitted b c v n (concat-below (position-part p) (p .count)) → Emitted c d n m (p .first ∷ []) → Emitted a d at m (positions-part p)
@@ -73,7 +75,8 @@ positions-emitted p x y z = emitted-append x (emitted-append y z)
 
 -- ---- a production
 
-pub no-production : (d : List ℕ) (at r : ℕ) (number : List ℕ) (t : Tail) → not (t .found) ≡ true → Emitted d d at at (production-part number r t)
+pub no-production : (d : List ℕ) (at r : ℕ) (number : List ℕ) (t : Tail) → not (t .found) ≡ true
+    → Emitted d d at at (production-part number r t)
 unfolding production-part tail-held rule-part
 no-production d at r number t e = rw (not-true (t .found) e) (emitted-none d at)
 
@@ -96,7 +99,8 @@ members-numbers number t room =
     ∙ sym (getD-map-inside (λ n. getD number n 0) tail k 0 0 (omega arith))))
     ∙ tail-is numbers
 
-pub production-emitted : {a b c d : List ℕ} {at v n m : ℕ} (r : ℕ) (number : List ℕ) (t : Tail) → not (t .found) ≡ false → t .count ≤ length (t .members)
+pub production-emitted : {a b c d : List ℕ} {at v n m : ℕ} (r : ℕ) (number : List ℕ) (t : Tail) → not (t .found) ≡ false
+    → t .count ≤ length (t .members)
     → Emitted a b at v (r ∷ []) → Emitted b c v n (t .count ∷ []) → Emitted c d n m (concat-below (member-number number t) (t .count))
     → Emitted a d at m (production-part number r t)
 unfolding production-part tail-held rule-part mapped

@@ -47,9 +47,11 @@ emitted-one {a} {b} {i} {j} {n} e k =
     }
 
 -- All numbers into a whole buffer.
-pub emitted-all : {a b : List ℕ} {j : ℕ} {ns : List ℕ} → Emitted a b 0 j ns → length (spell ns) ≤ length a → b ≡ spell ns ++ drop (length (spell ns)) a
+pub emitted-all : {a b : List ℕ} {j : ℕ} {ns : List ℕ} → Emitted a b 0 j ns → length (spell ns) ≤ length a
+    → b ≡ spell ns ++ drop (length (spell ns)) a
 unfolding splice
-emitted-all {a} {b} {j} {ns} f h = f .bytes (omega arith) ∙ ap (λ (n : ℕ). spell ns ++ drop n a) (let z : 0 + length (spell ns) ≡ length (spell ns) = omega arith in z)
+emitted-all {a} {b} {j} {ns} f h = f .bytes (omega arith) ∙ ap (λ (n : ℕ). spell ns ++ drop n a) (let z : 0 + length (spell ns) ≡ length
+    (spell ns) = omega arith in z)
 
 pub emitted-same : {a b : List ℕ} {i j : ℕ} {ms ns : List ℕ} → ms ≡ ns → Emitted a b i j ms → Emitted a b i j ns
 emitted-same {a} {b} {i} {j} e f = subst (Emitted a b i j) e f

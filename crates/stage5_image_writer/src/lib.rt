@@ -221,10 +221,10 @@ fn emit_rows(image: &mut [u8], at: usize, grammar: Grammar, numbering: Numbering
         → ((i : ℕ) → i < numbering .count → getD (numbering .met) i 0 < size e)
         → Emitted (now (image .entry)) (now (image .exit)) at r (rows-part numbering rules e)) ⌝ }
 {
-    let count = numbering.count;
-    let mut next = emit(image, at, count as u64);
+    let nonterminals = numbering.count;
+    let mut next = emit(image, at, nonterminals as u64);
     let mut i: usize = 0;
-    while i < count {
+    while i < nonterminals {
         let node = stage5_image_numbering::node_at(numbering, i);
         next = emit_row(image, next, grammar, numbering, node);
         i += 1;

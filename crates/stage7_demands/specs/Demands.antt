@@ -1,5 +1,9 @@
 -- The three demands, each as one statement to be held against the page, over the definitions that the code's contracts cite.
--- The proofs are elsewhere: `Proofs` puts them together.
+-- The proofs are elsewhere: `Proofs` puts them together. The contracts:
+--   `stage5_image_compiler`: `compile` equals `compile` here, and leaves `image-after` and `work-after`;
+--   `stage6_machine_runner`: `run` equals `run` here, and leaves `stack-after`;
+--   `stage7_engine`: `read_text` has `OwnAnswer` itself in its contract, and all three buffers;
+--   `vinzagew`: `sheet_compile` and `image_run` hand on the first two.
 use mathlib.Core.Path.{_≡_}
 use mathlib.Core.List.{List}
 use mathlib.Core.Logic.{_↔_}
@@ -48,6 +52,7 @@ pub record Demand2 : Type 0 where
 
 -- Demand 3. "Whatever bytes a text holds, for every sheet that demand 2 accepts, running the image fixed there over the text gives
 -- exactly the sheet's own answer .. Only, the text must be within the limit and the stack have at least 1 + 30 × its length entries."
+-- What follows from it by name is in `Corollaries`: `text-accepted-iff`, `nothing-accepted`, `stack-never-short`.
 pub record Demand3 : Type 0 where
   pub own-answer : (sheet : List ℕ) → Bytes sheet → (work room : ℕ) (image : List ℕ) → compile sheet work room ≡ compiled image
       → (s : Sheet) → Spells sheet s

@@ -5,11 +5,6 @@ use lib.ListN.{length}
 use Rattle.stage5_image_compiler.proofs.Endings.{sheet-expression, links-most, no-fault, fault-entry, ends-untyped, ends-typed}
 use Rattle.stage5_image_compiler.proofs.check_expression.Statement.{statement}
 use Rattle.stage5_image_compiler.proofs.check_expression.Tie as tie
-use Rattle.stage5_image_compiler.proofs.check_expression.Reads as reads
-use Rattle.stage5_image_compiler.proofs.check_expression.Lts as lts
-use Rattle.stage2_types_checker.proofs.check_types.Reads as check-types-reads
-use Rattle.stage5_image_compiler.proofs.grammar_of.Reads as grammar-of-reads
-use Rattle.stage5_image_compiler.proofs.write_if_fits.Reads as write-if-fits-reads
 
 check-types-requires : tie.Need-check-types-requires
 check-types-requires c κs = let w = c .before .pre in sheet-expression (w .0) _ _ (w .1)
@@ -50,21 +45,25 @@ write-if-fits-requires c κs =
 
 returns : tie.Need-returns
 returns c =
-    let z = c .before .before .before .before .before .before in
+    let z = c .before .before .before .before .before .before .args in
     let k = c .before .before .before .before .check-types in
-    λ d s p. ends-untyped d (z .args .rules) (z .args .t1) s (k .result) (k .ensures) _ (now (z .args .image)) (c .before .before .fault .given .1)
+    λ d s p. ends-untyped d (z .rules) (z .t1) s (k .result) (k .ensures) _ (now (z .image)) (c .before .before .fault .given .1)
 
 same-length : tie.Need-same-length
 same-length c = search needs
 
 returns-2 : tie.Need-returns-2
 returns-2 c =
-    let z = c .before .before .before .before .before .before .before .before .before in
-    let k = c .before .before .before .before .before .before .before .check-types in
+    let called = c .before .before in
+    let made = called .before .before in
+    let told = made .before in
+    let k = told .before .before .check-types in
+    let z = told .before .before .before .before .args in
     λ d s p.
-    let right = no-fault d (z .args .rules) (z .args .t1) s (k .result) (k .ensures) (c .before .before .before .before .before .enum-told .given .1) in
-    let grammar = c .before .before .before .before .grammar-of .ensures d _ s (k .ensures) right in
-    ends-typed d (z .args .rules) (z .args .t1) s (length (now (z .args .image))) right (c .before .before .write-if-fits .ensures (d .sheet) (record { grammar = grammar; held = p }))
+    let right = no-fault d (z .rules) (z .t1) s (k .result) (k .ensures) (told .enum-told .given .1) in
+    let grammar = made .grammar-of .ensures d _ s (k .ensures) right in
+    ends-typed d (z .rules) (z .t1) s (length (now (z .image))) right
+    (called .write-if-fits .ensures (d .sheet) (record { grammar = grammar; held = p }))
 
 pub check-expression-spec : {M : Type 1} → statement M
 check-expression-spec =

@@ -5,10 +5,6 @@ use lib.ListN.{length}
 use Rattle.stage5_image_compiler.proofs.Endings.{rule-entry, positions-held, ends-empty, ends-rules}
 use Rattle.stage5_image_compiler.proofs.check_rules.Statement.{statement}
 use Rattle.stage5_image_compiler.proofs.check_rules.Tie as tie
-use Rattle.stage5_image_compiler.proofs.check_rules.Reads as reads
-use Rattle.stage5_image_compiler.proofs.check_rules.Lts as lts
-use Rattle.stage4_lexer_sets.proofs.positions_of.Reads as positions-of-reads
-use Rattle.stage5_image_compiler.proofs.check_expression.Reads as check-expression-reads
 
 positions-of-requires : tie.Need-positions-of-requires
 positions-of-requires c κs = let w = c .before .pre in (w .0 .sheet .rules, w .0 .action-places, w .1 .rules-held)
@@ -26,7 +22,8 @@ element-copy-out-place : tie.Need-element-copy-out-place
 element-copy-out-place c =
     let w = c .before .before .before .before .before .pre in
     let p = c .before .before .before .positions-of in
-    rule-entry (w .0) _ _ (w .1) (p .result) (p .ensures (w .0 .sheet .rules) (w .0 .action-places) (w .1 .rules-held)) (c .before .empty .given .1)
+    let h = p .ensures (w .0 .sheet .rules) (w .0 .action-places) (w .1 .rules-held) in
+    rule-entry (w .0) _ _ (w .1) (p .result) h (c .before .empty .given .1)
 
 cast-place : tie.Need-cast-place
 cast-place c = search needs
@@ -54,13 +51,15 @@ same-length c = search needs
 
 returns-2 : tie.Need-returns-2
 returns-2 c =
-    let z = c .before .before .before .before .before .before .before .before .before in
-    let p = c .before .before .before .before .before .before .before .positions-of in
+    let called = c .before .before in
+    let told = called .before .before .before in
+    let p = told .before .before .positions-of in
+    let z = told .before .before .before .before .args in
+    let e = told .enum-told .given .1 in
     λ d s.
     let h = p .ensures (d .sheet .rules) (d .action-places) (s .rules-held) in
-    let e = c .before .before .before .before .before .enum-told .given .1 in
-    ends-rules d (z .args .t1) (z .args .nodes) s (p .result) h (length (now (z .args .image))) e
-    (c .before .before .check-expression .ensures d s (positions-held d (z .args .t1) (z .args .nodes) s (p .result) h e))
+    ends-rules d (z .t1) (z .nodes) s (p .result) h (length (now (z .image))) e
+    (called .check-expression .ensures d s (positions-held d (z .t1) (z .nodes) s (p .result) h e))
 
 pub check-rules-spec : {M : Type 1} → statement M
 check-rules-spec =

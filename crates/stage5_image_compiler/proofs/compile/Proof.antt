@@ -4,10 +4,6 @@ use denote.Ref.{now}
 use Rattle.stage5_image_compiler.proofs.Endings.{work-short, work-enough}
 use Rattle.stage5_image_compiler.proofs.compile.Statement.{statement}
 use Rattle.stage5_image_compiler.proofs.compile.Tie as tie
-use Rattle.stage5_image_compiler.proofs.compile.Reads as reads
-use Rattle.stage5_image_compiler.proofs.compile.Lts as lts
-use Rattle.stage0_buffers.proofs.clear_front.Reads as clear-front-reads
-use Rattle.stage5_image_compiler.proofs.compile_sheet.Reads as compile-sheet-reads
 
 returns : tie.Need-returns
 returns c = let z = c .before .before .before .before .args in work-short (now (z .sheet)) (now (z .work)) (now (z .image)) (c .if1 .taken)
@@ -26,8 +22,12 @@ same-length-2 c = search needs
 
 returns-2 : tie.Need-returns-2
 returns-2 c =
-    let z = c .before .before .before .before .before .before .before .before .before .before .before .before .args in
-    work-enough (now (z .sheet)) (now (z .work)) (now (z .image)) (c .before .before .before .before .before .before .before .before .if1 .left) (c .before .before .before .before .before .before .clear-front .ensures) (c .before .before .compile-sheet .ensures)
+    let called = c .before .before in
+    let cleared = called .before .before .before .before in
+    let asked = cleared .before .before in
+    let z = asked .before .before .before .before .args in
+    work-enough (now (z .sheet)) (now (z .work)) (now (z .image)) (asked .if1 .left) (cleared .clear-front .ensures)
+    (called .compile-sheet .ensures)
 
 pub compile-spec : {M : Type 1} → statement M
 compile-spec =

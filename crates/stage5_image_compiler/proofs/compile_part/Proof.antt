@@ -5,12 +5,13 @@ use denote.Ref.{now}
 use lib.ListN.{length}
 use lib.Seq.{length-take-le}
 use Rattle.stage5_image.specs.Compile as page
-use Rattle.stage5_image_compiler.proofs.Parts.{written-front, numbers-done, part-too-long, part-refused}
+use Rattle.stage5_image_compiler.proofs.Parts.{part-done, part-too-long, part-refused}
 use Rattle.stage5_image_compiler.proofs.compile_part.Statement.{statement}
 use Rattle.stage5_image_compiler.proofs.compile_part.Tie as tie
-use Rattle.stage5_image_compiler.proofs.compile_part.Reads as reads
-use Rattle.stage5_image_compiler.proofs.compile_part.Lts as lts
-use Rattle.stage5_image_compiler.proofs.compile.Reads as compile-reads
+
+-- How compiling ends.
+abbrev made : tie.Start → page.Compiled
+made z = page.compile (now (z .args .sheet)) (length (now (z .args .work))) (length (now (z .args .image)))
 
 compile-requires : tie.Need-compile-requires
 compile-requires c κs = search needs
@@ -20,10 +21,12 @@ enum-known-compiled c = search needs
 
 slice-aggregate-result : tie.Need-slice-aggregate-result
 slice-aggregate-result c =
-    let z = c .before .before .before .before .before .before .before .before .before .before .before .before .before .before .before .args in
-    let r = c .before .before .before .before .before .before .before .before .before .compile in
-    let m = page.compile (now (z .sheet)) (length (now (z .work))) (length (now (z .image))) in
-    sym (length-take-le _ (r .last .1 .1 .0) (written-front m (now (z .image)) (r .last .1 .1 .0) (sym (r .ensures .3) ∙ c .before .before .before .compiled .given .1) (r .ensures .1) .0))
+    let told = c .before .before .before in
+    let called = told .before .before .before .before .before .before in
+    let z = called .before .before .before .before .before .before in
+    let r = called .compile in
+    let e = sym (r .ensures .3) ∙ told .compiled .given .1 in
+    sym (length-take-le _ (r .last .1 .1 .0) (part-done (made z) (now (z .args .image)) (r .last .1 .1 .0) e (r .ensures .1) .0))
 
 enum-known-compiled-2 : tie.Need-enum-known-compiled-2
 enum-known-compiled-2 c = search needs
@@ -45,33 +48,36 @@ same-length c = search needs
 
 returns : tie.Need-returns
 returns c =
-    let z = c .before .before .before .before .before .before .before .before .before .before .before .before .before .before .before .args in
-    let r = c .before .before .before .before .before .before .before .before .before .compile in
-    let m = page.compile (now (z .sheet)) (length (now (z .work))) (length (now (z .image))) in
-    let e = sym (r .ensures .3) ∙ c .before .before .before .compiled .given .1 in
-    (written-front m (now (z .image)) (r .last .1 .1 .0) e (r .ensures .1) .1, numbers-done m e, r .ensures .2)
+    let told = c .before .before .before in
+    let called = told .before .before .before .before .before .before in
+    let z = called .before .before .before .before .before .before in
+    let r = called .compile in
+    let e = sym (r .ensures .3) ∙ told .compiled .given .1 in
+    let p = part-done (made z) (now (z .args .image)) (r .last .1 .1 .0) e (r .ensures .1) in (p .1, p .2, r .ensures .2)
 
 same-length-2 : tie.Need-same-length-2
 same-length-2 c = search needs
 
 returns-2 : tie.Need-returns-2
 returns-2 c =
-    let z = c .before .before .before .before .before .before .before .before .before .before .before .before .before .before .before .args in
-    let r = c .before .before .before .before .before .before .before .before .before .compile in
-    let m = page.compile (now (z .sheet)) (length (now (z .work))) (length (now (z .image))) in
-    let p = part-too-long m (sym (r .ensures .3) ∙ c .before .before .before .compiled2 .given .1) in
-    (p .0, p .1, r .ensures .2)
+    let told = c .before .before .before in
+    let called = told .before .before .before .before .before .before in
+    let z = called .before .before .before .before .before .before in
+    let r = called .compile in
+    let e = sym (r .ensures .3) ∙ told .compiled2 .given .1 in
+    let p = part-too-long (made z) e in (p .0, p .1, r .ensures .2)
 
 same-length-3 : tie.Need-same-length-3
 same-length-3 c = search needs
 
 returns-3 : tie.Need-returns-3
 returns-3 c =
-    let z = c .before .before .before .before .before .before .before .before .before .before .before .before .before .before .before .args in
-    let r = c .before .before .before .before .before .before .before .before .before .compile in
-    let m = page.compile (now (z .sheet)) (length (now (z .work))) (length (now (z .image))) in
-    let p = part-refused m (sym (r .ensures .3) ∙ c .before .before .before .compiled3 .given .1) in
-    (p .0, p .1, r .ensures .2)
+    let told = c .before .before .before in
+    let called = told .before .before .before .before .before .before in
+    let z = called .before .before .before .before .before .before in
+    let r = called .compile in
+    let e = sym (r .ensures .3) ∙ told .compiled3 .given .1 in
+    let p = part-refused (made z) e in (p .0, p .1, r .ensures .2)
 
 pub compile-part-spec : {M : Type 1} → statement M
 compile-part-spec =

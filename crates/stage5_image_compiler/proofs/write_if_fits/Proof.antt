@@ -5,39 +5,42 @@ use Rattle.stage5_image.specs.Image.{image-of, image-bytes}
 use Rattle.stage5_image_compiler.proofs.Endings.{parts-of, rules-most, fits, ends-too-long, ends-written}
 use Rattle.stage5_image_compiler.proofs.write_if_fits.Statement.{statement}
 use Rattle.stage5_image_compiler.proofs.write_if_fits.Tie as tie
-use Rattle.stage5_image_compiler.proofs.write_if_fits.Reads as reads
-use Rattle.stage5_image_compiler.proofs.write_if_fits.Lts as lts
-use Rattle.stage5_image_numbering.proofs.number_nodes.Reads as number-nodes-reads
-use Rattle.stage5_image_writer.proofs.image_width.Reads as image-width-reads
-use Rattle.stage5_image_writer.proofs.write_image.Reads as write-image-reads
 
 number-nodes-requires : tie.Need-number-nodes-requires
 number-nodes-requires c κs = let w = c .before .pre in rules-most (w .0) _ _ (w .1)
 
 image-width-requires : tie.Need-image-width-requires
-image-width-requires c κs = let w = c .before .before .pre in (rules-most (w .0) _ _ (w .1), w .1 .held .count-most, c .number-nodes .ensures .0)
+image-width-requires c κs =
+    let w = c .before .before .pre in
+    (rules-most (w .0) _ _ (w .1), w .1 .held .count-most, c .number-nodes .ensures .0)
 
 returns : tie.Need-returns
 returns c =
-    let z = c .before .before .before .before in
-    let n = c .before .before .number-nodes in
+    let measured = c .before in
+    let n = measured .before .number-nodes in
+    let z = measured .before .before .before in
     λ s a.
     let parts = parts-of s _ _ (n .result) a (n .ensures .1 (s .rules) (s .expression) (a .grammar)) in
-    ends-too-long (image-bytes (image-of s)) (now (z .args .image)) (c .before .image-width .ensures s parts) (c .if1 .taken)
+    ends-too-long (image-bytes (image-of s)) (now (z .args .image)) (measured .image-width .ensures s parts) (c .if1 .taken)
 
 write-image-requires : tie.Need-write-image-requires
-write-image-requires c κs = let w = c .before .before .before .before .before .pre in (rules-most (w .0) _ _ (w .1), w .1 .held .count-most, c .before .before .before .number-nodes .ensures .0)
+write-image-requires c κs =
+    let numbered = c .before .before .before in
+    let w = numbered .before .before .pre in
+    (rules-most (w .0) _ _ (w .1), w .1 .held .count-most, numbered .number-nodes .ensures .0)
 
 same-length : tie.Need-same-length
 same-length c = search needs
 
 returns-2 : tie.Need-returns-2
 returns-2 c =
-    let z = c .before .before .before .before .before .before .before .before in
-    let n = c .before .before .before .before .before .before .number-nodes in
+    let asked = c .before .before .before .before in
+    let measured = asked .before in
+    let n = measured .before .number-nodes in
+    let z = measured .before .before .before in
     λ s a.
     let parts = parts-of s _ _ (n .result) a (n .ensures .1 (s .rules) (s .expression) (a .grammar)) in
-    let room = fits (image-bytes (image-of s)) (now (z .args .image)) (c .before .before .before .before .before .image-width .ensures s parts) (c .before .before .before .before .if1 .left) in
+    let room = fits (image-bytes (image-of s)) (now (z .args .image)) (measured .image-width .ensures s parts) (asked .if1 .left) in
     ends-written (image-bytes (image-of s)) (now (z .args .image)) room (c .before .before .write-image .ensures s parts room)
 
 pub write-if-fits-spec : {M : Type 1} → statement M

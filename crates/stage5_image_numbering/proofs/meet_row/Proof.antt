@@ -45,7 +45,11 @@ loop-again c = let l = c .before .before .before in (
 )
 
 returns : tie.Need-returns Inv-loop μ-loop
-returns c = let l = c .before .loop in (l .inv .1, λ rs e h inside. row-end _ rs e h _ _ _ (l .rule) (l .inv .0) (c .loop-test .left) (l .inv .2 rs e h inside))
+returns c = let l = c .before .loop in (
+  l .inv .1,
+  λ rs e h inside. row-end _ rs e h _ _ _ (l .rule) (l .inv .0) (c .loop-test .left)
+      (l .inv .2 rs e h inside),
+)
 
 pub meet-row-spec : {M : Type 1} → statement M
 meet-row-spec =

@@ -48,7 +48,11 @@ loop-again c =
     )
 
 returns-2 : tie.Need-returns-2 Inv-loop μ-loop
-returns-2 c = let l = c .before .loop in (l .inv .1, tail-all _ _ _ _ (c .before .before .if1 .left) (l .inv .0) (c .loop-test .left) (l .inv .2))
+returns-2 c = let l = c .before .loop in (
+  l .inv .1,
+  tail-all _ _ _ _ (c .before .before .if1 .left) (l .inv .0) (c .loop-test .left)
+      (l .inv .2),
+)
 
 pub meet-tail-spec : {M : Type 1} → statement M
 meet-tail-spec =

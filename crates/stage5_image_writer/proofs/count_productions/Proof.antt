@@ -51,7 +51,8 @@ loop-again c = let l = c .before .before .before .loop in
     )
 
 returns : tie.Need-returns Inv-loop μ-loop
-returns c = λ rs e h inside. let l = c .before .loop in counted-all _ rs e h _ (l .rule) _ (l .inv .0) (c .loop-test .left) (l .inv .2 rs e h inside)
+returns c = λ rs e h inside. let l = c .before .loop in counted-all _ rs e h _ (l .rule) _ (l .inv .0) (c .loop-test .left)
+    (l .inv .2 rs e h inside)
 
 pub count-productions-spec : {M : Type 1} → statement M
 count-productions-spec =

@@ -13,7 +13,8 @@ write-number-at-requires : tie.Need-write-number-at-requires
 write-number-at-requires c κs = search needs
 
 add-result : tie.Need-add-result
-add-result c = let z = c .before .before .before .before .before .before in let w = c .before .before .before .write-number-at in omega (arith, used-width _ _ _ _ (w .ensures .0) (c .if1 .taken), encode-ten (z .args .n), z .pre)
+add-result c = let z = c .before .before .before .before .before .before in let w = c .before .before .before .write-number-at in omega
+    (arith, used-width _ _ _ _ (w .ensures .0) (c .if1 .taken), encode-ten (z .args .n), z .pre)
 
 same-length : tie.Need-same-length
 same-length c = search needs
@@ -28,7 +29,12 @@ number-width-requires : tie.Need-number-width-requires
 number-width-requires c κs = search needs
 
 add-result-2 : tie.Need-add-result-2
-add-result-2 c = let z = c .before .before .before .before .before .before .before in omega (arith, c .number-width .ensures, encode-ten (z .args .n), z .pre)
+add-result-2 c = let z = c .before .before .before .before .before .before .before in omega (
+  arith,
+  c .number-width .ensures,
+  encode-ten (z .args .n),
+  z .pre,
+)
 
 same-length-2 : tie.Need-same-length-2
 same-length-2 c = search needs

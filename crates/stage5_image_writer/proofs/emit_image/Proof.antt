@@ -17,7 +17,9 @@ same-length : tie.Need-same-length
 same-length c = search needs
 
 returns : tie.Need-returns
-returns c = λ s h. image-emitted _ _ _ s h (c .before .before .before .before .before .before .before .before .before .before .emit-rules .ensures .1) (c .before .before .before .before .before .before .emit-positions .ensures .1)
+returns c = λ s h. image-emitted _ _ _ s h
+    (c .before .before .before .before .before .before .before .before .before .before .emit-rules .ensures .1)
+    (c .before .before .before .before .before .before .emit-positions .ensures .1)
     (c .before .before .emit-rows .ensures .1 (s .rules) (s .expression) (h .grammar) (nodes-inside _ _ _ s h))
 
 pub emit-image-spec : {M : Type 1} → statement M

@@ -24,8 +24,10 @@ same-length : tie.Need-same-length
 same-length c = search needs
 
 returns : tie.Need-returns
-returns c = let low = c .before .before .before .before .before .before .before .before .before .before .before .before .before .before .before .before .before .before .emit .ensures in
-    let high = c .before .before .before .before .before .before .before .before .before .before .before .before .before .before .emit2 .ensures in
+returns c = let low = c .before .before .before .before .before .before .before .before .before .before .before .before .before
+    .before .before .before .before .before .emit .ensures in
+    let high = c .before .before .before .before .before .before .before .before .before .before .before .before .before
+    .before .emit2 .ensures in
     let rule = c .before .before .before .before .before .before .before .before .before .before .emit3 .ensures in
     let last = c .before .before .before .before .before .before .emit-flag .ensures in
     let follow = c .before .before .emit4 .ensures in (

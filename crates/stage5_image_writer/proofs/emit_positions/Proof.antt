@@ -42,7 +42,14 @@ element-copy-out-emit-position-4 : tie.Need-element-copy-out-emit-position-4 Inv
 element-copy-out-emit-position-4 c = search needs
 
 emit-position-requires : tie.Need-emit-position-requires Inv-loop μ-loop
-emit-position-requires c κs = let l = c .before .before .before .before .before .before .before .loop in omega (arith, l .inv .0, l .inv .1, c .before .before .before .before .before .before .before .before .before .before .emit .ensures .0, c .before .before .before .before .before .before .before .before .before .before .before .before .before .pre .0, c .before .before .before .before .before .before .before .before .before .before .before .before .before .pre .1)
+emit-position-requires c κs = let l = c .before .before .before .before .before .before .before .loop in omega (
+  arith,
+  l .inv .0,
+  l .inv .1,
+  c .before .before .before .before .before .before .before .before .before .before .emit .ensures .0,
+  c .before .before .before .before .before .before .before .before .before .before .before .before .before .pre .0,
+  c .before .before .before .before .before .before .before .before .before .before .before .before .before .pre .1,
+)
 
 add-i : tie.Need-add-i Inv-loop μ-loop
 add-i c = search needs
@@ -59,7 +66,14 @@ loop-again c = let l = c .before .before .before .before .before .before .before
     )
 
 emit-requires-2 : tie.Need-emit-requires-2 Inv-loop μ-loop
-emit-requires-2 c κs = let l = c .before .before .loop in omega (arith, l .inv .0, l .inv .1, c .before .before .before .before .before .emit .ensures .0, c .before .before .before .before .before .before .before .before .pre .0, c .before .before .before .before .before .before .before .before .pre .1)
+emit-requires-2 c κs = let l = c .before .before .loop in omega (
+  arith,
+  l .inv .0,
+  l .inv .1,
+  c .before .before .before .before .before .emit .ensures .0,
+  c .before .before .before .before .before .before .before .before .pre .0,
+  c .before .before .before .before .before .before .before .before .pre .1,
+)
 
 same-length : tie.Need-same-length Inv-loop μ-loop
 same-length c = let l = c .before .before .before .before .before .loop in
@@ -71,8 +85,16 @@ returns : tie.Need-returns Inv-loop μ-loop
 returns c = let l = c .before .before .before .before .before .loop in
     let first = c .before .before .emit2 .ensures in
     let count = c .before .before .before .before .before .before .before .before .emit .ensures in (
-      omega (arith, l .inv .0, l .inv .1, count .0, first .0, c .before .before .before .before .before .before .before .before .before .before .before .pre .1),
-      positions-emitted _ (count .1) (all-done _ (l .i) _ (l .inv .0) (c .before .before .before .before .loop-test .left) (l .inv .2)) (first .1),
+      omega (
+        arith,
+        l .inv .0,
+        l .inv .1,
+        count .0,
+        first .0,
+        c .before .before .before .before .before .before .before .before .before .before .before .pre .1,
+      ),
+      positions-emitted _ (count .1) (all-done _ (l .i) _ (l .inv .0) (c .before .before .before .before .loop-test .left) (l .inv .2))
+          (first .1),
     )
 
 pub emit-positions-spec : {M : Type 1} → statement M

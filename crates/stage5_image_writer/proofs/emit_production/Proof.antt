@@ -24,7 +24,11 @@ emit-requires : tie.Need-emit-requires Inv-loop μ-loop
 emit-requires c κs = search needs
 
 emit-requires-2 : tie.Need-emit-requires-2 Inv-loop μ-loop
-emit-requires-2 c κs = omega (arith, c .before .before .before .emit .ensures .0, c .before .before .before .before .before .before .before .pre .0)
+emit-requires-2 c κs = omega (
+  arith,
+  c .before .before .before .emit .ensures .0,
+  c .before .before .before .before .before .before .before .pre .0,
+)
 
 loop-holds : tie.Need-loop-holds Inv-loop μ-loop
 loop-holds c = (omega arith, omega arith, nothing-yet _ _ _)
@@ -39,7 +43,15 @@ number-of-requires : tie.Need-number-of-requires Inv-loop μ-loop
 number-of-requires c κs = search needs
 
 emit-requires-3 : tie.Need-emit-requires-3 Inv-loop μ-loop
-emit-requires-3 c κs = let l = c .before .before .before .before .loop in omega (arith, l .inv .0, l .inv .1, c .before .before .before .before .before .before .before .emit2 .ensures .0, c .before .before .before .before .before .before .before .before .before .before .before .emit .ensures .0, c .before .before .before .before .before .before .before .before .before .before .before .before .before .before .before .pre .0, c .before .before .before .before .before .before .before .before .before .before .before .before .before .before .before .pre .1)
+emit-requires-3 c κs = let l = c .before .before .before .before .loop in omega (
+  arith,
+  l .inv .0,
+  l .inv .1,
+  c .before .before .before .before .before .before .before .emit2 .ensures .0,
+  c .before .before .before .before .before .before .before .before .before .before .before .emit .ensures .0,
+  c .before .before .before .before .before .before .before .before .before .before .before .before .before .before .before .pre .0,
+  c .before .before .before .before .before .before .before .before .before .before .before .before .before .before .before .pre .1,
+)
 
 add-i : tie.Need-add-i Inv-loop μ-loop
 add-i c = search needs
@@ -57,7 +69,8 @@ loop-again c = let l = c .before .before .before .before .before .before .before
 
 same-length : tie.Need-same-length Inv-loop μ-loop
 same-length c = let l = c .before .loop in
-    l .inv .2 .same-length ∙ c .before .before .before .before .emit2 .ensures .1 .same-length ∙ c .before .before .before .before .before .before .before .before .emit .ensures .1 .same-length
+    l .inv .2 .same-length ∙ c .before .before .before .before .emit2 .ensures .1 .same-length
+    ∙ c .before .before .before .before .before .before .before .before .emit .ensures .1 .same-length
 
 returns-2 : tie.Need-returns-2 Inv-loop μ-loop
 returns-2 c = let l = c .before .loop in
@@ -66,7 +79,8 @@ returns-2 c = let l = c .before .loop in
     let count = c .before .before .before .before .emit2 .ensures in
     let size : length (z .args .t4 .members) ≡ 32 = search needs in (
       omega (arith, l .inv .0, l .inv .1, rule .0, count .0, z .pre .1),
-      production-emitted _ _ _ (c .before .before .before .before .before .before .before .before .before .before .if1 .left) (omega (arith, z .pre .1)) (rule .1) (count .1) (all-done _ (l .i) _ (l .inv .0) (c .loop-test .left) (l .inv .2)),
+      production-emitted _ _ _ (c .before .before .before .before .before .before .before .before .before .before .if1 .left) (omega
+          (arith, z .pre .1)) (rule .1) (count .1) (all-done _ (l .i) _ (l .inv .0) (c .loop-test .left) (l .inv .2)),
     )
 
 pub emit-production-spec : {M : Type 1} → statement M

@@ -32,7 +32,16 @@ rule-tail-requires : tie.Need-rule-tail-requires Inv-loop μ-loop
 rule-tail-requires c κs = search needs
 
 emit-production-requires : tie.Need-emit-production-requires Inv-loop μ-loop
-emit-production-requires c κs = let l = c .before .before .before .loop in (omega (arith, l .inv .0, l .inv .1, c .before .before .before .before .before .pre .0, c .before .before .before .before .before .pre .1), c .before .rule-tail .ensures .0)
+emit-production-requires c κs = let l = c .before .before .before .loop in (
+  omega (
+    arith,
+    l .inv .0,
+    l .inv .1,
+    c .before .before .before .before .before .pre .0,
+    c .before .before .before .before .before .pre .1,
+  ),
+  c .before .rule-tail .ensures .0,
+)
 
 add-rule : tie.Need-add-rule Inv-loop μ-loop
 add-rule c = search needs
@@ -48,7 +57,11 @@ loop-again c = let l = c .before .before .before .before .before .before .loop i
       omega (arith, x .0, l .inv .1),
       x .1 .same-length ∙ l .inv .2,
       λ rs e h inside. production-more _ rs e _ (l .rule) _
-          (c .before .before .before .before .rule-tail .ensures .1 rs e h inside (omega (arith, h .rule-count, taken))) (l .inv .3 rs e h inside) (x .1),
+          (c .before .before .before .before .rule-tail .ensures .1 rs e h inside (omega (
+            arith,
+            h .rule-count,
+            taken,
+          ))) (l .inv .3 rs e h inside) (x .1),
     )
 
 same-length : tie.Need-same-length Inv-loop μ-loop

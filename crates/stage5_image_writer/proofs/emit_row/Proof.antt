@@ -28,7 +28,9 @@ returns c = let flagged = c .before .before .before .before .before .before .bef
     let count = c .before .before .before .before .before .before .emit .ensures in
     let productions = c .before .before .emit-productions .ensures in (
       omega (arith, flagged .0, count .0, productions .0),
-      λ rs e h inside. row-emitted _ _ rs e h _ inside _ _ (c .before .before .before .before .before .before .before .before .before .before .before .before .before .has .ensures) (c .before .before .before .before .before .before .before .before .count-productions .ensures rs e h inside)
+      λ rs e h inside. row-emitted _ _ rs e h _ inside _ _
+          (c .before .before .before .before .before .before .before .before .before .before .before .before .before .has .ensures)
+          (c .before .before .before .before .before .before .before .before .count-productions .ensures rs e h inside)
           (flagged .1) (count .1) (productions .1 rs e h inside),
     )
 

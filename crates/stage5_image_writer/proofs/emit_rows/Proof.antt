@@ -31,10 +31,25 @@ loop-holds : tie.Need-loop-holds Inv-loop μ-loop
 loop-holds c = (omega arith, omega arith, refl, λ rs e h inside. nothing-yet _ _ _)
 
 node-at-requires : tie.Need-node-at-requires Inv-loop μ-loop
-node-at-requires c κs = let l = c .before .loop in omega (arith, c .loop-test .taken, c .before .before .before .before .before .before .before .pre .2)
+node-at-requires c κs = let l = c .before .loop in omega (
+  arith,
+  c .loop-test .taken,
+  c .before .before .before .before .before .before .before .pre .2,
+)
 
 emit-row-requires : tie.Need-emit-row-requires Inv-loop μ-loop
-emit-row-requires c κs = let l = c .before .before .before .loop in let z = c .before .before .before .before .before .before .before .before .before in (omega (arith, l .inv .0, l .inv .1, c .before .before .before .before .before .before .emit .ensures .0, z .pre .0, z .pre .2), z .pre .1)
+emit-row-requires c κs = let l = c .before .before .before .loop in let z = c .before .before .before .before .before .before
+    .before .before .before in (
+      omega (
+        arith,
+        l .inv .0,
+        l .inv .1,
+        c .before .before .before .before .before .before .emit .ensures .0,
+        z .pre .0,
+        z .pre .2,
+      ),
+      z .pre .1,
+    )
 
 add-i : tie.Need-add-i Inv-loop μ-loop
 add-i c = search needs
@@ -50,7 +65,9 @@ loop-again c = let l = c .before .before .before .before .before .before .loop i
       omega (arith, taken),
       omega (arith, x .ensures .0, l .inv .1),
       x .kept .0 ∙ l .inv .2,
-      λ rs e h inside. row-more (c .before .before .before .before .before .before .before .before .before .before .before .before .args .numbering) rs e (l .i) _ is (l .inv .3 rs e h inside)
+      λ rs e h inside. row-more
+          (c .before .before .before .before .before .before .before .before .before .before .before .before .args .numbering) rs e
+          (l .i) _ is (l .inv .3 rs e h inside)
           (x .ensures .1 rs e h (subst (λ (n : ℕ). n < size e) (sym is) (inside (l .i) taken))),
     )
 

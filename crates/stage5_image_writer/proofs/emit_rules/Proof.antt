@@ -30,7 +30,13 @@ element-copy-out-emit-flag : tie.Need-element-copy-out-emit-flag Inv-loop μ-loo
 element-copy-out-emit-flag c = search needs
 
 emit-flag-requires : tie.Need-emit-flag-requires Inv-loop μ-loop
-emit-flag-requires c κs = let l = c .before .before .before .loop in omega (arith, l .inv .1, c .before .before .before .before .before .before .emit2 .ensures .0, c .before .before .before .before .before .before .before .before .before .before .emit .ensures .0, c .before .before .before .before .before .before .before .before .before .before .before .before .before .pre)
+emit-flag-requires c κs = let l = c .before .before .before .loop in omega (
+  arith,
+  l .inv .1,
+  c .before .before .before .before .before .before .emit2 .ensures .0,
+  c .before .before .before .before .before .before .before .before .before .before .emit .ensures .0,
+  c .before .before .before .before .before .before .before .before .before .before .before .before .before .pre,
+)
 
 add-i : tie.Need-add-i Inv-loop μ-loop
 add-i c = search needs
@@ -40,8 +46,11 @@ loop-less c = search needs
 
 loop-again : tie.Need-loop-again Inv-loop μ-loop
 loop-again c = let l = c .before .before .before .before .before .before .loop in
-    let e = c .before .before .emit-flag .ensures in
-    (omega (arith, c .before .before .before .before .before .loop-test .taken), omega (arith, e .0, l .inv .1), one-more _ (l .i) (l .inv .2) (skip-emitted _ (l .i) (e .1)))
+    let e = c .before .before .emit-flag .ensures in (
+      omega (arith, c .before .before .before .before .before .loop-test .taken),
+      omega (arith, e .0, l .inv .1),
+      one-more _ (l .i) (l .inv .2) (skip-emitted _ (l .i) (e .1)),
+    )
 
 same-length : tie.Need-same-length Inv-loop μ-loop
 same-length c = let l = c .before .loop in
@@ -53,7 +62,14 @@ returns : tie.Need-returns Inv-loop μ-loop
 returns c = let l = c .before .loop in
     let version = c .before .before .before .before .before .before .before .before .emit .ensures in
     let rules = c .before .before .before .before .emit2 .ensures in (
-      omega (arith, l .inv .0, l .inv .1, version .0, rules .0, c .before .before .before .before .before .before .before .before .before .before .before .pre .1),
+      omega (
+        arith,
+        l .inv .0,
+        l .inv .1,
+        version .0,
+        rules .0,
+        c .before .before .before .before .before .before .before .before .before .before .before .pre .1,
+      ),
       rules-emitted _ (version .1) (rules .1) (all-done _ (l .i) _ (l .inv .0) (c .loop-test .left) (l .inv .2)),
     )
 
