@@ -67,14 +67,16 @@ fn show_compiled(made: Compiled, work: &[u8], image: &[u8]) {
     }
 }
 
-// Compiles a sheet with the front of each buffer.
+// Compiles a sheet with the front of each buffer. As arrays the buffers have known lengths here, and nothing counts their bytes.
 fn compile_with(
     sheet: &[u8],
     work_size: usize,
     image_size: usize,
-    work: &mut [u8],
-    image: &mut [u8],
+    work: &mut [u8; WORK],
+    image: &mut [u8; IMAGE],
 ) {
+    let work: &mut [u8] = work;
+    let image: &mut [u8] = image;
     if work.len() < work_size {
         return;
     }
@@ -166,24 +168,38 @@ fn run_longest(input: &[u8; 1048576]) {
     run_with(b"", input, STACK, &mut stack);
 }
 
-// Has the engine read a text by a sheet, with as much room as the program lends.
-fn read_with(sheet: &[u8], input: &[u8], limit: usize) -> TextRead {
-    let mut work = [0u8; 65536];
-    let mut image = [0u8; 65536];
-    let mut stack = [0u8; 61441];
-    stage7_engine::read_text(sheet, input, limit, &mut work, &mut image, &mut stack)
+// Has the engine read a text by a sheet. The buffers are arrays for the same reason.
+fn read_with(
+    sheet: &[u8],
+    input: &[u8],
+    limit: usize,
+    work: &mut [u8; 65536],
+    image: &mut [u8; IMAGE],
+    stack: &mut [u8; 61441],
+) -> TextRead {
+    stage7_engine::read_text(sheet, input, limit, work, image, stack)
 }
 
-// A case: the sheet, and the text.
+// A case: the sheet, and the text. There is as much room as the program lends.
 fn engine_case(text: &[u8], at: usize, limit: usize) -> TextRead
     requires { ⌜ length (now text) ≤ 65536 ⌝ }
 {
     let mut sheet = [0u8; FIELD];
     let mut input = [0u8; FIELD];
+    let mut work = [0u8; 65536];
+    let mut image = [0u8; IMAGE];
+    let mut stack = [0u8; 61441];
     let input_at = fields::after_blank(text, at);
     let sheet_size = fields::bytes(text, at, &mut sheet);
     let input_size = fields::bytes(text, input_at, &mut input);
-    read_with(&sheet[..sheet_size], &input[..input_size], limit)
+    read_with(
+        &sheet[..sheet_size],
+        &input[..input_size],
+        limit,
+        &mut work,
+        &mut image,
+        &mut stack,
+    )
 }
 
 fn show_read(read: TextRead) {

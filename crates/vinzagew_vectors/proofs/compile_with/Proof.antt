@@ -28,12 +28,6 @@ compile-requires c κs = search needs
 show-compiled-requires : tie.Need-show-compiled-requires
 show-compiled-requires c κs = search needs
 
-same-length : tie.Need-same-length
-same-length c = search needs
-
-same-length-2 : tie.Need-same-length-2
-same-length-2 c = search needs
-
 returns-3 : tie.Need-returns-3
 returns-3 c = search needs
 
@@ -49,6 +43,4 @@ compile-with-spec =
     slice-aggregate-compile-2
     compile-requires
     show-compiled-requires
-    same-length
-    same-length-2
     returns-3)
