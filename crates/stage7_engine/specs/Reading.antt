@@ -42,12 +42,14 @@ reading limit (compiled image) text entries = text-answered (answer-within limit
 unfoldable pub stack-after-reading : ℕ → Compiled → List ℕ → List ℕ → List ℕ
 stack-after-reading limit (refused number place) text stack = stack
 stack-after-reading limit (too-long needed) text stack = stack
-stack-after-reading limit (compiled image) text stack = cond (ltb limit (length text)) stack (stack-after (run image text (length stack)) stack)
+stack-after-reading limit (compiled image) text stack =
+    cond (ltb limit (length text)) stack (stack-after (run image text (length stack)) stack)
 
 -- "running the image fixed there over the text gives exactly the sheet's own answer": for every sheet that demand 2 accepts, a text
 -- within the limits and a long enough stack.
 pub record OwnReading (limit : ℕ) (sheet text : List ℕ) (work room entries : ℕ) (t : Told) : Type 0 where
-  pub own-answer : (s : Sheet) → Acceptable sheet room s → work-bytes ≤ work → length text ≤ limit → length text ≤ most-text-bytes → long-enough text ≤ entries
+  pub own-answer : (s : Sheet) → Acceptable sheet room s → work-bytes ≤ work
+      → length text ≤ limit → length text ≤ most-text-bytes → long-enough text ≤ entries
       → (a : Answer) × OwnAnswer s text a × (t ≡ text-answered a)
 
 -- "Its lines: `sheet NUMBER PLACE`, `text NUMBER PLACE`, `accepted TOKENS`."

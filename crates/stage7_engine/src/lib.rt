@@ -29,11 +29,15 @@ pub fn read_text(
     stack: &mut [u8],
 ) -> TextRead
     ensures { λ r.
-        ⌜ (told r ≡ reading limit (compile (now (sheet .entry)) (length (now (work .entry))) (length (now (image .entry)))) (now (text .entry)) (length (now (stack .entry))))
-        × (now (image .exit) ≡ image-after (compile (now (sheet .entry)) (length (now (work .entry))) (length (now (image .entry)))) (now (image .entry)))
+        ⌜ (told r ≡ reading limit (compile (now (sheet .entry)) (length (now (work .entry))) (length (now (image .entry))))
+        (now (text .entry)) (length (now (stack .entry))))
+        × (now (image .exit) ≡ image-after
+        (compile (now (sheet .entry)) (length (now (work .entry))) (length (now (image .entry)))) (now (image .entry)))
         × (now (work .exit) ≡ work-after (now (work .entry)))
-        × (now (stack .exit) ≡ stack-after-reading limit (compile (now (sheet .entry)) (length (now (work .entry))) (length (now (image .entry)))) (now (text .entry)) (now (stack .entry)))
-        × OwnReading limit (now (sheet .entry)) (now (text .entry)) (length (now (work .entry))) (length (now (image .entry))) (length (now (stack .entry))) (told r) ⌝ }
+        × (now (stack .exit) ≡ stack-after-reading limit
+        (compile (now (sheet .entry)) (length (now (work .entry))) (length (now (image .entry)))) (now (text .entry)) (now (stack .entry)))
+        × OwnReading limit (now (sheet .entry)) (now (text .entry)) (length (now (work .entry))) (length (now (image .entry)))
+        (length (now (stack .entry))) (told r) ⌝ }
 {
     let made = stage5_image_compiler::compile(sheet, work, image);
     match made {

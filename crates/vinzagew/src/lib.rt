@@ -6,8 +6,7 @@ ghost use lib.ListN.{length};
 ghost use Rattle.stage5_image.specs.Compile.{compile, compile-answer, image-after, work-after};
 ghost use Rattle.stage6_machine.specs.Run.{run, stack-after};
 ghost use Rattle.stage5_image_compiler.specs.Answer.{answer-of};
-ghost use Rattle.vinzagew.specs.Out.{numbers-held};
-ghost use Rattle.vinzagew.specs.Out.{compile-numbers, run-numbers, out-after, if-room};
+ghost use Rattle.vinzagew.specs.Out.{numbers-held, compile-numbers, run-numbers, out-after, if-room};
 
 // Document 01's number, place and length for each way in which compiling ends.
 struct Numbers {
@@ -66,7 +65,9 @@ pub extern "C" fn sheet_compile(sheet: &[u8], work: &mut [u8], image: &mut [u8],
 #[no_mangle]
 pub extern "C" fn image_run(image: &[u8], text: &[u8], stack: &mut [u8], out: &mut [u64])
     ensures { λ r.
-        ⌜ (now (out .exit) ≡ out-after (run-numbers (run (now (image .entry)) (now (text .entry)) (length (now (stack .entry))))) (now (out .entry)))
+        ⌜ (now (out .exit) ≡ out-after
+        (run-numbers (run (now (image .entry)) (now (text .entry)) (length (now (stack .entry)))))
+        (now (out .entry)))
         × (now (stack .exit) ≡ if-room (now (out .entry))
         (stack-after (run (now (image .entry)) (now (text .entry)) (length (now (stack .entry)))) (now (stack .entry))) (now (stack .entry))) ⌝ }
 {
