@@ -4,7 +4,7 @@ use mathlib.Core.Path.{_≡_, refl, sym, ap, ap₂, subst, _∙_}
 use mathlib.Core.Bool.{Bool, true, false, _&&_, Bool·beq, true≢false}
 use mathlib.Core.List.{List, [], _∷_, _++_}
 use mathlib.Core.Logic.{⊎-elim}
-use Prim.Native.Nat.{ℕ, zero, suc, _+_, _*_, _≤_, _<_}
+use Prim.Native.Nat.{ℕ, zero, suc, _+_, _-_, _*_, _≤_, _<_}
 use native.Mathlib.Omega.{arith}
 use lib.Dec.{eqb}
 use lib.ListN.{getD, length, replicate, length-map, length-replicate, List·getD-map}
@@ -13,6 +13,7 @@ use borrow.Author.Tests.{eq-eqb, eqb-true}
 use Rattle.stage0_laws.specs.Truth.{and-true-first, and-true-second}
 use Rattle.stage0_laws.specs.Order.{lt-or-le}
 use Rattle.stage0_laws.specs.Lists.{All, sum}
+use Rattle.stage0_laws.specs.Settling.{settle-keeps, settled}
 use Rattle.stage1_sheet.specs.Limits.{most-tokens}
 use Rattle.stage1_sheet.specs.Expression.{Expression, epsilon, bottom, token, sequence, alternative, fixed-point, variable, size}
 use Rattle.stage1_sheet.specs.WellFormed.{Closed}
@@ -21,7 +22,6 @@ use Rattle.stage2_types.specs.Nodes.{Node, epsilon-node, bottom-node, to
 use Rattle.stage2_types.specs.LeastTypes.{type-of, node-type, next-types, same-type, same-types, type-rounds, types-of, least-types}
 use Rattle.stage2_types.specs.TypeLaws.{_⊑_, ⊑-refl, ⊑-trans, ⊑-antisym, bottom-least, sequence-rises, alternative-rises, AllBelow}
 use Rattle.stage2_types.specs.TypeWeight.{Fits, epsilon-fits, bottom-fits, token-fits, sequence-fits, alternative-fits, weight, weights-most, weights-full}
-use Rattle.stage2_types.specs.Settling.{settle-keeps, settle-stops}
 
 -- Figure 2's equations, one a node.
 abbrev pub Solves : List Node → List LanguageType → Type 0
@@ -185,6 +185,17 @@ module _ (ns : List Node) (tokens-fit : All TokenFits ns) where
           let e = weights-full types (next-types ns types) (r .as-many ∙ sym (next .as-many)) (r .rises) (next .fits) l in
           subst (λ ys. same-types types ys ≡ true) e (same-types-self types)
 
+  -- What is left until all types are the greatest that fit.
+  abbrev left-over : List LanguageType → ℕ
+  left-over types = 49 * length ns - sum weight types
+
+  rising-falls : (types : List LanguageType) → Rising ns types → same-types types (next-types ns types) ≡ false
+      → left-over (next-types ns types) < left-over types
+  rising-falls types r changed =
+      let next = rising-next types r in
+      let most = subst (λ n. sum weight (next-types ns types) ≤ 49 * n) (next .as-many) (weights-most (next-types ns types)) in
+      omega (arith, most, rising-weight types r changed)
+
   pub types-fit : (n : ℕ) → Fits (type-of (types-of ns) n)
   unfolding types-of
   types-fit n = (settle-keeps same-types (next-types ns) (Rising ns) rising-next (type-rounds ns) (replicate (length ns) bottom-type) rising-first)
@@ -193,9 +204,8 @@ module _ (ns : List Node) (tokens-fit : All TokenFits ns) where
   pub types-solve : Solves ns (types-of ns)
   unfolding types-of type-rounds
   types-solve = same-types-equal (types-of ns) (next-types ns (types-of ns))
-      (settle-stops same-types (next-types ns) (Rising ns) rising-next (sum weight) (49 * length ns)
-      (λ types r. subst (λ n. sum weight types ≤ 49 * n) (r .as-many) (weights-most types))
-      rising-weight (type-rounds ns) (replicate (length ns) bottom-type) rising-first (omega arith))
+      (settled same-types (next-types ns) (Rising ns) left-over rising-next rising-falls (type-rounds ns)
+      (replicate (length ns) bottom-type) rising-first (omega arith) .1)
 
 all-append : (xs ys : List Node) → All TokenFits xs → All TokenFits ys → All TokenFits (xs ++ ys)
 all-append [] ys h k = k

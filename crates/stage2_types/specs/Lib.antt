@@ -11,7 +11,6 @@ pub mod Soundness
 pub mod SetOrder
 pub mod TypeLaws
 pub mod TypeWeight
-pub mod Settling
 pub mod LeastTypeLaws
 pub mod EachFrom
 pub mod QuestionLaws

@@ -16,7 +16,7 @@ use Rattle.stage2_types.specs.Nodes.{Node, epsilon-node, bottom-node, token-nod
 use Rattle.stage3_normal_form.specs.Derives.{derives-at, node-derives, next-derives, same-flags, derives}
 use Rattle.stage3_normal_form.specs.Places.{node-at, Placed, Everywhere, everywhere-all}
 use Rattle.stage3_normal_form.specs.NodeLanguages.{language-of, languages-past, PartsDenote, whole-site, node-language, language-equation}
-use Rattle.stage3_normal_form.specs.Settling.{settled}
+use Rattle.stage0_laws.specs.Settling.{settled}
 
 abbrev pub HasWord : Language → Type 0
 HasWord L = (w : List ℕ) × L w

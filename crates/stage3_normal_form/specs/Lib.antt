@@ -10,7 +10,6 @@ pub mod RowEquations
 pub mod NodeLanguages
 pub mod Unfolding
 pub mod Pending
-pub mod Settling
 pub mod DerivesExact
 pub mod DistinctHeads
 pub mod RowFacts

@@ -12,6 +12,7 @@ use Rattle.stage0_laws.specs.Order.{lt-or-le}
 use Rattle.stage1_sheet.specs.Expression.{Expression, epsilon, bottom, token, sequence, alternative, fixed-point, variable, size}
 use Rattle.stage2_types.specs.Types.{LanguageType, Context, all-usable, Usable, here, there}
 use Rattle.stage2_types.specs.Nodes.{Node, epsilon-node, bottom-node, token-node, sequence-node, alternative-node, fixed-point-node, variable-node, Binder, no-binder, guard, nodes-from, nodes}
+use Rattle.stage2_types.specs.NodeLaws.{nodes-length}
 
 -- A table holds the list from p on.
 abbrev pub Segment {ℓ} : {A : Type ℓ} → (ℕ → A) → ℕ → List A → Type ℓ
@@ -57,20 +58,6 @@ Placed table (alternative g h) p fs =
     (table p ≡ alternative-node (suc p) (suc p + size g)) × Placed table g (suc p) fs × Placed table h (suc p + size g) fs
 Placed table (fixed-point g) p fs = (table p ≡ fixed-point-node (suc p)) × Placed table g (suc p) (p ∷ fs)
 Placed table (variable n) p fs = (guarded : Bool) × (table p ≡ variable-node (getD fs n 0) guarded)
-
-pub nodes-length : (g : Expression) (p : ℕ) (bs : List Binder) → length (nodes-from g p bs) ≡ size g
-unfolding nodes-from
-nodes-length epsilon p bs = refl
-nodes-length bottom p bs = refl
-nodes-length (token k) p bs = refl
-nodes-length (sequence g h) p bs =
-    let a = nodes-length g (suc p) bs in let b = nodes-length h (suc p + size g) (map guard bs) in
-    let c = length-append (nodes-from g (suc p) bs) (nodes-from h (suc p + size g) (map guard bs)) in omega arith
-nodes-length (alternative g h) p bs =
-    let a = nodes-length g (suc p) bs in let b = nodes-length h (suc p + size g) bs in
-    let c = length-append (nodes-from g (suc p) bs) (nodes-from h (suc p + size g) bs) in omega arith
-nodes-length (fixed-point g) p bs = let a = nodes-length g (suc p) (record { node = p; guarded = false } ∷ bs) in omega arith
-nodes-length (variable n) p bs = refl
 
 abbrev binder-nodes : List Binder → List ℕ
 binder-nodes = map (λ (b : Binder). b .node)

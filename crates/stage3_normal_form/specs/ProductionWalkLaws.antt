@@ -16,7 +16,7 @@ use Rattle.stage1_sheet.specs.Limits.{most-expression-nodes}
 use Rattle.stage2_types.specs.Types.{LanguageType, Context, _⊢_∶_, type-epsilon, type-bottom, type-token, type-variable, type-sequence, type-alternative, type-fixed-point}
 use Rattle.stage2_types.specs.Nodes.{Node, bottom-node, alternative-node, nodes}
 use Rattle.stage2_types.specs.LeastTypes.{type-of, next-types, least-types}
-use Rattle.stage3_normal_form.specs.Productions.{Production, Row, ended-by, row-of, node-row, rows}
+use Rattle.stage3_normal_form.specs.Productions.{Production, Row, ended-by, row-of, node-row, rows, most-tail}
 use Rattle.stage3_normal_form.specs.Derives.{derives, derives-at}
 use Rattle.stage3_normal_form.specs.NormalForm.{all-derive, kept, kept-row, normal-form}
 use Rattle.stage3_normal_form.specs.Places.{node-at, nodes-count, Placed, nodes-placed, everywhere-all, none-usable}
@@ -26,7 +26,7 @@ use Rattle.stage3_normal_form.specs.DistinctHeads.{DistinctHeads}
 use Rattle.stage3_normal_form.specs.RowFacts.{rows-distinct}
 use Rattle.stage3_normal_form.specs.NormalFormLaws.{normal-form-row, kept-production}
 use Rattle.stage3_normal_form.specs.TypesExact.{Starts, first-is-heads}
-use Rattle.stage3_normal_form.specs.Tails.{sequence-count-bound, most-tail, tails-at-most}
+use Rattle.stage3_normal_form.specs.Tails.{sequence-count-bound, tails-at-most}
 use Rattle.stage3_normal_form.specs.ProductionWalk.{walk-step, walk, beginning-with, with-head, walk-of}
 
 -- A production stays if every node of its tail derives, and what was remembered before comes after its tail.

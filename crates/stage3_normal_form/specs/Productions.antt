@@ -12,6 +12,10 @@ pub record Production : Type 0 where
   pub head : ℕ
   pub tail : List ℕ
 
+-- "A tail is at most as long as the number of sequence nodes, so at most 31."
+abbrev pub most-tail : ℕ
+most-tail = 31
+
 -- A nonterminal's productions: whether ε is one of them, and the others.
 pub record Row : Type 0 where
   pub empty : Bool

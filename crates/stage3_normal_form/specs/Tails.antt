@@ -13,7 +13,7 @@ use Rattle.stage1_sheet.specs.Limits.{most-expression-nodes}
 use Rattle.stage1_sheet.specs.WellFormed.{Closed}
 use Rattle.stage2_types.specs.Types.{LanguageType, Context, _⊢_∶_, type-epsilon, type-bottom, type-token, type-variable, type-sequence, type-alternative, type-fixed-point}
 use Rattle.stage2_types.specs.Nodes.{Node, epsilon-node, bottom-node, token-node, sequence-node, alternative-node, fixed-point-node, variable-node, nodes}
-use Rattle.stage3_normal_form.specs.Productions.{Production, Row, no-productions, ended-by, row-of, node-row, rows-after, rows}
+use Rattle.stage3_normal_form.specs.Productions.{Production, most-tail, Row, no-productions, ended-by, row-of, node-row, rows-after, rows}
 use Rattle.stage3_normal_form.specs.NormalForm.{normal-form}
 use Rattle.stage3_normal_form.specs.Places.{node-at, nodes-count, Placed, nodes-placed, Everywhere, everywhere-all, none-usable}
 use Rattle.stage3_normal_form.specs.Descent.{weight, head-weight, weight-parts, VariablesKeep, keep-in-body, bounded}
@@ -93,9 +93,6 @@ tails-short {e} d = everywhere-all (ShortAt (node-at (nodes e)) (rows e) (row-so
     (λ n h q x. absurd (List·Memᴰ·not-nil (rw (List·getD-eq-default (rows e) no-productions {n = n} (rw (rows-length e) h)) at x)))
 
 -- ".. so at most 31."
-abbrev pub most-tail : ℕ
-most-tail = 31
-
 pub tails-at-most : {e : Expression} {a : LanguageType} → [] ⊢ e ∶ a → size e ≤ most-expression-nodes
     → (n : ℕ) (q : Production) → q of row-of (normal-form e) n → length (q .tail) ≤ most-tail
 tails-at-most {e} d h n q m =

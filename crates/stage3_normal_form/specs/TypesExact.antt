@@ -20,7 +20,7 @@ use Rattle.stage3_normal_form.specs.RowEquations.{next-at, row-solves}
 use Rattle.stage3_normal_form.specs.NodeLanguages.{language-of, Site, at-left, site-sound, at-every-node}
 use Rattle.stage3_normal_form.specs.Unfolding.{_of_}
 use Rattle.stage3_normal_form.specs.RowFacts.{rows-null}
-use Rattle.stage3_normal_form.specs.Settling.{settle-keeps}
+use Rattle.stage0_laws.specs.Settling.{settle-keeps}
 
 -- Some production of the row begins with c.
 abbrev pub Starts : ℕ → Row → Type 0

@@ -21,10 +21,10 @@ use Rattle.stage2_types_columns.specs.Tabulate.{tabulate-length, tabulate-at}
 use Rattle.stage2_types_columns.specs.Held.{held-node, held-nodes, held-type, held-types}
 use Rattle.stage2_types_columns.specs.declared.NodeLinks.{NodeLinks}
 use Rattle.stage2_types_columns.specs.declared.TypeColumns.{TypeColumns}
-use Rattle.stage3_normal_form.specs.Productions.{Production, row-of}
+use Rattle.stage3_normal_form.specs.Productions.{Production, row-of, most-tail}
 use Rattle.stage3_normal_form.specs.Derives.{derives}
 use Rattle.stage3_normal_form.specs.NormalForm.{normal-form}
-use Rattle.stage3_normal_form.specs.Tails.{most-tail, tails-at-most, normal-form-in-range}
+use Rattle.stage3_normal_form.specs.Tails.{tails-at-most, normal-form-in-range}
 use Rattle.stage3_normal_form.specs.ProductionWalk.{beginning-with}
 use Rattle.stage3_normal_form.specs.ProductionWalkLaws.{Found, beginning-found}
 use Rattle.stage5_image.specs.Fusion.{production-of}

@@ -8,11 +8,10 @@ use Prim.Native.Nat.{ℕ, suc, _^_, _≤_, _<_}
 use lib.ListN.{length, getD}
 use Rattle.stage0_laws.specs.Lists.{All}
 use Rattle.stage1_sheet.specs.Limits.{most-rules, most-classes, most-expression-nodes, most-byte}
-use Rattle.stage3_normal_form.specs.Productions.{Production, Row}
+use Rattle.stage3_normal_form.specs.Productions.{Production, Row, most-tail}
 use Rattle.stage4_lexer.specs.Positions.{Position}
 use Rattle.stage4_lexer.specs.PositionBounds.{NeverFalling}
 use Rattle.stage5_image.specs.Image.{Image}
-use Rattle.stage5_image.specs.ImageReading.{most-tail}
 
 -- A position, where there are so many rules and positions.
 pub record PositionInRange (rules count : ℕ) (p : Position) : Type 0 where

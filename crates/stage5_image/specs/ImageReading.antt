@@ -8,12 +8,12 @@ use lib.ListN.{length, getD}
 use lib.Dec.{eqb, ltb, leb}
 use Rattle.stage1_sheet.specs.Limits.{most-rules, most-byte}
 use Rattle.stage1_sheet.specs.Field.{Reading, stop, got, and-then, between, read-field, read-many}
-use Rattle.stage3_normal_form.specs.Productions.{Production, Row}
+use Rattle.stage3_normal_form.specs.Productions.{Production, Row, most-tail}
 use Rattle.stage4_lexer.specs.Positions.{Position}
 use Rattle.stage5_image.specs.Image.{Image}
 
--- The ranges that "The image" gives: "position count P, 1 to 64", "nonterminal count, 1 to 64", "production count (0 to 32)", "tail
--- length 0 to 31". The rule count's is the sheet's.
+-- The ranges that "The image" gives: "position count P, 1 to 64", "nonterminal count, 1 to 64", "production count (0 to 32)". The rule
+-- count's is the sheet's, the tail length's that of the normal form.
 abbrev pub most-positions : ℕ
 most-positions = 64
 
@@ -22,9 +22,6 @@ most-nonterminals = 64
 
 abbrev pub most-productions : ℕ
 most-productions = 32
-
-abbrev pub most-tail : ℕ
-most-tail = 31
 
 -- A number of an image: 13 where it is not readable or not allowed.
 unfoldable pub image-field : (ℕ → Bool) → List ℕ → ℕ → Reading ℕ

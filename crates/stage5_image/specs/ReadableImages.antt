@@ -17,11 +17,11 @@ use Rattle.stage0_number.specs.declared.Number.the-variants.{Read, Refused}
 use Rattle.stage1_sheet.specs.Limits.{most-rules, most-classes, most-expression-nodes, most-byte}
 use Rattle.stage1_sheet.specs.Field.{Reading, stop, got, between, field-of, read-field, read-many}
 use Rattle.stage1_sheet.specs.FieldLaws.{Bytes, Stands, stands-none, stands-append, stands-whole, Outcome, refused, accepted, then-outcome, outcome-imply, outcome-got, outcome-stop, field-outcome, true-between}
-use Rattle.stage3_normal_form.specs.Productions.{Production}
+use Rattle.stage3_normal_form.specs.Productions.{Production, most-tail}
 use Rattle.stage4_lexer.specs.Positions.{Position}
 use Rattle.stage4_lexer.specs.PositionBounds.{NeverFalling}
 use Rattle.stage5_image.specs.Image.{Image, flag, image-numbers, image-bytes}
-use Rattle.stage5_image.specs.ImageReading.{most-tail, image-field, read-flag, read-list, read-position, read-production, read-row, image-end, read-image}
+use Rattle.stage5_image.specs.ImageReading.{image-field, read-flag, read-list, read-position, read-production, read-row, image-end, read-image}
 use Rattle.stage5_image.specs.ImageNumbers.{all-numbers, just, flag-number, one-position-numbers, one-production-numbers, one-row-numbers, tail-is, flags-are, positions-are, productions-are, rows-are, EachFrom}
 use Rattle.stage5_image.specs.ImageRanges.{PositionInRange, ProductionInRange, Rising, RowInRange, InRange}
 

@@ -9,13 +9,12 @@ use borrow.Author.Tests.{ne-eqb}
 use Rattle.stage0_laws.specs.Lists.{All}
 use Rattle.stage1_sheet.specs.Limits.{most-rules}
 use Rattle.stage1_sheet.specs.Sheet.{Rule}
-use Rattle.stage3_normal_form.specs.Productions.{Production, Row, row-of}
+use Rattle.stage3_normal_form.specs.Productions.{Production, Row, row-of, most-tail}
 use Rattle.stage4_lexer.specs.Words.{RuleAt, first-rule, later-rule}
 use Rattle.stage5_image.specs.Fusion.{fused-from, fused-row, fused}
 use Rattle.stage5_image.specs.FusionLaws.{fused-rising, fused-count}
 use Rattle.stage5_image.specs.Image.{skips-rule}
 use Rattle.stage5_image.specs.ImageRanges.{ProductionInRange, Rising, RowInRange}
-use Rattle.stage5_image.specs.ImageReading.{most-tail}
 use Rattle.stage5_image.specs.Members.{all-of, all-member, all-map}
 use Rattle.stage5_image.specs.Numbering.{reached, number-of, renumbered, renumbered-row, numbered}
 use Rattle.stage5_image.specs.MetNodes.{Met, met-member}

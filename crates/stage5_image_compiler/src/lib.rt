@@ -60,19 +60,7 @@ fn grammar_of(rules: RuleColumns, checked: Checked) -> Grammar
     let links = checked.links;
     let types = checked.types;
     let productive = stage3_normal_form_walk::derives(links);
-    let action = rules.action;
-    let tag = links.tag;
-    let link = links.link;
-    let first = types.first;
-    Grammar {
-        rules: rules.count,
-        action,
-        tag,
-        link,
-        first,
-        null: types.null,
-        productive,
-    }
+    stage5_image_numbering::grammar_from(rules, links, types, productive)
 }
 
 // Questions 8 to 10, at the failing node's tag; then 11.

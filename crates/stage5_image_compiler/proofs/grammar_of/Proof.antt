@@ -1,5 +1,7 @@
 -- `stage5_image_compiler::grammar_of` meets its contract.
+use mathlib.Core.Path.{sym, subst}
 use borrow.Author.Needs.{needs}
+use Rattle.stage5_image_numbering.specs.Grammar.{GrammarOf}
 use Rattle.stage5_image_compiler.proofs.Grammars.{linked, grammar-held}
 use Rattle.stage5_image_compiler.proofs.grammar_of.Statement.{statement}
 use Rattle.stage5_image_compiler.proofs.grammar_of.Tie as tie
@@ -7,13 +9,17 @@ use Rattle.stage5_image_compiler.proofs.grammar_of.Tie as tie
 derives-requires : tie.Need-derives-requires
 derives-requires c κs = search needs
 
+grammar-from-requires : tie.Need-grammar-from-requires
+grammar-from-requires c κs = search needs
+
 returns : tie.Need-returns
 returns c =
-    let called = c .before .before .before .before in
+    let called = c .before in
     let z = called .before .before .before .args in
     λ d columns s h right.
     let set = called .derives .ensures (d .sheet .expression) (linked d (z .rules) columns (z .checked) s h) in
-    grammar-held d (z .rules) columns (z .checked) s h _ set right
+    subst (λ g. GrammarOf g (d .sheet .rules) (d .sheet .expression)) (sym (c .grammar-from .ensures))
+    (grammar-held d (z .rules) columns (z .checked) s h _ set right)
 
 pub grammar-of-spec : {M : Type 1} → statement M
-grammar-of-spec = tie.close (tie.spec derives-requires returns)
+grammar-of-spec = tie.close (tie.spec derives-requires grammar-from-requires returns)
