@@ -1,8 +1,8 @@
--- `vinzagew_vectors::show::front` is safe and ends. The loop's invariant: the place is within the count.
+-- `vinzagew_vectors::show_front` is safe and ends. The loop's invariant: the place is within the count.
 use borrow.Author.Needs.{needs}
 use Prim.Native.Nat.{_≤_, _-_}
-use Rattle.vinzagew_vectors.proofs.show.front.Statement.{statement}
-use Rattle.vinzagew_vectors.proofs.show.front.Tie as tie
+use Rattle.vinzagew_vectors.proofs.show_front.Statement.{statement}
+use Rattle.vinzagew_vectors.proofs.show_front.Tie as tie
 
 abbrev Inv-loop : tie.InvT-loop
 Inv-loop bytes count i₀ i = i ≤ count
@@ -25,8 +25,8 @@ returns c = search needs
 shared-slice-read-byte : tie.Need-shared-slice-read-byte Inv-loop μ-loop
 shared-slice-read-byte c = search needs
 
-byte-requires : tie.Need-byte-requires Inv-loop μ-loop
-byte-requires c κs = search needs
+show-byte-requires : tie.Need-show-byte-requires Inv-loop μ-loop
+show-byte-requires c κs = search needs
 
 add-i : tie.Need-add-i Inv-loop μ-loop
 add-i c = search needs
@@ -40,8 +40,8 @@ loop-again c = search needs
 returns-2 : tie.Need-returns-2 Inv-loop μ-loop
 returns-2 c = search needs
 
-pub front-spec : {M : Type 1} → statement M
-front-spec =
+pub show-front-spec : {M : Type 1} → statement M
+show-front-spec =
     tie.close
     (tie.spec
     Inv-loop
@@ -51,7 +51,7 @@ front-spec =
     loop-holds
     returns
     shared-slice-read-byte
-    byte-requires
+    show-byte-requires
     add-i
     loop-less
     loop-again

@@ -1,12 +1,12 @@
--- `vinzagew_vectors::fields::bytes` meets its contract. The loop's invariant: the count is within the buffer.
+-- `vinzagew_vectors::bytes_field` meets its contract. The loop's invariant: the count is within the buffer.
 use borrow.Author.Needs.{needs}
 use native.Mathlib.Omega.{arith}
 use mathlib.Core.Path.{_≡_, sym}
 use Prim.Native.Nat.{_≤_, _-_}
 use lib.ListN.{length, length-set}
 use lib.Seq.{length-take-le}
-use Rattle.vinzagew_vectors.proofs.fields.bytes.Statement.{statement}
-use Rattle.vinzagew_vectors.proofs.fields.bytes.Tie as tie
+use Rattle.vinzagew_vectors.proofs.bytes_field.Statement.{statement}
+use Rattle.vinzagew_vectors.proofs.bytes_field.Tie as tie
 
 abbrev Inv-loop : tie.InvT-loop
 Inv-loop text at buffer₀ i₀ count₀ buffer i count = (count ≤ length buffer) × (length buffer ≡ length buffer₀)
@@ -54,8 +54,8 @@ returns-2 c =
     let l = c .before .loop in
     (search needs, sym (length-take-le (l .count) (l .buffer) (omega arith)))
 
-pub bytes-spec : {M : Type 1} → statement M
-bytes-spec =
+pub bytes-field-spec : {M : Type 1} → statement M
+bytes-field-spec =
     tie.close
     (tie.spec
     Inv-loop

@@ -1,9 +1,9 @@
--- `vinzagew_vectors::fields::number` is safe and ends. The loop's invariant: the value has five digits at most.
+-- `vinzagew_vectors::decimal_field` is safe and ends. The loop's invariant: the value has five digits at most.
 use borrow.Author.Needs.{needs}
 use Prim.Native.Nat.{_≤_, _-_}
 use lib.ListN.{length}
-use Rattle.vinzagew_vectors.proofs.fields.number.Statement.{statement}
-use Rattle.vinzagew_vectors.proofs.fields.number.Tie as tie
+use Rattle.vinzagew_vectors.proofs.decimal_field.Statement.{statement}
+use Rattle.vinzagew_vectors.proofs.decimal_field.Tie as tie
 
 abbrev Inv-loop : tie.InvT-loop
 Inv-loop text at i₀ value₀ i value = value ≤ 99999
@@ -44,8 +44,8 @@ loop-again c = search needs
 returns-3 : tie.Need-returns-3 Inv-loop μ-loop
 returns-3 c = search needs
 
-pub number-spec : {M : Type 1} → statement M
-number-spec =
+pub decimal-field-spec : {M : Type 1} → statement M
+decimal-field-spec =
     tie.close
     (tie.spec
     Inv-loop

@@ -1,8 +1,8 @@
--- `vinzagew_vectors::show::all_are` is safe and ends. The loop's invariant: the place does not fall.
+-- `vinzagew_vectors::all_are` is safe and ends. The loop's invariant: the place does not fall.
 use borrow.Author.Needs.{needs}
 use Prim.Native.Nat.{_≤_, _-_}
-use Rattle.vinzagew_vectors.proofs.show.all_are.Statement.{statement}
-use Rattle.vinzagew_vectors.proofs.show.all_are.Tie as tie
+use Rattle.vinzagew_vectors.proofs.all_are.Statement.{statement}
+use Rattle.vinzagew_vectors.proofs.all_are.Tie as tie
 
 abbrev Inv-loop : tie.InvT-loop
 Inv-loop bytes from to value i₀ i = from ≤ i
