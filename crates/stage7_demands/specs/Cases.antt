@@ -19,7 +19,6 @@ use Rattle.stage1_sheet.specs.WellFormed.{Spells}
 use Rattle.stage1_sheet.specs.FieldLaws.{all-bytes, tested-bytes}
 use Rattle.stage1_sheet.specs.Field.{Reading, got}
 use Rattle.stage1_sheet.specs.Reading.{Contents, read-sheet}
-use Rattle.stage1_sheet.specs.Places.{contents-of}
 use Rattle.stage1_sheet.specs.ReadingLaws.{spelled-read}
 use Rattle.stage1_sheet.specs.SheetD.{sheet-D, with-expression, bytes-of-D}
 use Rattle.stage7_demands.specs.Demands.{Demand3}
@@ -104,7 +103,7 @@ got-same e = cc
 
 -- By demand 3 that is also the sheet's own answer.
 holds : (c : Case) → Computes c → Holds c
-unfolding compiled-sheet answer-of written-part contents-of
+unfolding compiled-sheet answer-of written-part
 holds (compiles sheet c) h = h
 holds (reads sheet text a) h = (
   ap (λ (c : Compiled). run (written-part c) text (long-enough text)) (h .1) ∙ h .2,
@@ -113,8 +112,9 @@ holds (reads sheet text a) h = (
       (leb→le (length text) most-text-bytes (h .4)) (omega arith)),
 )
 holds (denotes-nothing sheet) h =
-    λ s spells. let e : h .0 ≡ contents-of s = got-same (sym (h .1) ∙ spelled-read sheet s spells) in
-    subst (λ (c : Contents). (tokens : List ℕ) → Denotes ((c .sheet) .expression) tokens → ⊥) e (h .2)
+    λ s spells. let r = spelled-read sheet s spells in
+    let e : h .0 .sheet ≡ s = ap (λ (c : Contents). c .sheet) (got-same (sym (h .1) ∙ r .1)) ∙ r .2 .same-sheet in
+    subst (λ (t : Sheet). (tokens : List ℕ) → Denotes (t .expression) tokens → ⊥) e (h .2)
 
 all-hold : (cs : List Case) → All Computes cs → All Holds cs
 all-hold [] h = tt
