@@ -30,7 +30,7 @@ returns c =
     let told = c .before .before .before in
     let z = told .before .before .before .before in
     let bytes = now (z .args .sheet) in
-    let e = field-value (up-to 0 most-regex-tag) bytes _ (sym (told .before .before .read-field .ensures) ∙ told .tag .given .1) in
+    let e = field-value (up-to 0 most-regex-tag) bytes _ (told .before .before .read-field .ensures) (told .tag .given .1) in
     c .regex-stop2 .ensures ∙ turn-stops _ _ (node-full bytes _ _ _ e (c .before .if1 .taken))
 
 class-turn-requires : tie.Need-class-turn-requires
@@ -41,7 +41,7 @@ returns-2 c =
     let told = c .before .before .before .before in
     let z = told .before .before .before .before in
     let bytes = now (z .args .sheet) in
-    let e = field-value (up-to 0 most-regex-tag) bytes _ (sym (told .before .before .read-field .ensures) ∙ told .tag .given .1) in
+    let e = field-value (up-to 0 most-regex-tag) bytes _ (told .before .before .read-field .ensures) (told .tag .given .1) in
     c .class-turn .ensures ∙ ap (regex-turned _ _) (sym (node-class bytes _ _ _ e (c .before .before .if1 .left) (c .before .if2 .taken)))
 
 with-tag-requires : tie.Need-with-tag-requires
@@ -59,7 +59,7 @@ returns-3 c =
     let told = tagged .before .before .before .before in
     let z = told .before .before .before .before in
     let bytes = now (z .args .sheet) in
-    let e = field-value (up-to 0 most-regex-tag) bytes _ (sym (told .before .before .read-field .ensures) ∙ told .tag .given .1) in
+    let e = field-value (up-to 0 most-regex-tag) bytes _ (told .before .before .read-field .ensures) (told .tag .given .1) in
     let n = node-empty bytes _ _ _ e _ (tagged .before .before .if1 .left) (c .before .if3 .taken) in
     c .regex-next .ensures ∙ plain-goes _ _ n (tagged .with-tag .ensures) (omega arith)
 
@@ -72,7 +72,7 @@ returns-4 c =
     let told = tagged .before .before .before .before in
     let z = told .before .before .before .before in
     let bytes = now (z .args .sheet) in
-    let e = field-value (up-to 0 most-regex-tag) bytes _ (sym (told .before .before .read-field .ensures) ∙ told .tag .given .1) in
+    let e = field-value (up-to 0 most-regex-tag) bytes _ (told .before .before .read-field .ensures) (told .tag .given .1) in
     let n = node-star bytes _ _ _ e _ (tagged .before .before .if1 .left) (c .before .if4 .taken) in
     c .regex-next2 .ensures ∙ plain-goes _ _ n (tagged .with-tag .ensures) (omega (arith, z .pre .0))
 
@@ -87,7 +87,7 @@ returns-5 c =
     let told = c .before .before in
     let z = told .before .before .before .before in
     let bytes = now (z .args .sheet) in
-    let e = field-unfit (up-to 0 most-regex-tag) bytes _ (sym (told .before .before .read-field .ensures) ∙ told .question .given .1) in
+    let e = field-unfit (up-to 0 most-regex-tag) bytes _ (told .before .before .read-field .ensures) (told .question .given .1) in
     c .regex-stop .ensures ∙ turn-stops _ _ (node-unfit bytes _ _ _ e)
 
 returns-6 : tie.Need-returns-6
@@ -96,7 +96,7 @@ returns-6 c =
     let told = tagged .before .before .before .before in
     let z = told .before .before .before .before in
     let bytes = now (z .args .sheet) in
-    let e = field-value (up-to 0 most-regex-tag) bytes _ (sym (told .before .before .read-field .ensures) ∙ told .tag .given .1) in
+    let e = field-value (up-to 0 most-regex-tag) bytes _ (told .before .before .read-field .ensures) (told .tag .given .1) in
     let n =
     node-two bytes _ _ _ e _ (tagged .before .before .if1 .left) (c .before .before .if3 .left) (tagged .before .if2 .left) (c .before .if4 .left) in
     c .regex-next3 .ensures ∙ plain-goes _ _ n (tagged .with-tag .ensures) (omega (arith, z .pre .0))
