@@ -1,5 +1,5 @@
--- The laws of fields: where numbers stand among bytes, and that a field is read exactly where its number stands.
--- What a sheet asks of its fields is not said here.
+-- The laws of fields: the ways through one, several in a row, and where numbers in their one encoding stand, as an image has them.
+-- Where the numbers of a sheet stand is said in NumberLaws.
 use mathlib.Core.Path.{_≡_, refl, sym, ap, ap₂, subst, _∙_}
 use mathlib.Core.Bool.{Bool, true, false, cond, _&&_}
 use mathlib.Core.List.{List, [], _∷_, _++_, append-assoc, append-nil}
@@ -161,20 +161,29 @@ module _ (unreadable forbidden : ℕ) (allowed : ℕ → Bool) (bytes : List ℕ
         inside = w .inside;
       }
 
+  -- The ways through a field: no number is read there, one that is not allowed, or one that is.
+  pub field-cases : (R Q : ℕ → ℕ → Type 0) → (decode bytes at ≡ Refused → R unreadable at)
+      → ((v used : ℕ) → decode bytes at ≡ Read v used → allowed v ≡ false → R forbidden at)
+      → ((v used : ℕ) → decode bytes at ≡ Read v used → allowed v ≡ true → Q v (at + used))
+      → Outcome R Q (read-field unreadable forbidden allowed bytes at)
+  unfolding read-field field-of
+  field-cases R Q none bad good = go (decode bytes at) refl
+    where
+      chosen : (v used : ℕ) → decode bytes at ≡ Read v used → (c : Bool) → allowed v ≡ c
+          → Outcome R Q (cond c (got v (at + used)) (stop forbidden at))
+      chosen v used e true h = accepted v (at + used) (good v used e h)
+      chosen v used e false h = refused forbidden at (bad v used e h)
+
+      go : (n : Number) → decode bytes at ≡ n → Outcome R Q (field-of unreadable forbidden allowed at n)
+      go Refused e = refused unreadable at (none e)
+      go (Read v used) e = chosen v used e (allowed v) refl
+
   -- Whatever a field gives stands there; a refusal is at the field's own place.
   pub field-outcome : (R : ℕ → ℕ → Type 0) → Bytes bytes → R unreadable at → R forbidden at
       → Outcome R (FieldRead allowed bytes at) (read-field unreadable forbidden allowed bytes at)
-  unfolding read-field field-of
-  field-outcome R b u f = go (decode bytes at) refl
-    where
-      chosen : (v used : ℕ) → decode bytes at ≡ Read v used → (c : Bool) → allowed v ≡ c
-          → Outcome R (FieldRead allowed bytes at) (cond c (got v (at + used)) (stop forbidden at))
-      chosen v used e true h = accepted v (at + used) (record { holds = h; stands = number-stands b v used e })
-      chosen v used e false h = refused forbidden at f
-
-      go : (n : Number) → decode bytes at ≡ n → Outcome R (FieldRead allowed bytes at) (field-of unreadable forbidden allowed at n)
-      go Refused e = refused unreadable at u
-      go (Read v used) e = chosen v used e (allowed v) refl
+  field-outcome R b u f =
+      field-cases R (FieldRead allowed bytes at) (λ e. u) (λ v used e h. f)
+      (λ v used e h. record { holds = h; stands = number-stands b v used e })
 
   -- Where an allowed number stands, the field gives it.
   pub field-got : (v : ℕ) (ns : List ℕ) (end : ℕ) → v < 2 ^ 64 → allowed v ≡ true → Stands bytes at (v ∷ ns) end

@@ -24,3 +24,10 @@ most-sheet-bytes = 4096
 -- A byte, as a class's low and high bytes are.
 abbrev pub most-byte : ℕ
 most-byte = 255
+
+-- The last tags of the page's two lists: of a regex (star), and of an expression (variable).
+abbrev pub most-regex-tag : ℕ
+most-regex-tag = 4
+
+abbrev pub most-expression-tag : ℕ
+most-expression-tag = 6

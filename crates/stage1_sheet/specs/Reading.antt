@@ -7,6 +7,7 @@ use lib.ListN.{length, getD}
 use lib.Dec.{eqb, ltb}
 use Rattle.stage0_laws.specs.Lists.{sum}
 use Rattle.stage1_sheet.specs.Limits.{most-tokens, most-rules, most-classes, most-regex-nodes, most-expression-nodes, most-byte}
+use Rattle.stage1_sheet.specs.Limits.{most-regex-tag, most-expression-tag}
 use Rattle.stage1_sheet.specs.Regex.{empty}
 use Rattle.stage1_sheet.specs.Expression.{bottom}
 use Rattle.stage1_sheet.specs.Sheet.{Sheet}
@@ -26,21 +27,23 @@ class-after bytes classes at next =
     (and-then (sheet-field (between 0 most-byte) bytes next)
     (λ low after. and-then (sheet-field (between low most-byte) bytes after) (λ high end. got (class-item low high) end)))
 
--- The item of a tag that is allowed, with what follows the tag.
+-- The item of a tag, with what follows the tag. Every tag has its own test; one that has none is refused as not allowed, which it
+-- was before.
 unfoldable pub regex-item : List ℕ → ℕ → ℕ → ℕ → ℕ → Reading RegexItem
 regex-item bytes classes at tag next =
     cond (eqb tag 0) (got empty-item next)
     (cond (eqb tag 1) (class-after bytes classes at next)
-    (cond (eqb tag 2) (got concat-item next) (cond (eqb tag 3) (got union-item next) (got star-item next))))
+    (cond (eqb tag 2) (got concat-item next)
+    (cond (eqb tag 3) (got union-item next) (cond (eqb tag 4) (got star-item next) (stop 4 at)))))
 
 -- The items of so many regexes in a row, from a place on, while so many nodes and classes are still allowed. A tag is asked
 -- for 3, then 4, then 5; the limits count "over all rules".
 unfoldable pub regex-items : List ℕ → ℕ → ℕ → ℕ → ℕ → Reading (List RegexItem)
 regex-items bytes zero classes zero at = got [] at
-regex-items bytes zero classes (suc due) at = and-then (sheet-field (between 0 4) bytes at) (λ tag next. stop 5 at)
+regex-items bytes zero classes (suc due) at = and-then (sheet-field (between 0 most-regex-tag) bytes at) (λ tag next. stop 5 at)
 regex-items bytes (suc left) classes zero at = got [] at
 regex-items bytes (suc left) classes (suc due) at =
-    and-then (sheet-field (between 0 4) bytes at)
+    and-then (sheet-field (between 0 most-regex-tag) bytes at)
     (λ tag next. and-then (regex-item bytes classes at tag next)
     (λ item after. and-then (regex-items bytes left (classes - item-classes item) (regex-parts item + due) after)
     (λ items end. got (item ∷ items) end)))
@@ -71,26 +74,26 @@ pub record ReadNode : Type 0 where
   pub place : ℕ
   pub item : ExpressionItem
 
--- The item of an allowed tag, where so many fixed points are open.
-unfoldable pub expression-item : List ℕ → ℕ → ℕ → ℕ → ℕ → Reading ExpressionItem
-expression-item bytes tokens opened tag next =
+-- The item of a tag, where so many fixed points are open, as for regexes.
+unfoldable pub expression-item : List ℕ → ℕ → ℕ → ℕ → ℕ → ℕ → Reading ExpressionItem
+expression-item bytes tokens opened at tag next =
     cond (eqb tag 0) (got epsilon-item next)
     (cond (eqb tag 1) (got bottom-item next)
     (cond (eqb tag 2) (and-then (sheet-field (λ k. ltb k tokens) bytes next) (λ k end. got (token-item k) end))
     (cond (eqb tag 3) (got sequence-item next)
     (cond (eqb tag 4) (got alternative-item next)
     (cond (eqb tag 5) (got fixed-point-item next)
-    (and-then (sheet-field (λ n. ltb n opened) bytes next) (λ n end. got (variable-item n) end)))))))
+    (cond (eqb tag 6) (and-then (sheet-field (λ n. ltb n opened) bytes next) (λ n end. got (variable-item n) end)) (stop 4 at)))))))
 
 -- The nodes of the expressions still to come, while so many nodes are allowed. For each expression still to come the list
 -- has how many fixed points are open where it stands.
 unfoldable pub expression-nodes : List ℕ → ℕ → ℕ → List ℕ → ℕ → Reading (List ReadNode)
 expression-nodes bytes tokens zero [] at = got [] at
-expression-nodes bytes tokens zero (opened ∷ due) at = and-then (sheet-field (between 0 6) bytes at) (λ tag next. stop 5 at)
+expression-nodes bytes tokens zero (opened ∷ due) at = and-then (sheet-field (between 0 most-expression-tag) bytes at) (λ tag next. stop 5 at)
 expression-nodes bytes tokens (suc left) [] at = got [] at
 expression-nodes bytes tokens (suc left) (opened ∷ due) at =
-    and-then (sheet-field (between 0 6) bytes at)
-    (λ tag next. and-then (expression-item bytes tokens opened tag next)
+    and-then (sheet-field (between 0 most-expression-tag) bytes at)
+    (λ tag next. and-then (expression-item bytes tokens opened at tag next)
     (λ item after. and-then (expression-nodes bytes tokens left (part-depths item opened ++ due) after)
     (λ nodes end. got (record { place = at; item = item } ∷ nodes) end)))
 

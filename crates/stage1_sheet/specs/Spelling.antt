@@ -1,14 +1,31 @@
--- How a sheet is written: "A sheet is numbers only", one after the other, in the order of the page's list.
--- This says what a sheet's bytes are, not how they are read.
+-- How a sheet is written: "A sheet is numbers only", one after the other, in the order of the page's list. Which bytes are written
+-- for a number is said once, by a relation, and so are the places of numbers among bytes. How bytes are read is not said here.
+use mathlib.Core.Path.{_≡_}
 use mathlib.Core.List.{List, [], _∷_, _++_}
-use Prim.Native.Nat.{ℕ}
-use lib.ListN.{length}
+use Prim.Native.Nat.{ℕ, _-_, _^_, _≤_, _<_}
+use lib.ListN.{length, take, drop}
 use Rattle.stage0_number.specs.Number.{encode}
 use Rattle.stage1_sheet.specs.Regex.{Regex, empty, class, concat, union, star}
 use Rattle.stage1_sheet.specs.Expression.{Expression, epsilon, bottom, token, sequence, alternative, fixed-point, variable}
 use Rattle.stage1_sheet.specs.Sheet.{Rule, Sheet}
 
--- Numbers, one after the other, as bytes.
+-- "A number is written in groups of seven bits .. It uses the fewest bytes and lies below 2^64": in a sheet these bytes are written
+-- for this number.
+pub record NumberBytes (n : ℕ) (bytes : List ℕ) : Type 0 where
+  pub below : n < 2 ^ 64
+  pub encoded : bytes ≡ encode n
+
+-- A number stands at a place of some bytes: those from there up to the next number's place are written for it.
+pub record NumberAt (bytes : List ℕ) (at n next : ℕ) : Type 0 where
+  pub inside : next ≤ length bytes
+  pub written : NumberBytes n (take (next - at) (drop at bytes))
+
+-- Numbers stand one after the other, from a place to an end.
+pub data NumbersAt (bytes : List ℕ) : ℕ → List ℕ → ℕ → Type 0 where
+  no-more : {at : ℕ} → NumbersAt bytes at [] at
+  one-more : {at n next end : ℕ} {ns : List ℕ} → NumberAt bytes at n next → NumbersAt bytes next ns end → NumbersAt bytes at (n ∷ ns) end
+
+-- Numbers in their one encoding, one after the other, as an image has them.
 unfoldable pub spell : List ℕ → List ℕ
 spell [] = []
 spell (n ∷ ns) = encode n ++ spell ns
@@ -40,7 +57,3 @@ expression-numbers (variable n) = 6 ∷ n ∷ []
 -- "version, 1; token count T; rule count R; per rule ..; one expression"
 unfoldable pub sheet-numbers : Sheet → List ℕ
 sheet-numbers s = 1 ∷ s .tokens ∷ length (s .rules) ∷ (rule-numbers (s .rules) ++ expression-numbers (s .expression))
-
--- A sheet's bytes.
-unfoldable pub sheet-bytes : Sheet → List ℕ
-sheet-bytes s = spell (sheet-numbers s)

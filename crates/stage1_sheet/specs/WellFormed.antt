@@ -1,5 +1,4 @@
 -- When bytes are a well-formed sheet: they spell a sheet that keeps the page's ranges and limits. No reader is named here.
-use mathlib.Core.Path.{_≡_}
 use mathlib.Core.List.{List}
 use Prim.Native.Nat.{ℕ, suc, _≤_, _<_}
 use lib.ListN.{length}
@@ -8,7 +7,7 @@ use Rattle.stage1_sheet.specs.Limits.{most-tokens, most-rules, most-clas
 use Rattle.stage1_sheet.specs.Regex.{Regex, empty, class, concat, union, star, regex-nodes, class-count}
 use Rattle.stage1_sheet.specs.Expression.{Expression, epsilon, bottom, token, sequence, alternative, fixed-point, variable, size}
 use Rattle.stage1_sheet.specs.Sheet.{Rule, Sheet}
-use Rattle.stage1_sheet.specs.Spelling.{sheet-bytes}
+use Rattle.stage1_sheet.specs.Spelling.{NumbersAt, sheet-numbers}
 
 -- "its low byte (0 to 255) and high byte (low to 255)"
 abbrev pub BytesInRange : Regex → Type 0
@@ -47,9 +46,9 @@ pub record WithinLimits (s : Sheet) : Type 0 where
   pub closed : Closed (s .tokens) 0 (s .expression)
   pub nodes-most : size (s .expression) ≤ most-expression-nodes
 
--- The bytes are those of the sheet s, which keeps the limits, "4,096 bytes" among them.
+-- The bytes spell the numbers of the sheet s, which keeps the limits, "4,096 bytes" among them.
 pub record Spells (bytes : List ℕ) (s : Sheet) : Type 0 where
-  pub spelled : bytes ≡ sheet-bytes s
+  pub spelled : NumbersAt bytes 0 (sheet-numbers s) (length bytes)
   pub limits : WithinLimits s
   pub bytes-most : length bytes ≤ most-sheet-bytes
 

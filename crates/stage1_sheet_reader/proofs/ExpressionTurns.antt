@@ -11,6 +11,7 @@ use lib.ListN.{length, getD, set, length-set, replicate}
 use lib.Seq.{getD-set-same, getD-set-other, set-out}
 use borrow.Author.Tests.{eq-eqb, ne-eqb}
 use Rattle.stage0_laws.specs.Order.{compare-cases, lt-or-le}
+use Rattle.stage1_sheet.specs.Limits.{most-expression-tag}
 use Rattle.stage1_sheet.specs.Field.{Reading, stop, got, and-then, between}
 use Rattle.stage1_sheet.specs.FieldLaws.{Outcome, refused, accepted, then-outcome, outcome-got, true-between}
 use Rattle.stage1_sheet.specs.Items.{ExpressionItem, epsilon-item, bottom-item, token-item, sequence-item, alternative-item, fixed-point-item, variable-item, part-depths}
@@ -71,18 +72,18 @@ unfolding expression-turned
 plain-item-goes c p at i h k = rw (i .read, i .same-tag, i .no-number, h, k)
 
 module _ (bytes : List ℕ) (tokens count opened at : ℕ) where
-  pub node-unfit : {question place : ℕ} → sheet-field (between 0 6) bytes at ≡ stop question place
+  pub node-unfit : {question place : ℕ} → sheet-field (between 0 most-expression-tag) bytes at ≡ stop question place
       → expression-turn bytes tokens (64 - count) opened at ≡ stop question place
   unfolding expression-turn
   node-unfit e = rw e
 
-  module _ {tag next : ℕ} (e : sheet-field (between 0 6) bytes at ≡ got tag next) where
+  module _ {tag next : ℕ} (e : sheet-field (between 0 most-expression-tag) bytes at ≡ got tag next) where
     pub node-full : 64 ≤ count → expression-turn bytes tokens (64 - count) opened at ≡ stop 5 at
     unfolding expression-turn
     node-full h = rw (e, eq-eqb (64 - count) 0 (omega arith))
 
     module _ (h : count < 64) where
-      node-tag : expression-turn bytes tokens (64 - count) opened at ≡ expression-item bytes tokens opened tag next
+      node-tag : expression-turn bytes tokens (64 - count) opened at ≡ expression-item bytes tokens opened at tag next
       unfolding expression-turn
       node-tag = rw (e, ne-eqb (64 - count) 0 (λ z. omega arith))
 
@@ -100,8 +101,8 @@ module _ (bytes : List ℕ) (tokens count opened at : ℕ) where
       unfolding expression-item expression-tag number-after
       node-plain n2 n6 = go tag refl
         where
-          most : tag ≤ 6
-          most = true-between 0 6 tag (field-kept (between 0 6) bytes at e .holds) .1
+          most : tag ≤ most-expression-tag
+          most = true-between 0 most-expression-tag tag (field-kept (between 0 most-expression-tag) bytes at e .holds) .1
 
           go : (t : ℕ) → tag ≡ t → PlainItem tag (expression-turn bytes tokens (64 - count) opened at) next
           go zero s = record { item = epsilon-item; read = node-tag ∙ rw s; same-tag = sym s; no-number = refl }
@@ -165,10 +166,10 @@ record ExpressionKept (bytes : List ℕ) (left : ℕ) (item : ExpressionItem) (n
   inside : next ≤ length bytes
 
 module _ (bytes : List ℕ) where
-  item-keeps : (tokens left opened tag next : ℕ) → next ≤ length bytes
-      → Outcome Any (ExpressionKept bytes (suc left)) (expression-item bytes tokens opened tag next)
+  item-keeps : (tokens left opened at tag next : ℕ) → next ≤ length bytes
+      → Outcome Any (ExpressionKept bytes (suc left)) (expression-item bytes tokens opened at tag next)
   unfolding expression-item
-  item-keeps tokens left opened tag next h = go (eqb tag 0) (eqb tag 1) (eqb tag 2) (eqb tag 3) (eqb tag 4) (eqb tag 5)
+  item-keeps tokens left opened at tag next h = go (eqb tag 0) (eqb tag 1) (eqb tag 2) (eqb tag 3) (eqb tag 4) (eqb tag 5) (eqb tag 6)
     where
       numbered : (bound : ℕ) (make : ℕ → ExpressionItem)
           → Outcome Any (ExpressionKept bytes (suc left)) (and-then (sheet-field (λ k. ltb k bound) bytes next) (λ k end. got (make k) end))
@@ -179,25 +180,26 @@ module _ (bytes : List ℕ) where
       plain : (item : ExpressionItem) → Outcome Any (ExpressionKept bytes (suc left)) (got item next)
       plain item = accepted item next (record { node-allowed = omega arith; inside = h })
 
-      go : (a b d f g i : Bool) → Outcome Any (ExpressionKept bytes (suc left))
+      go : (a b d f g i j : Bool) → Outcome Any (ExpressionKept bytes (suc left))
           (cond a (got epsilon-item next) (cond b (got bottom-item next)
           (cond d (and-then (sheet-field (λ k. ltb k tokens) bytes next) (λ k end. got (token-item k) end))
           (cond f (got sequence-item next) (cond g (got alternative-item next) (cond i (got fixed-point-item next)
-          (and-then (sheet-field (λ n. ltb n opened) bytes next) (λ n end. got (variable-item n) end))))))))
-      go true b d f g i = plain epsilon-item
-      go false true d f g i = plain bottom-item
-      go false false true f g i = numbered tokens token-item
-      go false false false true g i = plain sequence-item
-      go false false false false true i = plain alternative-item
-      go false false false false false true = plain fixed-point-item
-      go false false false false false false = numbered opened variable-item
+          (cond j (and-then (sheet-field (λ n. ltb n opened) bytes next) (λ n end. got (variable-item n) end)) (stop 4 at))))))))
+      go true b d f g i j = plain epsilon-item
+      go false true d f g i j = plain bottom-item
+      go false false true f g i j = numbered tokens token-item
+      go false false false true g i j = plain sequence-item
+      go false false false false true i j = plain alternative-item
+      go false false false false false true j = plain fixed-point-item
+      go false false false false false false true = numbered opened variable-item
+      go false false false false false false false = refused 4 at tt
 
   turn-keeps : (tokens left opened at : ℕ) → Outcome Any (ExpressionKept bytes left) (expression-turn bytes tokens left opened at)
   unfolding expression-turn
-  turn-keeps tokens zero opened at = then-outcome (field-inside (between 0 6) bytes at) (λ tag next f. refused 5 at tt)
+  turn-keeps tokens zero opened at = then-outcome (field-inside (between 0 most-expression-tag) bytes at) (λ tag next f. refused 5 at tt)
   turn-keeps tokens (suc left) opened at =
       rw (eqb·suc-zero left)
-      (then-outcome (field-inside (between 0 6) bytes at) (λ tag next f. item-keeps tokens left opened tag next (f .inside)))
+      (then-outcome (field-inside (between 0 most-expression-tag) bytes at) (λ tag next f. item-keeps tokens left opened at tag next (f .inside)))
 
 -- ---- the expressions due
 
@@ -310,19 +312,19 @@ nodes-turn : (bytes : List ℕ) (tokens left opened : ℕ) (due : List ℕ) (at 
     ≡ and-then (expression-turn bytes tokens left opened at)
     (λ item after. and-then (expression-nodes bytes tokens (left - 1) (part-depths item opened ++ due) after) (in-front (read-node at item)))
 unfolding expression-nodes expression-turn
-nodes-turn bytes tokens zero opened due at = go (sheet-field (between 0 6) bytes at)
+nodes-turn bytes tokens zero opened due at = go (sheet-field (between 0 most-expression-tag) bytes at)
   where
     go : (m : Reading ℕ) → _≡_ {A = Reading (List ReadNode)} (and-then m (λ tag next. stop 5 at))
         (and-then (and-then m (λ tag next. stop 5 at))
         (λ item after. and-then (expression-nodes bytes tokens (zero - 1) (part-depths item opened ++ due) after) (in-front (read-node at item))))
     go (stop q p) = refl
     go (got tag next) = refl
-nodes-turn bytes tokens (suc left) opened due at = simp (eqb·suc-zero, pred-suc) (go (sheet-field (between 0 6) bytes at))
+nodes-turn bytes tokens (suc left) opened due at = simp (eqb·suc-zero, pred-suc) (go (sheet-field (between 0 most-expression-tag) bytes at))
   where
     go : (m : Reading ℕ)
-        → _≡_ {A = Reading (List ReadNode)} (and-then m (λ tag next. and-then (expression-item bytes tokens opened tag next)
+        → _≡_ {A = Reading (List ReadNode)} (and-then m (λ tag next. and-then (expression-item bytes tokens opened at tag next)
         (λ item after. and-then (expression-nodes bytes tokens left (part-depths item opened ++ due) after) (in-front (read-node at item)))))
-        (and-then (and-then m (λ tag next. expression-item bytes tokens opened tag next))
+        (and-then (and-then m (λ tag next. expression-item bytes tokens opened at tag next))
         (λ item after. and-then (expression-nodes bytes tokens left (part-depths item opened ++ due) after) (in-front (read-node at item))))
     go (stop q p) = refl
     go (got tag next) = refl

@@ -16,6 +16,7 @@ use Rattle.stage1_sheet.specs.Field.{Reading, stop, got, between, field-of, rea
 use Rattle.stage1_sheet.specs.FieldLaws.{Outcome, refused, accepted}
 use Rattle.stage1_sheet.specs.Reading.{sheet-field}
 use Rattle.stage1_sheet_reader.specs.Turns.{in-range, field-answer}
+use Rattle.stage1_sheet_reader.specs.declared.Field.{Field}
 use Rattle.stage1_sheet_reader.specs.declared.Field.the-variants.{Value, Unfit}
 
 -- ---- the ways through reading a field
@@ -82,13 +83,14 @@ module _ {least limit : ℕ} {allowed : ℕ → Bool} (s : Same least limit allo
   pub field-same : sheet-field (in-range least limit) bytes at ≡ sheet-field allowed bytes at
   field-same = agree (in-range least limit) allowed (s .same) bytes at
 
-  pub field-value : {v next : ℕ} → field-answer (sheet-field (in-range least limit) bytes at) ≡ Value v next
+  -- By the code's answer r.
+  pub field-value : {r : Field} {v next : ℕ} → r ≡ field-answer (sheet-field (in-range least limit) bytes at) → r ≡ Value v next
       → sheet-field allowed bytes at ≡ got v next
-  field-value e = sym field-same ∙ answer-value _ e
+  field-value h e = sym field-same ∙ answer-value _ (sym h ∙ e)
 
-  pub field-unfit : {question place : ℕ} → field-answer (sheet-field (in-range least limit) bytes at) ≡ Unfit question place
-      → sheet-field allowed bytes at ≡ stop question place
-  field-unfit e = sym field-same ∙ answer-unfit _ e
+  pub field-unfit : {r : Field} {question place : ℕ} → r ≡ field-answer (sheet-field (in-range least limit) bytes at)
+      → r ≡ Unfit question place → sheet-field allowed bytes at ≡ stop question place
+  field-unfit h e = sym field-same ∙ answer-unfit _ (sym h ∙ e)
 
 -- A field that was read: its value is allowed, and the place after it lies within the bytes.
 pub record FieldKept (allowed : ℕ → Bool) (bytes : List ℕ) (v next : ℕ) : Type 0 where

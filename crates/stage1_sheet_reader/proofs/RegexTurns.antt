@@ -7,6 +7,7 @@ use native.Mathlib.Omega.{arith}
 use lib.Dec.{eqb, eqb·suc-zero}
 use lib.ListN.{length}
 use borrow.Author.Tests.{eq-eqb, ne-eqb}
+use Rattle.stage1_sheet.specs.Limits.{most-regex-tag}
 use Rattle.stage1_sheet.specs.Field.{Reading, stop, got, and-then, between}
 use Rattle.stage1_sheet.specs.FieldLaws.{Outcome, refused, accepted, then-outcome, outcome-got, true-between}
 use Rattle.stage1_sheet.specs.Items.{RegexItem, empty-item, class-item, concat-item, union-item, star-item, regex-parts, item-classes}
@@ -106,12 +107,12 @@ class-put c low high e f = f ∙ ap (λ (r : RuleColumns). with-class r low high
 -- ---- the ways through a regex node
 
 module _ (bytes : List ℕ) (items classes at : ℕ) where
-  pub node-unfit : {question place : ℕ} → sheet-field (between 0 4) bytes at ≡ stop question place
+  pub node-unfit : {question place : ℕ} → sheet-field (between 0 most-regex-tag) bytes at ≡ stop question place
       → regex-turn bytes (256 - items) classes at ≡ stop question place
   unfolding regex-turn
   node-unfit e = rw e
 
-  module _ {tag next : ℕ} (e : sheet-field (between 0 4) bytes at ≡ got tag next) where
+  module _ {tag next : ℕ} (e : sheet-field (between 0 most-regex-tag) bytes at ≡ got tag next) where
     pub node-full : 256 ≤ items → regex-turn bytes (256 - items) classes at ≡ stop 5 at
     unfolding regex-turn
     node-full h = rw (e, eq-eqb (256 - items) 0 (omega arith))
@@ -143,8 +144,8 @@ module _ (bytes : List ℕ) (items classes at : ℕ) where
     unfolding regex-item regex-parts with-item
     node-two c h n0 n1 n4 = go tag refl
       where
-        most : tag ≤ 4
-        most = true-between 0 4 tag (field-kept (between 0 4) bytes at e .holds) .1
+        most : tag ≤ most-regex-tag
+        most = true-between 0 most-regex-tag tag (field-kept (between 0 most-regex-tag) bytes at e .holds) .1
 
         go : (t : ℕ) → tag ≡ t → PlainNode c tag (regex-turn bytes (256 - items) classes at) next 2
         go zero s = absurd (n0 s)
@@ -176,26 +177,27 @@ module _ (bytes : List ℕ) where
   item-keeps : (left classes at tag next : ℕ) → next ≤ length bytes
       → Outcome Any (NodeKept bytes (suc left) classes) (regex-item bytes classes at tag next)
   unfolding regex-item item-classes
-  item-keeps left classes at tag next h = go (eqb tag 0) (eqb tag 1) (eqb tag 2) (eqb tag 3)
+  item-keeps left classes at tag next h = go (eqb tag 0) (eqb tag 1) (eqb tag 2) (eqb tag 3) (eqb tag 4)
     where
       plain : (item : RegexItem) → item-classes item ≡ 0 → Outcome Any (NodeKept bytes (suc left) classes) (got item next)
       plain item e = accepted item next (record { node-allowed = omega arith; class-allowed = omega arith; inside = h })
 
-      go : (a b d f : Bool) → Outcome Any (NodeKept bytes (suc left) classes)
+      go : (a b d f g : Bool) → Outcome Any (NodeKept bytes (suc left) classes)
           (cond a (got empty-item next) (cond b (class-after bytes classes at next)
-          (cond d (got concat-item next) (cond f (got union-item next) (got star-item next)))))
-      go true b d f = plain empty-item refl
-      go false true d f = class-keeps left classes at next
-      go false false true f = plain concat-item refl
-      go false false false true = plain union-item refl
-      go false false false false = plain star-item refl
+          (cond d (got concat-item next) (cond f (got union-item next) (cond g (got star-item next) (stop 4 at))))))
+      go true b d f g = plain empty-item refl
+      go false true d f g = class-keeps left classes at next
+      go false false true f g = plain concat-item refl
+      go false false false true g = plain union-item refl
+      go false false false false true = plain star-item refl
+      go false false false false false = refused 4 at tt
 
   turn-keeps : (left classes at : ℕ) → Outcome Any (NodeKept bytes left classes) (regex-turn bytes left classes at)
   unfolding regex-turn
-  turn-keeps zero classes at = then-outcome (field-inside (between 0 4) bytes at) (λ tag next f. refused 5 at tt)
+  turn-keeps zero classes at = then-outcome (field-inside (between 0 most-regex-tag) bytes at) (λ tag next f. refused 5 at tt)
   turn-keeps (suc left) classes at =
       rw (eqb·suc-zero left)
-      (then-outcome (field-inside (between 0 4) bytes at) (λ tag next f. item-keeps left classes at tag next (f .inside)))
+      (then-outcome (field-inside (between 0 most-regex-tag) bytes at) (λ tag next f. item-keeps left classes at tag next (f .inside)))
 
   pub node-kept : (left classes at : ℕ) {item : RegexItem} {next : ℕ} → regex-turn bytes left classes at ≡ got item next
       → NodeKept bytes left classes item next
@@ -207,14 +209,14 @@ items-turn : (bytes : List ℕ) (left classes due at : ℕ) → regex-items byte
     ≡ and-then (regex-turn bytes left classes at)
     (λ item after. and-then (regex-items bytes (left - 1) (classes - item-classes item) (regex-parts item + due) after) (in-front item))
 unfolding regex-items regex-turn
-items-turn bytes zero classes due at = go (sheet-field (between 0 4) bytes at)
+items-turn bytes zero classes due at = go (sheet-field (between 0 most-regex-tag) bytes at)
   where
     go : (m : Reading ℕ) → _≡_ {A = Reading (List RegexItem)} (and-then m (λ tag next. stop 5 at))
         (and-then (and-then m (λ tag next. stop 5 at))
         (λ item after. and-then (regex-items bytes (zero - 1) (classes - item-classes item) (regex-parts item + due) after) (in-front item)))
     go (stop q p) = refl
     go (got tag next) = refl
-items-turn bytes (suc left) classes due at = simp (eqb·suc-zero, pred-suc) (go (sheet-field (between 0 4) bytes at))
+items-turn bytes (suc left) classes due at = simp (eqb·suc-zero, pred-suc) (go (sheet-field (between 0 most-regex-tag) bytes at))
   where
     go : (m : Reading ℕ) → and-then m (λ tag next. and-then (regex-item bytes classes at tag next)
         (λ item after. and-then (regex-items bytes left (classes - item-classes item) (regex-parts item + due) after) (in-front item)))

@@ -15,6 +15,7 @@ use Rattle.stage1_sheet.specs.Field.{Reading, stop, got, and-then, between, rea
 use Rattle.stage1_sheet.specs.FieldLaws.{Bytes, Outcome, accepted, then-outcome, outcome-got, true-between, Row, many-outcome}
 use Rattle.stage1_sheet.specs.SheetFields.{SheetRefusal, sheet-field-outcome}
 use Rattle.stage1_sheet.specs.Items.{RegexItem, regexes, expressions}
+use Rattle.stage1_sheet.specs.NumberLaws.{numbers-inside}
 use Rattle.stage1_sheet.specs.RegexItems.{regex-items-of, MakesRegexes, one-regex}
 use Rattle.stage1_sheet.specs.ExpressionItems.{expression-items-of, one-expression}
 use Rattle.stage1_sheet.specs.Reading.{sheet-field, ReadRule, ReadNode, Allowance, less-rule, read-rule, expression-nodes, Contents, contents, at-end, read-sheet}
@@ -214,7 +215,8 @@ module _ (bytes : List ℕ) (b : Bytes bytes) (tokens : ℕ) where
   rule-items allowed at h =
       then-outcome (sheet-field-outcome (between 0 tokens) bytes at b h)
       (λ action next f. then-outcome (regexes-outcome bytes b (allowed .nodes) (allowed .classes) 1 next (f .stands .inside))
-      (λ items end r. accepted _ end (same-regex items (r .makes), r .stands .inside)))
+      (λ items end r. accepted _ end
+      (same-regex items (r .makes), numbers-inside (f .stands .inside) (r .stands))))
 
   row-items : (rules : List ReadRule) (allowed : Allowance) (at end : ℕ)
       → Row (λ s from r next. SameItems r) less-rule allowed at rules end

@@ -5,7 +5,7 @@ use mathlib.Core.List.{List, [], _∷_}
 use Prim.Native.Nat.{ℕ, _+_, _-_}
 use lib.Dec.{eqb, ltb, leb}
 use lib.ListN.{length}
-use Rattle.stage1_sheet.specs.Limits.{most-tokens, most-rules, most-expression-nodes}
+use Rattle.stage1_sheet.specs.Limits.{most-tokens, most-rules, most-expression-nodes, most-regex-tag, most-expression-tag}
 use Rattle.stage1_sheet.specs.Field.{Reading, stop, got, and-then, between}
 use Rattle.stage1_sheet.specs.Items.{RegexItem, regex-parts, ExpressionItem}
 use Rattle.stage1_sheet.specs.Reading.{sheet-field, regex-item, ReadNode, expression-item, expression-nodes}
@@ -56,7 +56,8 @@ nodes-to-end bytes tokens at =
 -- A regex node, while so many nodes and classes are allowed: its tag's field, then the limit on nodes, then what the tag asks.
 unfoldable pub regex-turn : List ℕ → ℕ → ℕ → ℕ → Reading RegexItem
 regex-turn bytes left classes at =
-    and-then (sheet-field (between 0 4) bytes at) (λ tag next. cond (eqb left 0) (stop 5 at) (regex-item bytes classes at tag next))
+    and-then (sheet-field (between 0 most-regex-tag) bytes at)
+    (λ tag next. cond (eqb left 0) (stop 5 at) (regex-item bytes classes at tag next))
 
 abbrev pub regex-stopped : RuleColumns → ℕ → ℕ → ℕ → RegexTurn
 regex-stopped c due question place = record { step = Stop question place; due = due; rules = c }
@@ -72,7 +73,8 @@ regex-turned c due (got item next) = regex-gone (with-item c item) (due - 1 + re
 -- An expression node inside so many open fixed points, while so many nodes are allowed.
 unfoldable pub expression-turn : List ℕ → ℕ → ℕ → ℕ → ℕ → Reading ExpressionItem
 expression-turn bytes tokens left opened at =
-    and-then (sheet-field (between 0 6) bytes at) (λ tag next. cond (eqb left 0) (stop 5 at) (expression-item bytes tokens opened tag next))
+    and-then (sheet-field (between 0 most-expression-tag) bytes at)
+    (λ tag next. cond (eqb left 0) (stop 5 at) (expression-item bytes tokens opened at tag next))
 
 abbrev pub expression-stopped : NodeColumns → Pending → ℕ → ℕ → ExpressionTurn
 expression-stopped c p question place = record { step = Stop question place; nodes = c; pending = p }

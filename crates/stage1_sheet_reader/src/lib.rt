@@ -28,6 +28,11 @@ const MOST_CLASSES: usize = 64;
 
 const MOST_NODES: usize = 64;
 
+// How many tags a regex and an expression have: from 0 on, all below it are allowed.
+const REGEX_TAGS: u64 = 5;
+
+const EXPRESSION_TAGS: u64 = 7;
+
 // Whether all was read, or the question that fails and its place.
 pub enum Outcome {
     Done,
@@ -239,7 +244,7 @@ fn regex_turn(sheet: &[u8], at: usize, due: usize, rules: RuleColumns) -> RegexT
     requires { ⌜ (0 < due) × (due ≤ 257) × RulesFit rules ⌝ }
     ensures { λ r. ⌜ r ≡ regex-turned rules due (regex-turn (now (sheet .entry)) (256 - rules .items) (64 - rules .classes) at) ⌝ }
 {
-    match read_field(sheet, at, 0, 5) {
+    match read_field(sheet, at, 0, REGEX_TAGS) {
         Field::Unfit(question, place) => regex_stop(question, place, due, rules),
         Field::Value(tag, next) => {
             let items = rules.items;
@@ -405,7 +410,7 @@ fn expression_turn(
     ensures { λ r. ⌜ r ≡ expression-turned nodes pending at
         (expression-turn (now (sheet .entry)) tokens (64 - nodes .count) (next-opened pending) at) ⌝ }
 {
-    match read_field(sheet, at, 0, 7) {
+    match read_field(sheet, at, 0, EXPRESSION_TAGS) {
         Field::Unfit(question, place) => expression_stop(question, place, nodes, pending),
         Field::Value(tag, next) => {
             let count = nodes.count;

@@ -15,7 +15,6 @@ use Rattle.stage1_sheet.specs.WellFormed.{WithinLimits, Spells}
 use Rattle.stage1_sheet.specs.Field.{Reading, stop, got}
 use Rattle.stage1_sheet.specs.FieldLaws.{Bytes}
 use Rattle.stage1_sheet.specs.Reading.{Contents, read-sheet}
-use Rattle.stage1_sheet.specs.Places.{contents-of}
 use Rattle.stage1_sheet.specs.ReadingLaws.{spelled-read, Accepted, read-accepted, spelled-once}
 use Rattle.stage2_types.specs.Types.{LanguageType, _⊢_∶_, HasType}
 use Rattle.stage2_types.specs.Questions.{Fault, type-fault}
@@ -115,15 +114,17 @@ pub record Acceptable (sheet : List ℕ) (room : ℕ) (s : Sheet) : Type 0 where
 -- Compiling accepts every such sheet, and makes its image.
 pub acceptable-compiles : (sheet : List ℕ) (work room : ℕ) (s : Sheet) → work-bytes ≤ work → Acceptable sheet room s
     → compile sheet work room ≡ compiled (image-bytes (image-of s))
-unfolding contents-of
 acceptable-compiles sheet work room s w a =
-    passes-compile sheet work room (contents-of s) (length sheet) w (record {
+    let r = spelled-read sheet s (a .well-formed) in
+    let same : r .0 .sheet ≡ s = r .2 .same-sheet in
+    subst (λ (t : Sheet). compile sheet work room ≡ compiled (image-bytes (image-of t))) same
+    (passes-compile sheet work room (r .0) (length sheet) w (record {
       short = (a .well-formed) .bytes-most;
-      reads = spelled-read sheet s (a .well-formed);
-      rules-pass = none-empty (s .rules) .1 (a .no-empty-text);
-      types-pass = sheet-typed-iff s ((a .well-formed) .limits) .1 (a .has-type);
-      fits = a .fits;
-    })
+      reads = r .1;
+      rules-pass = rw same (none-empty (s .rules) .1 (a .no-empty-text));
+      types-pass = rw same (sheet-typed-iff s ((a .well-formed) .limits) .1 (a .has-type));
+      fits = rw same (a .fits);
+    }))
 
 -- And no other.
 pub compiled-acceptable : (sheet : List ℕ) → Bytes sheet → (work room : ℕ) (image : List ℕ) → compile sheet work room ≡ compiled image

@@ -45,8 +45,8 @@ numbered : {bytes : List ℕ} {work room : ℕ} {c : Compiled} → Compiles byte
 numbered (short-work l) = (omega arith, omega arith)
 numbered (long-sheet l m) = (omega arith, omega arith)
 numbered (unreadable question place l m r n) = let a = r .least in let b = r .most in (omega arith, omega arith)
-numbered (empty-rule s k l m w n) = (omega arith, omega arith)
-numbered (untyped s f l m n x) = let z = subst InTypes (x .fails) (node-number _ _ _) in (omega arith, omega arith)
+numbered (empty-rule s k p l m w n q) = (omega arith, omega arith)
+numbered (untyped s f p l m n x q) = let z = subst InTypes (x .fails) (node-number _ _ _) in (omega arith, omega arith)
 numbered (no-room s l m n t r) = tt
 numbered (success s l a) = tt
 

@@ -1,6 +1,6 @@
 -- What compiling answers, question by question in their order, in the page's terms; and that 11 never comes with 65,536 bytes of
 -- room.
-use mathlib.Core.Path.{_≡_, refl, sym, subst}
+use mathlib.Core.Path.{_≡_, refl}
 use mathlib.Core.Bool.{Bool, true, false, cond}
 use mathlib.Core.List.{List, []}
 use mathlib.Core.Option.{Option, none, some}
@@ -11,13 +11,15 @@ use lib.Dec.{ltb, leb, leb→le, nleb→lt}
 use borrow.Author.Tests.{ltb-true, ltb-false}
 use Rattle.stage0_laws.specs.Truth.{true-holds}
 use Rattle.stage1_sheet.specs.Limits.{most-sheet-bytes}
+use Rattle.stage1_sheet.specs.Expression.{size}
 use Rattle.stage1_sheet.specs.Sheet.{Sheet}
 use Rattle.stage1_sheet.specs.WellFormed.{Spells, WellFormed}
 use Rattle.stage1_sheet.specs.SheetFields.{SheetRefusal}
 use Rattle.stage1_sheet.specs.Field.{Reading, stop, got}
 use Rattle.stage1_sheet.specs.FieldLaws.{Bytes}
 use Rattle.stage1_sheet.specs.Reading.{Contents, read-sheet}
-use Rattle.stage1_sheet.specs.Places.{contents-of}
+use Rattle.stage1_sheet.specs.Spelling.{NumbersAt}
+use Rattle.stage1_sheet.specs.Places.{numbers-before-rule, numbers-before-node, ContentsOf}
 use Rattle.stage1_sheet.specs.ReadingLaws.{read-accepted, read-refused, refused-not-well-formed}
 use Rattle.stage2_types.specs.Types.{HasType}
 use Rattle.stage2_types.specs.Nodes.{nodes}
@@ -25,12 +27,14 @@ use Rattle.stage2_types.specs.LeastTypes.{least-types}
 use Rattle.stage2_types.specs.Questions.{Fault, type-fault}
 use Rattle.stage2_types.specs.QuestionLaws.{FirstToFail, type-fault-first}
 use Rattle.stage2_types.specs.Typing.{sheet-typed-iff}
+use Rattle.stage3_normal_form.specs.Places.{nodes-count}
 use Rattle.stage4_lexer.specs.EmptyWord.{none-empty, first-empty-rule}
 use Rattle.stage4_lexer.specs.Positions.{empty-match}
 use Rattle.stage4_lexer.specs.Words.{WordOf}
 use Rattle.stage5_image.specs.Compile.{work-bytes, Compiled, refused, too-long, compiled, fitted, after-types, after-rules, after-reading, compile}
 use Rattle.stage5_image.specs.Image.{image-of, image-bytes}
 use Rattle.stage5_image.specs.CompileLaws.{Acceptable}
+use Rattle.stage5_image.specs.RowRanges.{rule-below}
 use Rattle.stage5_image.specs.ImageLength.{most-image-bytes, image-fits}
 
 -- How compiling ends, with a work area and an image buffer of so many bytes.
@@ -42,13 +46,13 @@ pub data Compiles (bytes : List ℕ) (work room : ℕ) : Compiled → Type 0 whe
       → (WellFormed bytes → ⊥)
       → Compiles bytes work room (refused question place)
   -- 7: the first rule that matches the empty word, at its action
-  empty-rule : (s : Sheet) (k : ℕ) → work-bytes ≤ work → Spells bytes s → WordOf (s .rules) k []
-      → ((j : ℕ) → j < k → WordOf (s .rules) j [] → ⊥)
-      → Compiles bytes work room (refused 7 (getD (contents-of s .action-places) k 0))
+  empty-rule : (s : Sheet) (k place : ℕ) → work-bytes ≤ work → Spells bytes s → WordOf (s .rules) k []
+      → ((j : ℕ) → j < k → WordOf (s .rules) j [] → ⊥) → NumbersAt bytes 0 (numbers-before-rule s k) place
+      → Compiles bytes work room (refused 7 place)
   -- 8 to 10: the first node that fails at the least types, at its tag
-  untyped : (s : Sheet) (f : Fault) → work-bytes ≤ work → Spells bytes s → ((k : ℕ) → WordOf (s .rules) k [] → ⊥)
-      → FirstToFail (least-types (s .expression)) (nodes (s .expression)) f
-      → Compiles bytes work room (refused (f .number) (getD (contents-of s .node-places) (f .node) 0))
+  untyped : (s : Sheet) (f : Fault) (place : ℕ) → work-bytes ≤ work → Spells bytes s → ((k : ℕ) → WordOf (s .rules) k [] → ⊥)
+      → FirstToFail (least-types (s .expression)) (nodes (s .expression)) f → NumbersAt bytes 0 (numbers-before-node s (f .node)) place
+      → Compiles bytes work room (refused (f .number) place)
   -- 11, and success
   no-room : (s : Sheet) → work-bytes ≤ work → Spells bytes s → ((k : ℕ) → WordOf (s .rules) k [] → ⊥) → HasType (s .expression)
       → room < length (image-bytes (image-of s)) → Compiles bytes work room (too-long (length (image-bytes (image-of s))))
@@ -65,18 +69,22 @@ module _ (bytes : List ℕ) (work room : ℕ) where
       go true e = success s w (record { well-formed = h; no-empty-text = m; has-type = t; fits = leb→le (length (image-bytes (image-of s))) room (true-holds _ e) })
       go false e = no-room s w h m t (nleb→lt (length (image-bytes (image-of s))) room (rw e tt))
 
-  type-question : (s : Sheet) → work-bytes ≤ work → Spells bytes s → empty-match (s .rules) 0 ≡ none → (o : Option Fault)
-      → type-fault (s .expression) ≡ o
-      → Compiles bytes work room (after-types room (contents-of s) o)
-  unfolding after-types contents-of
-  type-question s w h m none e = room-question s w h (none-empty (s .rules) .0 m) (sheet-typed-iff s (h .limits) .0 e)
-  type-question s w h m (some f) e = untyped s f w h (none-empty (s .rules) .0 m) (type-fault-first (s .expression) f e)
+  module _ (c : Contents) (w : work-bytes ≤ work) (h : Spells bytes (c .sheet)) (p : ContentsOf bytes (c .sheet) c) where
+    type-question : empty-match (c .sheet .rules) 0 ≡ none → (o : Option Fault) → type-fault (c .sheet .expression) ≡ o
+        → Compiles bytes work room (after-types room c o)
+    unfolding after-types
+    type-question m none e = room-question (c .sheet) w h (none-empty (c .sheet .rules) .0 m) (sheet-typed-iff (c .sheet) (h .limits) .0 e)
+    type-question m (some f) e =
+        let x = type-fault-first (c .sheet .expression) f e in
+        let inside : f .node < size (c .sheet .expression) = omega (arith, x .among, nodes-count (c .sheet .expression)) in
+        untyped (c .sheet) f (getD (c .node-places) (f .node) 0) w h (none-empty (c .sheet .rules) .0 m) x (p .node-stands (f .node) inside)
 
-  rule-question : (s : Sheet) → work-bytes ≤ work → Spells bytes s → (o : Option ℕ) → empty-match (s .rules) 0 ≡ o
-      → Compiles bytes work room (after-rules room (contents-of s) o)
-  unfolding after-rules contents-of
-  rule-question s w h none e = type-question s w h e (type-fault (s .expression)) refl
-  rule-question s w h (some k) e = let x = first-empty-rule (s .rules) k e in empty-rule s k w h (x .0) (x .1)
+    rule-question : (o : Option ℕ) → empty-match (c .sheet .rules) 0 ≡ o → Compiles bytes work room (after-rules room c o)
+    unfolding after-rules
+    rule-question none e = type-question e (type-fault (c .sheet .expression)) refl
+    rule-question (some k) e =
+        let x = first-empty-rule (c .sheet .rules) k e in
+        empty-rule (c .sheet) k (getD (c .action-places) k 0) w h (x .0) (x .1) (p .action-stands k (rule-below (x .0 .1)))
 
   reading-questions : Bytes bytes → work-bytes ≤ work → length bytes ≤ most-sheet-bytes → (r : Reading Contents) → read-sheet bytes ≡ r
       → Compiles bytes work room (after-reading room r)
@@ -84,8 +92,7 @@ module _ (bytes : List ℕ) (work room : ℕ) where
   reading-questions b w l (stop question place) e = unreadable question place w l (read-refused bytes b e) (refused-not-well-formed bytes e)
   reading-questions b w l (got c end) e =
       let a = read-accepted bytes b l e in
-      subst (λ (d : Contents). Compiles bytes work room (after-rules room d (empty-match (d .sheet .rules) 0))) (sym (a .places))
-      (unfold contents-of in rule-question (c .sheet) w (a .spells) (empty-match (c .sheet .rules) 0) refl)
+      rule-question c w (a .spells) (a .places) (empty-match (c .sheet .rules) 0) refl
 
   -- What compiling answers.
   pub compile-answers : Bytes bytes → Compiles bytes work room (compile bytes work room)
@@ -111,8 +118,8 @@ too-long-from : {bytes : List ℕ} {work room : ℕ} {c : Compiled} → Compiles
 too-long-from (short-work h) n e = let z : _≡_ {A = ℕ} 0 1 = cc in absurd (omega arith)
 too-long-from (long-sheet w h) n e = let z : _≡_ {A = ℕ} 0 1 = cc in absurd (omega arith)
 too-long-from (unreadable question place w l h f) n e = let z : _≡_ {A = ℕ} 0 1 = cc in absurd (omega arith)
-too-long-from (empty-rule s k w h x f) n e = let z : _≡_ {A = ℕ} 0 1 = cc in absurd (omega arith)
-too-long-from (untyped s f w h m x) n e = let z : _≡_ {A = ℕ} 0 1 = cc in absurd (omega arith)
+too-long-from (empty-rule s k p w h x f q) n e = let z : _≡_ {A = ℕ} 0 1 = cc in absurd (omega arith)
+too-long-from (untyped s f p w h m x q) n e = let z : _≡_ {A = ℕ} 0 1 = cc in absurd (omega arith)
 too-long-from (no-room s w h m t l) n e =
     let same : length (image-bytes (image-of s)) ≡ n = cc in
     let fits = image-fits s (h .limits) (none-empty (s .rules) .1 m) (t .1) in

@@ -25,7 +25,7 @@ use Rattle.stage5_image.specs.Simulation.{image-simulates, fused-row-of,
 abbrev pub TailsShort : List Row → Type 0
 TailsShort rows = (n : ℕ) (p : Production) → List·Memᴰ p ((row-of rows n) .productions) → length (p .tail) ≤ most-tail
 
-rule-below : {rules : List Rule} {k : ℕ} {rule : Rule} → RuleAt rules k rule → k < length rules
+pub rule-below : {rules : List Rule} {k : ℕ} {rule : Rule} → RuleAt rules k rule → k < length rules
 rule-below first-rule = omega arith
 rule-below (later-rule a) = let h = rule-below a in omega arith
 

@@ -1,7 +1,7 @@
 -- `stage1_sheet_reader::class_turn` meets its contract: each way through it is a way through the definition's byte class.
 use borrow.Author.Needs.{needs}
 use native.Mathlib.Omega.{arith}
-use mathlib.Core.Path.{sym, ap, _∙_}
+use mathlib.Core.Path.{ap, _∙_}
 use denote.Ref.{now}
 use Rattle.stage1_sheet.specs.Items.{regex-parts}
 use Rattle.stage1_sheet_columns.specs.declared.RuleColumns.{RuleColumns}
@@ -65,7 +65,7 @@ returns-2 c =
     let z = first .before .before .before .before .before in
     let bytes = now (z .args .sheet) in
     let room = first .before .before .before .if1 .left in
-    let e = field-unfit (up-to 0 255) bytes _ (sym (first .before .before .read-field .ensures) ∙ first .question .given .1) in
+    let e = field-unfit (up-to 0 255) bytes _ (first .before .before .read-field .ensures) (first .question .given .1) in
     c .regex-stop2 .ensures ∙ turn-stops _ _ (class-low bytes _ _ _ room e)
 
 returns-3 : tie.Need-returns-3
@@ -75,8 +75,8 @@ returns-3 c =
     let z = first .before .before .before .before .before in
     let bytes = now (z .args .sheet) in
     let room = first .before .before .before .if1 .left in
-    let low = field-value (up-to 0 255) bytes _ (sym (first .before .before .read-field .ensures) ∙ first .low .given .1) in
-    let e = field-unfit (up-to _ 255) bytes _ (sym (second .before .before .read-field2 .ensures) ∙ second .question2 .given .1) in
+    let low = field-value (up-to 0 255) bytes _ (first .before .before .read-field .ensures) (first .low .given .1) in
+    let e = field-unfit (up-to _ 255) bytes _ (second .before .before .read-field2 .ensures) (second .question2 .given .1) in
     c .regex-stop3 .ensures ∙ turn-stops _ _ (class-high bytes _ _ _ room low e)
 
 returns-4 : tie.Need-returns-4
@@ -87,8 +87,8 @@ returns-4 c =
     let z = first .before .before .before .before .before in
     let bytes = now (z .args .sheet) in
     let room = first .before .before .before .if1 .left in
-    let low = field-value (up-to 0 255) bytes _ (sym (first .before .before .read-field .ensures) ∙ first .low .given .1) in
-    let high = field-value (up-to _ 255) bytes _ (sym (second .before .before .read-field2 .ensures) ∙ second .high .given .1) in
+    let low = field-value (up-to 0 255) bytes _ (first .before .before .read-field .ensures) (first .low .given .1) in
+    let high = field-value (up-to _ 255) bytes _ (second .before .before .read-field2 .ensures) (second .high .given .1) in
     let put = class-put _ _ _ (c .before .before .with-tag .ensures) (c .before .with-class .ensures) in
     c .regex-next .ensures ∙ turn-goes _ _ (class-whole bytes _ _ _ room low high) (omega arith) put
 

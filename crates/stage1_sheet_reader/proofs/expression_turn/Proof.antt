@@ -1,9 +1,10 @@
 -- `stage1_sheet_reader::expression_turn` meets its contract: each way through it is a way through the definition's turn.
 use borrow.Author.Needs.{needs}
 use native.Mathlib.Omega.{arith}
-use mathlib.Core.Path.{sym, _∙_}
+use mathlib.Core.Path.{_∙_}
 use denote.Ref.{now}
 use Prim.Native.Nat.{_-_}
+use Rattle.stage1_sheet.specs.Limits.{most-expression-tag}
 use Rattle.stage1_sheet_reader.proofs.Fields.{up-to, field-value, field-unfit}
 use Rattle.stage1_sheet_reader.proofs.ExpressionTurns.{node-stops, plain-item-goes, node-unfit, node-full, token-turn, variable-turn, node-plain, parts-room}
 use Rattle.stage1_sheet_reader.proofs.expression_turn.Statement.{statement}
@@ -29,7 +30,7 @@ returns c =
     let told = c .before .before .before in
     let z = told .before .before .before .before in
     let bytes = now (z .args .sheet) in
-    let e = field-value (up-to 0 6) bytes _ (sym (told .before .before .read-field .ensures) ∙ told .tag .given .1) in
+    let e = field-value (up-to 0 most-expression-tag) bytes _ (told .before .before .read-field .ensures) (told .tag .given .1) in
     c .expression-stop2 .ensures ∙ node-stops _ _ _ (node-full bytes _ _ _ _ e (c .before .if1 .taken))
 
 numbered-turn-requires : tie.Need-numbered-turn-requires
@@ -40,7 +41,7 @@ returns-2 c =
     let told = c .before .before .before .before in
     let z = told .before .before .before .before in
     let bytes = now (z .args .sheet) in
-    let e = field-value (up-to 0 6) bytes _ (sym (told .before .before .read-field .ensures) ∙ told .tag .given .1) in
+    let e = field-value (up-to 0 most-expression-tag) bytes _ (told .before .before .read-field .ensures) (told .tag .given .1) in
     c .numbered-turn .ensures ∙ token-turn bytes _ _ _ _ e (c .before .before .if1 .left) _ _ (c .before .if2 .taken)
 
 sub-last : tie.Need-sub-last
@@ -63,7 +64,7 @@ returns-3 c =
     let told = c .before .before .before .before .before .before in
     let z = told .before .before .before .before in
     let bytes = now (z .args .sheet) in
-    let e = field-value (up-to 0 6) bytes _ (sym (told .before .before .read-field .ensures) ∙ told .tag .given .1) in
+    let e = field-value (up-to 0 most-expression-tag) bytes _ (told .before .before .read-field .ensures) (told .tag .given .1) in
     let kinds = c .before .before in
     c .numbered-turn2 .ensures ∙ variable-turn bytes _ _ _ _ e (kinds .before .before .if1 .left) _ _ (kinds .if3 .taken)
 
@@ -87,7 +88,7 @@ returns-4 c =
     let told = c .before .before in
     let z = told .before .before .before .before in
     let bytes = now (z .args .sheet) in
-    let e = field-unfit (up-to 0 6) bytes _ (sym (told .before .before .read-field .ensures) ∙ told .question .given .1) in
+    let e = field-unfit (up-to 0 most-expression-tag) bytes _ (told .before .before .read-field .ensures) (told .question .given .1) in
     c .expression-stop .ensures ∙ node-stops _ _ _ (node-unfit bytes _ _ _ _ e)
 
 returns-5 : tie.Need-returns-5
@@ -95,7 +96,7 @@ returns-5 c =
     let told = c .before .before .before .before .before .before .before in
     let z = told .before .before .before .before in
     let bytes = now (z .args .sheet) in
-    let e = field-value (up-to 0 6) bytes _ (sym (told .before .before .read-field .ensures) ∙ told .tag .given .1) in
+    let e = field-value (up-to 0 most-expression-tag) bytes _ (told .before .before .read-field .ensures) (told .tag .given .1) in
     let kinds = c .before .before .before in
     let n = node-plain bytes _ _ _ _ e (kinds .before .before .if1 .left) (kinds .before .if2 .left) (kinds .if3 .left) in
     c .expression-next .ensures ∙ plain-item-goes _ _ _ n (c .before .before .with-node .ensures) (c .before .with-parts .ensures)

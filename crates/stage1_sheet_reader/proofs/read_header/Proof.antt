@@ -1,6 +1,6 @@
 -- `stage1_sheet_reader::read_header` meets its contract.
 use borrow.Author.Needs.{needs}
-use mathlib.Core.Path.{sym, _∙_}
+use mathlib.Core.Path.{_∙_}
 use denote.Ref.{now}
 use Rattle.stage1_sheet_reader.proofs.Fields.{up-to, field-value, field-unfit}
 use Rattle.stage1_sheet_reader.proofs.Whole.{head-version, head-tokens, head-count, head-whole}
@@ -45,7 +45,7 @@ returns c =
     let first = c .before in
     let z = first .before .before .before .before in
     let bytes = now (z .args .sheet) in
-    let version = field-unfit (up-to 1 1) bytes _ (sym (first .before .before .read-field .ensures) ∙ first .question .given .1) in
+    let version = field-unfit (up-to 1 1) bytes _ (first .before .before .read-field .ensures) (first .question .given .1) in
     head-version bytes version
 
 returns-2 : tie.Need-returns-2
@@ -54,8 +54,8 @@ returns-2 c =
     let first = second .before .before .before .before in
     let z = first .before .before .before .before in
     let bytes = now (z .args .sheet) in
-    let version = field-value (up-to 1 1) bytes _ (sym (first .before .before .read-field .ensures) ∙ first .at-tokens .given .1) in
-    let tokens = field-unfit (up-to 1 24) bytes _ (sym (second .before .before .read-field2 .ensures) ∙ second .question2 .given .1) in
+    let version = field-value (up-to 1 1) bytes _ (first .before .before .read-field .ensures) (first .at-tokens .given .1) in
+    let tokens = field-unfit (up-to 1 24) bytes _ (second .before .before .read-field2 .ensures) (second .question2 .given .1) in
     head-tokens bytes version tokens
 
 returns-3 : tie.Need-returns-3
@@ -65,9 +65,9 @@ returns-3 c =
     let first = second .before .before .before .before in
     let z = first .before .before .before .before in
     let bytes = now (z .args .sheet) in
-    let version = field-value (up-to 1 1) bytes _ (sym (first .before .before .read-field .ensures) ∙ first .at-tokens .given .1) in
-    let tokens = field-value (up-to 1 24) bytes _ (sym (second .before .before .read-field2 .ensures) ∙ second .tokens .given .1) in
-    let count = field-unfit (up-to 1 32) bytes _ (sym (third .before .before .read-field3 .ensures) ∙ third .question3 .given .1) in
+    let version = field-value (up-to 1 1) bytes _ (first .before .before .read-field .ensures) (first .at-tokens .given .1) in
+    let tokens = field-value (up-to 1 24) bytes _ (second .before .before .read-field2 .ensures) (second .tokens .given .1) in
+    let count = field-unfit (up-to 1 32) bytes _ (third .before .before .read-field3 .ensures) (third .question3 .given .1) in
     head-count bytes version tokens count
 
 returns-4 : tie.Need-returns-4
@@ -77,9 +77,9 @@ returns-4 c =
     let first = second .before .before .before .before in
     let z = first .before .before .before .before in
     let bytes = now (z .args .sheet) in
-    let version = field-value (up-to 1 1) bytes _ (sym (first .before .before .read-field .ensures) ∙ first .at-tokens .given .1) in
-    let tokens = field-value (up-to 1 24) bytes _ (sym (second .before .before .read-field2 .ensures) ∙ second .tokens .given .1) in
-    let count = field-value (up-to 1 32) bytes _ (sym (third .before .before .read-field3 .ensures) ∙ third .count .given .1) in
+    let version = field-value (up-to 1 1) bytes _ (first .before .before .read-field .ensures) (first .at-tokens .given .1) in
+    let tokens = field-value (up-to 1 24) bytes _ (second .before .before .read-field2 .ensures) (second .tokens .given .1) in
+    let count = field-value (up-to 1 32) bytes _ (third .before .before .read-field3 .ensures) (third .count .given .1) in
     head-whole bytes version tokens count
 
 pub read-header-spec : {M : Type 1} → statement M

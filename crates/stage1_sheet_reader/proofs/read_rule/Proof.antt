@@ -1,6 +1,6 @@
 -- `stage1_sheet_reader::read_rule` meets its contract.
 use borrow.Author.Needs.{needs}
-use mathlib.Core.Path.{sym, _∙_}
+use mathlib.Core.Path.{_∙_}
 use denote.Ref.{now}
 use Rattle.stage1_sheet_reader.proofs.Fields.{up-to-sum, field-value, field-unfit, field-kept}
 use Rattle.stage1_sheet_reader.proofs.RuleTurns.{rule-unfit, rule-goes, action-fits}
@@ -31,7 +31,7 @@ read-regex-requires c κs =
     let z = told .before .before .before .before in
     let bytes = now (z .args .sheet) in
     let range = up-to-sum 0 (z .args .tokens) in
-    let e = field-value range bytes _ (sym (told .before .before .read-field .ensures) ∙ told .action .given .1) in
+    let e = field-value range bytes _ (told .before .before .read-field .ensures) (told .action .given .1) in
     (field-kept _ bytes _ e .inside, action-fits _ _ _ (c .with-action .ensures) (z .pre .3) (z .pre .4))
 
 returns : tie.Need-returns
@@ -40,7 +40,7 @@ returns c =
     let z = told .before .before .before .before in
     let bytes = now (z .args .sheet) in
     let range = up-to-sum 0 (z .args .tokens) in
-    let e = field-unfit range bytes _ (sym (told .before .before .read-field .ensures) ∙ told .question .given .1) in
+    let e = field-unfit range bytes _ (told .before .before .read-field .ensures) (told .question .given .1) in
     record { answers = rule-unfit bytes _ _ _ e; fits = z .pre .4 }
 
 returns-2 : tie.Need-returns-2
@@ -49,7 +49,7 @@ returns-2 c =
     let z = told .before .before .before .before in
     let bytes = now (z .args .sheet) in
     let range = up-to-sum 0 (z .args .tokens) in
-    let e = field-value range bytes _ (sym (told .before .before .read-field .ensures) ∙ told .action .given .1) in
+    let e = field-value range bytes _ (told .before .before .read-field .ensures) (told .action .given .1) in
     let r = c .read-regex .ensures in
     record { answers = rule-goes bytes _ _ _ e (c .before .with-action .ensures) (r .answers); fits = r .fits }
 
