@@ -10,8 +10,7 @@ use lib.ListN.{length, getD, length-append}
 use borrow.Author.Tests.{ltb-true, ltb-false, eqb-true, eqb-false}
 use Rattle.stage0_laws.specs.Bits.{bit}
 use Rattle.stage0_laws.specs.Lists.{All}
-use Rattle.stage3_normal_form.specs.Productions.{Production, Row, row-of}
-use Rattle.stage5_image.specs.Fusion.{production-of}
+use Rattle.stage3_normal_form.specs.Productions.{Production, Row, row-of, production-of}
 use Rattle.stage5_image_reader.specs.Tables.{TailAt, RowsHeld}
 use Rattle.stage5_image_reader.specs.TableLaws.{entry-none, entry-some, tail-inside}
 use Rattle.stage6_machine.specs.Run.{take-rule}
