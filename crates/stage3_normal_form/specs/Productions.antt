@@ -16,6 +16,11 @@ pub record Production : Type 0 where
 abbrev pub most-tail : ℕ
 most-tail = 31
 
+-- "a long enough stack (1 + 30 × the text's length entries)": a take replaces one pending nonterminal at least by a tail, so that this
+-- many more are pending at most.
+abbrev pub most-growth : ℕ
+most-growth = 30
+
 -- A nonterminal's productions: whether ε is one of them, and the others.
 pub record Row : Type 0 where
   pub empty : Bool

@@ -17,7 +17,7 @@ use Rattle.stage5_image.specs.FusionLaws.{Found, production-found}
 use Rattle.stage5_image.specs.Members.{all-append}
 use Rattle.stage5_image.specs.Simulation.{Simulates, tail-of, tail-numbers, TailKnown}
 use Rattle.stage5_image.specs.Unfolding.{Returns}
-use Rattle.stage6_machine.specs.Run.{take-rule, all-nullable}
+use Rattle.stage6_machine.specs.Turn.{take-rule, all-nullable}
 
 -- The nonterminals of the nodes pending after a take.
 abbrev pub numbers-of : (ℕ → ℕ) → Option (List ℕ) → Option (List ℕ)
