@@ -18,7 +18,8 @@ pub record Production : Type 0 where
 abbrev pub most-tail : ℕ
 most-tail = 31
 
--- A take removes one pending nonterminal at least and adds a tail: "1 + 30 × the text's length entries".
+-- "a long enough stack (1 + 30 × the text's length entries)": a take replaces one pending nonterminal at least by a tail, so that this
+-- many more are pending at most.
 abbrev pub most-growth : ℕ
 most-growth = 30
 

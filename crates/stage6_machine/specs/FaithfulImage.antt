@@ -32,7 +32,7 @@ use Rattle.stage5_image.specs.Simulation.{Simulates, image-simulates}
 use Rattle.stage5_image.specs.ImageLaws.{normal-form-inside, normal-form-some}
 use Rattle.stage5_image.specs.Image.{Image, image-of, skips-rule}
 use Rattle.stage5_image.specs.Unfolding.{Returns}
-use Rattle.stage6_machine.specs.Run.{take-rule, all-nullable}
+use Rattle.stage6_machine.specs.Turn.{take-rule, all-nullable}
 use Rattle.stage6_machine.specs.OwnAnswer.{Allowed, ActionOf}
 use Rattle.stage6_machine.specs.TakingLaws.{Taken, taken, nullable-same, numbers-of, AllKnown}
 use Rattle.stage6_machine.specs.RunAnswers.{TakenIs, Faithful}

@@ -16,7 +16,7 @@ use Rattle.stage3_normal_form.specs.ProductionLaws.{Found, production-found}
 use Rattle.stage0_laws.specs.Members.{all-append}
 use Rattle.stage5_image.specs.Simulation.{Simulates, tail-of, tail-numbers, TailKnown}
 use Rattle.stage5_image.specs.Unfolding.{Returns}
-use Rattle.stage6_machine.specs.Run.{take-rule, all-nullable}
+use Rattle.stage6_machine.specs.Turn.{take-rule, all-nullable}
 
 -- The nonterminals of the nodes pending after a take.
 abbrev pub numbers-of : (ℕ → ℕ) → Option (List ℕ) → Option (List ℕ)

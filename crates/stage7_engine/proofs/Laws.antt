@@ -21,8 +21,8 @@ use Rattle.stage6_machine.specs.Answer.{Answer, answer}
 use Rattle.stage6_machine.specs.Run.{run, stack-after}
 use Rattle.stage7_demands.specs.Proofs.{demand-3}
 use Rattle.stage7_demands.specs.Demands.{Demand3}
-use Rattle.stage6_machine_runner.specs.Steps.{answer-of}
-use Rattle.stage6_machine_runner.specs.declared.RunAnswer.{RunAnswer}
+use Rattle.stage6_machine_turn.specs.Steps.{answer-held}
+use Rattle.stage6_machine_turn.specs.declared.RunAnswer.{RunAnswer}
 use Rattle.stage7_engine.specs.declared.TextRead.{TextRead}
 use Rattle.stage7_engine.specs.declared.TextRead.the-variants as read
 use Rattle.stage7_engine.specs.declared.Line.the-variants as printed
@@ -113,11 +113,11 @@ line-sheet r number place e = rw e
 
 module _ (r : TextRead) (a : RunAnswer) (e : r ≡ read.Text a) where
   pub line-accepted : a .number ≡ 0 → printed.Accepted (a .count) ≡ line-of (told r)
-  unfolding line-of text-line answer-of
+  unfolding line-of text-line answer-held
   line-accepted h = rw (e, eq-eqb (a .number) 0 h)
 
   pub line-refused : (a .number ≡ 0 → ⊥) → printed.Text (a .number) (a .place) ≡ line-of (told r)
-  unfolding line-of text-line answer-of
+  unfolding line-of text-line answer-held
   line-refused h = rw (e, ne-eqb (a .number) 0 h)
 
 -- ---- the program's line

@@ -5,6 +5,7 @@ use mathlib.Core.List.{List}
 use Prim.Native.Nat.{ℕ, _≤_, _+_, _*_}
 use lib.ListN.{length}
 use Rattle.stage1_sheet.specs.Sheet.{Sheet}
+use Rattle.stage3_normal_form.specs.Productions.{most-growth}
 use Rattle.stage5_image.specs.Compile.{work-bytes, compile}
 use Rattle.stage5_image.specs.CompileLaws.{Acceptable}
 use Rattle.stage6_machine.specs.Answer.{Answer}
@@ -22,7 +23,7 @@ program-room = 65536
 
 -- "and a long enough stack", for the longest text that it takes
 abbrev pub program-entries : ℕ
-program-entries = 1 + 30 * most-program-text
+program-entries = 1 + most-growth * most-program-text
 
 -- "compiles before it looks at the text, and takes texts up to 2,048 bytes (longer: `text 12 0`)"
 unfoldable pub program-line : List ℕ → List ℕ → Line

@@ -1,6 +1,6 @@
 // The engine as one call: compiles a sheet and runs its image over a text. Its promise is the sheet's own answer.
 use stage5_image_compiler::Compiled;
-use stage6_machine_runner::RunAnswer;
+use stage6_machine_turn::RunAnswer;
 ghost use mathlib.Core.Path.{_≡_};
 ghost use lib.ListN.{length};
 ghost use Rattle.stage5_image.specs.Compile.{compile, image-after, work-after};

@@ -5,11 +5,12 @@ use native.Mathlib.Omega.{arith}
 use lib.ListN.{length}
 use borrow.Author.Tests.{not-true, not-false}
 use Rattle.stage0_laws.specs.Lists.{All}
-use Rattle.stage6_machine_runner.specs.Stack.{pending}
-use Rattle.stage6_machine_runner.specs.Steps.{taker}
-use Rattle.stage6_machine_runner.proofs.Entries.{all-top, taker-found, taker-stops, taker-passes, taker-none}
-use Rattle.stage6_machine_runner.proofs.find_taker.Statement.{statement}
-use Rattle.stage6_machine_runner.proofs.find_taker.Tie as tie
+use Rattle.stage6_machine_turn.specs.Stack.{pending}
+use Rattle.stage6_machine_turn.specs.Steps.{taker}
+use Rattle.stage6_machine_turn.specs.StackLaws.{all-top}
+use Rattle.stage6_machine_turn.proofs.Entries.{taker-found, taker-stops, taker-passes, taker-none}
+use Rattle.stage6_machine_turn.proofs.find_taker.Statement.{statement}
+use Rattle.stage6_machine_turn.proofs.find_taker.Tie as tie
 
 abbrev Inv-loop : tie.InvT-loop
 Inv-loop productions empty stack depth rule left₀ left =

@@ -5,11 +5,12 @@ use native.Mathlib.Omega.{arith}
 use lib.ListN.{length}
 use borrow.Author.Tests.{not-true, not-false}
 use Rattle.stage0_laws.specs.Lists.{All}
-use Rattle.stage6_machine_runner.specs.Stack.{pending}
-use Rattle.stage6_machine_runner.specs.Steps.{all-members}
-use Rattle.stage6_machine_runner.proofs.Entries.{all-top, members-stop, members-pass, members-none}
-use Rattle.stage6_machine_runner.proofs.all_nullable.Statement.{statement}
-use Rattle.stage6_machine_runner.proofs.all_nullable.Tie as tie
+use Rattle.stage6_machine_turn.specs.Stack.{pending}
+use Rattle.stage6_machine_turn.specs.Steps.{all-members}
+use Rattle.stage6_machine_turn.specs.StackLaws.{all-top}
+use Rattle.stage6_machine_turn.proofs.Entries.{members-stop, members-pass, members-none}
+use Rattle.stage6_machine_turn.proofs.all_nullable.Statement.{statement}
+use Rattle.stage6_machine_turn.proofs.all_nullable.Tie as tie
 
 abbrev Inv-loop : tie.InvT-loop
 Inv-loop empty stack depth left₀ left =

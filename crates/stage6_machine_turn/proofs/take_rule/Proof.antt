@@ -4,14 +4,14 @@ use Prim.Native.Nat.{_+_, _-_, _≤_, _<_}
 use lib.ListN.{length, getD}
 use native.Mathlib.Omega.{arith}
 use denote.Ref.{now}
-use Rattle.stage6_machine_runner.specs.Steps.{taker}
-use Rattle.stage6_machine_runner.specs.declared.Taker.the-variants.{At}
-use Rattle.stage6_machine_runner.proofs.Entries.{ready-entries}
-use Rattle.stage6_machine_runner.proofs.Taking.{found-tail}
-use Rattle.stage6_machine_runner.proofs.Answers.{no-taker, too-deep, took}
+use Rattle.stage6_machine_turn.specs.Steps.{taker}
+use Rattle.stage6_machine_turn.specs.declared.Taker.the-variants.{At}
+use Rattle.stage6_machine_turn.specs.StackLaws.{ready-entries}
+use Rattle.stage6_machine_turn.specs.TakingLaws.{found-tail}
+use Rattle.stage6_machine_turn.proofs.Answers.{no-taker, too-deep, took}
 use borrow.Author.Needs.{needs}
-use Rattle.stage6_machine_runner.proofs.take_rule.Statement.{statement}
-use Rattle.stage6_machine_runner.proofs.take_rule.Tie as tie
+use Rattle.stage6_machine_turn.proofs.take_rule.Statement.{statement}
+use Rattle.stage6_machine_turn.proofs.take_rule.Tie as tie
 
 -- ---- what is known once a taker is found
 

@@ -13,15 +13,14 @@ use Rattle.stage0_laws.specs.Lists.{All}
 use Rattle.stage3_normal_form.specs.Productions.{Production, Row, row-of, production-of}
 use Rattle.stage5_image_reader.specs.Tables.{TailAt, RowsHeld}
 use Rattle.stage5_image_reader.specs.TableLaws.{entry-none, entry-some, tail-inside}
-use Rattle.stage6_machine.specs.Run.{take-rule}
-use Rattle.stage6_machine_runner.specs.Stack.{pending, pushed, Ready}
-use Rattle.stage6_machine_runner.specs.Steps.{part, taker, replaced, replace-taker, take-step}
-use Rattle.stage6_machine_runner.specs.declared.Taker.{Taker}
-use Rattle.stage6_machine_runner.specs.declared.Taker.the-variants.{Nothing, At}
-use Rattle.stage6_machine_runner.specs.declared.Taken.{Taken}
-use Rattle.stage6_machine_runner.specs.declared.Taken.the-variants.{Depth, NoTaker, TooDeep}
-use Rattle.stage6_machine_runner.proofs.Entries.{length-pending, all-joined, all-lower}
-use Rattle.stage6_machine_runner.proofs.Pushing.{length-pushed, pending-pushed}
+use Rattle.stage6_machine.specs.Turn.{take-rule}
+use Rattle.stage6_machine_turn.specs.Stack.{pending, pushed, Ready}
+use Rattle.stage6_machine_turn.specs.Steps.{part, taker, replaced, replace-taker, take-step}
+use Rattle.stage6_machine_turn.specs.declared.Taker.{Taker}
+use Rattle.stage6_machine_turn.specs.declared.Taker.the-variants.{Nothing, At}
+use Rattle.stage6_machine_turn.specs.declared.Taken.{Taken}
+use Rattle.stage6_machine_turn.specs.declared.Taken.the-variants.{Depth, NoTaker, TooDeep}
+use Rattle.stage6_machine_turn.specs.StackLaws.{length-pending, all-joined, all-lower, length-pushed, pending-pushed}
 
 -- ---- a take by the rows, one pending nonterminal a time
 

@@ -1,8 +1,8 @@
 -- `is_member` meets its contract.
 use borrow.Author.Needs.{needs}
 use Rattle.stage0_laws.specs.BitLaws.{shl-one, and-test}
-use Rattle.stage6_machine_runner.proofs.is_member.Statement.{statement}
-use Rattle.stage6_machine_runner.proofs.is_member.Tie as tie
+use Rattle.stage6_machine_turn.proofs.is_member.Statement.{statement}
+use Rattle.stage6_machine_turn.proofs.is_member.Tie as tie
 
 shl-result : tie.Need-shl-result
 shl-result c = search needs

@@ -1,31 +1,12 @@
--- Pushing a tail, a member a turn, the last one first: before the first turn, one turn more, after the last, and what is pending then.
-use mathlib.Core.Path.{_≡_, refl, sym, ap, ap₂, _∙_}
-use mathlib.Core.List.{List, [], _∷_, _++_}
+-- Pushing a tail, a member a turn, the last one first: before the first turn, one turn more, and after the last.
+use mathlib.Core.Path.{_≡_, sym, ap, ap₂, _∙_}
+use mathlib.Core.List.{List, [], _∷_}
 use Prim.Native.Nat.{ℕ, suc, _+_, _-_, _≤_, _<_}
 use native.Mathlib.Omega.{arith}
-use lib.ListN.{length, getD, set, take, drop, length-set, length-take, length-drop}
-use lib.Seq.{drop-cons, getD-set-same}
-use Rattle.stage6_machine_runner.specs.Stack.{pending, pushed}
-use Rattle.stage6_machine_runner.specs.Steps.{part}
-use Rattle.stage6_machine_runner.proofs.Entries.{pending-set}
-
-pub length-pushed : (stack : List ℕ) (base : ℕ) (tail : List ℕ) → length (pushed stack base tail) ≡ length stack
-unfolding pushed
-length-pushed stack base [] = refl
-length-pushed stack base (n ∷ tail) = simp length-set (length-pushed stack _ tail)
-
-pub pending-pushed : (stack : List ℕ) (base : ℕ) (tail : List ℕ) → base + length tail ≤ length stack
-    → pending (pushed stack base tail) (base + length tail) ≡ tail ++ pending stack base
-unfolding pushed pending
-pending-pushed stack base [] h = let e : base + 0 ≡ base = omega arith in ap (λ (k : ℕ). pending stack k) e
-pending-pushed stack base (n ∷ tail) h =
-    let below = pushed stack base tail in
-    let top = base + length tail in
-    let e : base + length (n ∷ tail) ≡ suc top = omega arith in
-    let inside : top < length below = omega (arith, length-pushed stack base tail) in
-    ap (λ (k : ℕ). pending (set below top n) k) e
-    ∙ ap₂ _∷_ (getD-set-same below top n 0 inside)
-    (pending-set below top n top (omega arith) ∙ pending-pushed stack base tail (omega arith))
+use lib.ListN.{length, getD, set, take, drop, length-take, length-drop}
+use lib.Seq.{drop-cons}
+use Rattle.stage6_machine_turn.specs.Stack.{pushed}
+use Rattle.stage6_machine_turn.specs.Steps.{part}
 
 module _ (bytes stack : List ℕ) (at size base : ℕ) where
   part-more : (left : ℕ) → 0 < left → left ≤ size → at + size ≤ length bytes

@@ -5,11 +5,12 @@ use Prim.Native.Nat.{ℕ, _+_, _-_, _≤_}
 use native.Mathlib.Omega.{arith}
 use lib.ListN.{length, set, getD}
 use denote.Ref.{now}
-use Rattle.stage6_machine_runner.specs.Stack.{pushed}
-use Rattle.stage6_machine_runner.specs.Steps.{part}
-use Rattle.stage6_machine_runner.proofs.Pushing.{length-pushed, push-start, push-more, push-end}
-use Rattle.stage6_machine_runner.proofs.push_tail.Statement.{statement}
-use Rattle.stage6_machine_runner.proofs.push_tail.Tie as tie
+use Rattle.stage6_machine_turn.specs.Stack.{pushed}
+use Rattle.stage6_machine_turn.specs.Steps.{part}
+use Rattle.stage6_machine_turn.specs.StackLaws.{length-pushed}
+use Rattle.stage6_machine_turn.proofs.Pushing.{push-start, push-more, push-end}
+use Rattle.stage6_machine_turn.proofs.push_tail.Statement.{statement}
+use Rattle.stage6_machine_turn.proofs.push_tail.Tie as tie
 
 abbrev Inv-loop : tie.InvT-loop
 Inv-loop image at size stack₀ base left₀ top₀ stack left top =

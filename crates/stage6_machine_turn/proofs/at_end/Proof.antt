@@ -1,8 +1,8 @@
 -- `at_end` meets its contract.
-use Rattle.stage6_machine_runner.proofs.Answers.{ends-well, ends-early}
+use Rattle.stage6_machine_turn.proofs.Answers.{ends-well, ends-early}
 use borrow.Author.Needs.{needs}
-use Rattle.stage6_machine_runner.proofs.at_end.Statement.{statement}
-use Rattle.stage6_machine_runner.proofs.at_end.Tie as tie
+use Rattle.stage6_machine_turn.proofs.at_end.Statement.{statement}
+use Rattle.stage6_machine_turn.proofs.at_end.Tie as tie
 
 all-nullable-requires : tie.Need-all-nullable-requires
 all-nullable-requires c κs = search needs

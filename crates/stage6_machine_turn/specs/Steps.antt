@@ -1,31 +1,42 @@
--- What the machine's functions answer, in the terms of the tables and of the stack. The machine itself is defined in
--- stage6_machine; the promise on a whole run cites that.
+-- What the functions of a turn answer, in the terms of the tables and of the stack. The machine itself is defined in
+-- stage6_machine; `TurnLaws` joins a turn here to a turn there.
 use mathlib.Core.Bool.{Bool, true, false, _&&_, cond}
 use mathlib.Core.List.{List, [], _∷_}
-use Prim.Native.Nat.{ℕ, zero, suc, _+_, _-_, _*_}
+use Prim.Native.Nat.{ℕ, zero, suc, _+_, _-_, _*_, _<_}
 use lib.Dec.{ltb, eqb}
 use lib.ListN.{length, getD, take, drop}
 use Rattle.stage0_laws.specs.Bits.{bit}
+use Rattle.stage4_lexer_scanner.specs.declared.Found.{Found}
+use Rattle.stage4_lexer_scanner.specs.declared.Found.the-variants as found
 use Rattle.stage6_machine.specs.Answer.{Answer, answer}
-use Rattle.stage6_machine_runner.specs.Stack.{pushed}
-use Rattle.stage6_machine_runner.specs.declared.RunAnswer.{RunAnswer}
-use Rattle.stage6_machine_runner.specs.declared.Taker.{Taker}
-use Rattle.stage6_machine_runner.specs.declared.Taker.the-variants.{Nothing, At}
-use Rattle.stage6_machine_runner.specs.declared.Taken.{Taken}
-use Rattle.stage6_machine_runner.specs.declared.Taken.the-variants.{Depth, NoTaker, TooDeep}
-use Rattle.stage6_machine_runner.specs.declared.State.{State}
-use Rattle.stage6_machine_runner.specs.declared.Turn.{Turn}
-use Rattle.stage6_machine_runner.specs.declared.Turn.the-variants.{Next, Done}
+use Rattle.stage6_machine.specs.Turn as machine
+use Rattle.stage6_machine_turn.specs.Stack.{pending, pushed}
+use Rattle.stage6_machine_turn.specs.declared.RunAnswer.{RunAnswer}
+use Rattle.stage6_machine_turn.specs.declared.Taker.{Taker}
+use Rattle.stage6_machine_turn.specs.declared.Taker.the-variants.{Nothing, At}
+use Rattle.stage6_machine_turn.specs.declared.Taken.{Taken}
+use Rattle.stage6_machine_turn.specs.declared.Taken.the-variants.{Depth, NoTaker, TooDeep}
+use Rattle.stage6_machine_turn.specs.declared.State.{State}
+use Rattle.stage6_machine_turn.specs.declared.Turn.{Turn}
+use Rattle.stage6_machine_turn.specs.declared.Turn.the-variants.{Next, Done}
 
 -- The answer that a run returns.
-unfoldable pub answer-of : RunAnswer → Answer
-answer-of r = answer (r .number) (r .place) (r .count)
+unfoldable pub answer-held : RunAnswer → Answer
+answer-held r = answer (r .number) (r .place) (r .count)
 
 abbrev pub run-answer : ℕ → ℕ → ℕ → RunAnswer
 run-answer number place count = record { number = number; place = place; count = count }
 
 abbrev pub state-at : ℕ → ℕ → ℕ → State
 state-at place depth count = record { place = place; depth = depth; count = count }
+
+-- The machine's state that a state and the stack hold, and what a turn and the stack that it leaves hold.
+abbrev pub state-held : List ℕ → State → machine.State
+state-held stack s = machine.state (s .place) (pending stack (s .depth)) (s .count)
+
+abbrev pub turn-held : List ℕ → Turn → machine.Turn
+turn-held stack (Next s) = machine.goes-on (state-held stack s)
+turn-held stack (Done a) = machine.ends (answer-held a)
 
 -- So many bytes from a place on.
 abbrev pub part : List ℕ → ℕ → ℕ → List ℕ
@@ -84,7 +95,13 @@ unfoldable pub turn-by : Bool → List ℕ → ℕ → State → TakeStep → Tu
 turn-by true stack n s t = record { outcome = Next (state-at (s .place + n) (s .depth) (s .count)); stack = stack }
 turn-by false stack n s t = record { outcome = after-take n s (t .outcome); stack = t .stack }
 
--- The turn where a rule matches n bytes at the state's place.
-unfoldable pub turn-step : List ℕ → List ℕ → ℕ → ℕ → List ℕ → ℕ → ℕ → State → TurnStep
-turn-step bytes productions empty skips stack rule n s =
+-- A turn, given what matched at the state's place.
+unfoldable pub turn-step : List ℕ → List ℕ → ℕ → ℕ → List ℕ → Found → State → TurnStep
+turn-step bytes productions empty skips stack found.Nothing s = record { outcome = Done (run-answer 14 (s .place) (s .count)); stack = stack }
+turn-step bytes productions empty skips stack (found.Rule rule n) s =
     turn-by (bit skips rule) stack n s (take-step bytes productions empty stack (s .depth) rule)
+
+-- What a turn asks of a match at a state: its rule has its place in the tables, and place and count can go on.
+abbrev pub Fits : Found → State → Type 0
+Fits found.Nothing s = Unit
+Fits (found.Rule rule n) s = (rule < 32) × (s .place + n < 18446744073709551616) × (s .count < s .place + n)

@@ -1,68 +1,16 @@
--- The entries in use: the one on top, those below it, and bounds that hold of all.
-use mathlib.Core.Path.{_≡_, refl, sym, ap, ap₂, subst, _∙_}
+-- What the functions that go through the entries in use answer, from the top: the taker, and whether all are nullable.
+use mathlib.Core.Path.{_≡_, refl, sym, ap, _∙_}
 use mathlib.Core.Bool.{Bool, true, false, _&&_}
-use mathlib.Core.List.{List, [], _∷_, _++_}
-use mathlib.Core.Logic.{⊎-elim}
+use mathlib.Core.List.{List}
 use Prim.Native.Nat.{ℕ, zero, suc, _+_, _-_, _*_, _≤_, _<_}
 use native.Mathlib.Omega.{arith}
-use lib.ListN.{length, getD, set}
-use lib.Seq.{getD-set-other}
+use lib.ListN.{getD}
 use borrow.Author.Tests.{eq-eqb, ne-eqb}
 use Rattle.stage0_laws.specs.Bits.{bit}
-use Rattle.stage0_laws.specs.Lists.{All}
-use Rattle.stage0_laws.specs.Order.{lt-or-le}
-use Rattle.stage3_normal_form.specs.Productions.{Row}
-use Rattle.stage6_machine_runner.specs.Stack.{pending, Ready}
-use Rattle.stage6_machine_runner.specs.Steps.{taker, all-members}
-use Rattle.stage6_machine_runner.specs.declared.Taker.{Taker}
-use Rattle.stage6_machine_runner.specs.declared.Taker.the-variants.{Nothing, At}
-
-pub length-pending : (stack : List ℕ) (depth : ℕ) → length (pending stack depth) ≡ depth
-unfolding pending
-length-pending stack zero = refl
-length-pending stack (suc depth) = ap suc (length-pending stack depth)
-
--- A store at the depth or above changes nothing below.
-pub pending-set : (stack : List ℕ) (i v depth : ℕ) → depth ≤ i → pending (set stack i v) depth ≡ pending stack depth
-unfolding pending
-pending-set stack i v zero h = refl
-pending-set stack i v (suc depth) h =
-    ap₂ _∷_ (getD-set-other stack i depth v 0 (λ e. omega arith)) (pending-set stack i v depth (omega arith))
-
--- ---- bounds
-
-module _ (bound : ℕ) where
-  pub all-wider : (n : ℕ) (l : List ℕ) → n ≤ bound → All (λ m. m < n) l → All (λ m. m < bound) l
-  all-wider n [] k h = tt
-  all-wider n (a ∷ l) k h = (omega (arith, h .0), all-wider n l k (h .1))
-
-  pub all-joined : (l r : List ℕ) → All (λ m. m < bound) l → All (λ m. m < bound) r → All (λ m. m < bound) (l ++ r)
-  all-joined [] r h k = k
-  all-joined (a ∷ l) r h k = (h .0, all-joined l r (h .1) k)
-
-  pub all-lower : (stack : List ℕ) (base depth : ℕ) → base ≤ depth → All (λ m. m < bound) (pending stack depth)
-      → All (λ m. m < bound) (pending stack base)
-  unfolding pending
-  all-lower stack base zero k h = let e : base ≡ 0 = omega arith in rw e tt
-  all-lower stack base (suc depth) k h =
-      ⊎-elim
-      (λ l. let e : base ≡ suc depth = omega arith in rw e h)
-      (λ l. all-lower stack base depth l (h .1))
-      (lt-or-le depth base)
-
-  -- The entry on top, and those below it.
-  pub all-top : (stack : List ℕ) (depth : ℕ) → 0 < depth → All (λ m. m < bound) (pending stack depth)
-      → (getD stack (depth - 1) 0 < bound) × All (λ m. m < bound) (pending stack (depth - 1))
-  unfolding pending
-  all-top stack depth k h =
-      let e : depth ≡ suc (depth - 1) = omega arith in
-      let a = subst (λ (d : ℕ). All (λ m. m < bound) (pending stack d)) e h in
-      (a .0, a .1)
-
--- What the functions that only look at the entries ask.
-pub ready-entries : {bytes productions : List ℕ} {empty : ℕ} {rows : List Row} {n : ℕ} {stack : List ℕ} {depth : ℕ}
-    → Ready bytes productions empty rows n stack depth → (depth ≤ length stack) × All (λ m. m < 64) (pending stack depth)
-ready-entries {n = n} {stack = stack} {depth = depth} r = (r .inside, all-wider 64 n (pending stack depth) (r .most) (r .below))
+use Rattle.stage6_machine_turn.specs.Stack.{pending}
+use Rattle.stage6_machine_turn.specs.Steps.{taker, all-members}
+use Rattle.stage6_machine_turn.specs.declared.Taker.{Taker}
+use Rattle.stage6_machine_turn.specs.declared.Taker.the-variants.{Nothing, At}
 
 -- ---- the taker, from the top
 
