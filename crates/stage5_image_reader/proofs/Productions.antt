@@ -16,7 +16,7 @@ use Rattle.stage0_laws.specs.Bits.{bit}
 use Rattle.stage0_laws.specs.BitLaws.{and-test, shl-one}
 use Rattle.stage0_laws.specs.Order.{compare-cases}
 use Rattle.stage1_sheet.specs.Field.{Reading, stop, got, between}
-use Rattle.stage3_normal_form.specs.Productions.{Production, production-of}
+use Rattle.stage3_normal_form.specs.Productions.{Production, production-of, most-tail}
 use Rattle.stage5_image.specs.ImageReading.{image-field, read-list, read-production}
 use Rattle.stage5_image_reader.specs.Answers.{ProductionHeld, ProductionAnswers}
 use Rattle.stage5_image_reader.specs.declared.ProductionRead.the-variants as production
@@ -110,12 +110,12 @@ module _ (bytes : List ℕ) (skips : List Bool) (count least at : ℕ) where
   rule-stops e = rw e
 
   module _ {rule at-length : ℕ} (e : image-field (rule-test skips least) bytes at ≡ got rule at-length) where
-    pub size-stops : {p : ℕ} → image-field (between 0 31) bytes at-length ≡ stop 13 p
+    pub size-stops : {p : ℕ} → image-field (between 0 most-tail) bytes at-length ≡ stop 13 p
         → read-production bytes skips count least at ≡ stop 13 p
     unfolding read-production rule-test
     size-stops e₂ = rw (e, e₂)
 
-    module _ {size at-tail : ℕ} (e₂ : image-field (between 0 31) bytes at-length ≡ got size at-tail) where
+    module _ {size at-tail : ℕ} (e₂ : image-field (between 0 most-tail) bytes at-length ≡ got size at-tail) where
       pub tail-stops : {p : ℕ} → read-list (image-field (λ v. ltb v count) bytes) size at-tail ≡ stop 13 p
           → read-production bytes skips count least at ≡ stop 13 p
       unfolding read-production rule-test
@@ -128,11 +128,11 @@ module _ (bytes : List ℕ) (skips : List Bool) (count least at : ℕ) where
 
 -- The tail that was read stands behind its length.
 pub tail-at : (bytes : List ℕ) (n place size at-tail : ℕ) (tail : List ℕ) → ((i : ℕ) → getD bytes i 0 < 256)
-    → image-field (between 0 31) bytes place ≡ got size at-tail → length tail ≡ size → Members bytes at-tail n tail
+    → image-field (between 0 most-tail) bytes place ≡ got size at-tail → length tail ≡ size → Members bytes at-tail n tail
     → TailAt bytes n place tail
 tail-at bytes n place size at-tail tail hb e l m =
     let r = field-range 0 31 bytes place e in
-    let o = field-one-byte (between 0 31) bytes place hb e (omega arith) in
+    let o = field-one-byte (between 0 most-tail) bytes place hb e (omega arith) in
     record {
       size = o .byte ∙ sym l;
       short = omega arith;

@@ -20,7 +20,8 @@ use Rattle.stage5_image_reader.specs.declared.ImageTables.{ImageTables}
 use Rattle.stage5_image_reader.specs.declared.ImageRead.{ImageRead}
 use Rattle.stage5_image_reader.specs.declared.Outcome.the-variants.{Readable, Refused}
 
--- The tables hold an image that stands in these bytes.
+-- The tables hold an image that stands in these bytes. Left free: the columns' entries from the position count on, and the entries of
+-- `productions` from the last nonterminal's on; no function reads them.
 pub record Decoded (bytes : List ℕ) (t : ImageTables) (i : Image) : Type 0 where
   pub rules : t .rules ≡ length (i .skips)
   pub most-rules : t .rules ≤ 32

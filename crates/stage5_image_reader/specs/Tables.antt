@@ -9,7 +9,7 @@ use lib.Dec.{eqb}
 use lib.ListN.{length, getD, take, drop}
 use Rattle.stage0_laws.specs.Bits.{bit}
 use Rattle.stage0_laws.specs.Lists.{All}
-use Rattle.stage3_normal_form.specs.Productions.{Production, Row, row-of, no-productions, production-of}
+use Rattle.stage3_normal_form.specs.Productions.{Production, Row, row-of, no-productions, most-tail, production-of}
 use Rattle.stage4_lexer.specs.Positions.{Position}
 use Rattle.stage4_lexer_columns.specs.Held.{held-positions}
 use Rattle.stage4_lexer_columns.specs.declared.PositionColumns.{PositionColumns}
@@ -59,7 +59,7 @@ pub record MembersHeld (bytes : List ℕ) (at n size v : ℕ) (l : List ℕ) : T
 -- A tail in the image's bytes: its length, and then its members.
 pub record TailAt (bytes : List ℕ) (n place : ℕ) (tail : List ℕ) : Type 0 where
   pub size : getD bytes place 0 ≡ length tail
-  pub short : length tail ≤ 31
+  pub short : length tail ≤ most-tail
   pub members : Members bytes (place + 1) n tail
 
 -- An entry of the table of productions: 0 for none, else 1 + the place of the tail's length.

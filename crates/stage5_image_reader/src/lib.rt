@@ -295,7 +295,7 @@ fn read_production(bytes: &[u8], at: usize, bounds: Bounds, least: u64) -> Produ
     if bounds.skips & (1u64 << rule_number) != 0 {
         return ProductionRead::Refused(at);
     }
-    let size = read_between(bytes, at_length, 0, 31);
+    let size = read_between(bytes, at_length, 0, stage3_normal_form::MOST_TAIL);
     let Field::Value(length, at_tail) = size else {
         return ProductionRead::Refused(place_of(size));
     };
@@ -484,7 +484,8 @@ fn read_lexer(bytes: &[u8], at: usize, rules: u64, skips: u64) -> ImageRead
     read_grammar(bytes, at_nonterminals, rules, skips, columns)
 }
 
-// Reads an image: question 13, and the tables for the machine.
+// Reads an image: question 13, and the tables for the machine. What the tables hold past the image's own positions and nonterminals is
+// left free (`Decoded`).
 pub fn read_image(bytes: &[u8]) -> ImageRead
     ensures { λ r. ⌜ ImageAnswers (now (bytes .entry)) r (read-image (now (bytes .entry))) ⌝ }
 {

@@ -74,31 +74,39 @@ pub fn line_for(read: TextRead) -> Line
     }
 }
 
+// The longest text that the program takes, and what it lends.
+const MOST_PROGRAM_TEXT: usize = 2048;
+
+const PROGRAM_WORK: usize = 65536;
+
+const PROGRAM_ROOM: usize = 65536;
+
+const PROGRAM_ENTRIES: usize = 1 + stage3_normal_form::MOST_GROWTH * MOST_PROGRAM_TEXT;
+
 // The program's line with these buffers, whatever they hold. As arrays they have known lengths here.
 fn line_with(
     sheet: &[u8],
     text: &[u8],
-    work: &mut [u8; 65536],
-    image: &mut [u8; 65536],
-    stack: &mut [u8; 61441],
+    work: &mut [u8; PROGRAM_WORK],
+    image: &mut [u8; PROGRAM_ROOM],
+    stack: &mut [u8; PROGRAM_ENTRIES],
 ) -> Line
     ensures { λ r.
         ⌜ (r ≡ program-line (now (sheet .entry)) (now (text .entry)))
         × OwnLine (now (sheet .entry)) (now (text .entry)) r ⌝ }
 {
-    let read = read_text(sheet, text, 2048, work, image, stack);
+    let read = read_text(sheet, text, MOST_PROGRAM_TEXT, work, image, stack);
     line_for(read)
 }
 
-// The program's line for a sheet and a text: it lends a work area and an image buffer of 65,536 bytes, and a stack that is long
-// enough for a text of 2,048 bytes.
+// The program's line for a sheet and a text.
 pub fn program_line(sheet: &[u8], text: &[u8]) -> Line
     ensures { λ r.
         ⌜ (r ≡ program-line (now (sheet .entry)) (now (text .entry)))
         × OwnLine (now (sheet .entry)) (now (text .entry)) r ⌝ }
 {
-    let mut work = [0u8; 65536];
-    let mut image = [0u8; 65536];
-    let mut stack = [0u8; 61441];
+    let mut work = [0u8; PROGRAM_WORK];
+    let mut image = [0u8; PROGRAM_ROOM];
+    let mut stack = [0u8; PROGRAM_ENTRIES];
     line_with(sheet, text, &mut work, &mut image, &mut stack)
 }

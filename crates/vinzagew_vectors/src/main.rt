@@ -25,6 +25,9 @@ const STACK: usize = 1024;
 
 const MOST_TEXT: usize = 1048576;
 
+// A stack that is long enough for a text of 2,048 bytes.
+const LONG_STACK: usize = 1 + stage3_normal_form::MOST_GROWTH * 2048;
+
 // The fields of a line: numbers in decimal and bytes in hexadecimal, each with a blank after it. A `-` stands for no bytes. Nothing
 // here judges a file that is written otherwise: its lines are other cases.
 
@@ -355,7 +358,7 @@ fn read_with(
     limit: usize,
     work: &mut [u8; 65536],
     image: &mut [u8; IMAGE],
-    stack: &mut [u8; 61441],
+    stack: &mut [u8; LONG_STACK],
 ) -> TextRead {
     stage7_engine::read_text(sheet, input, limit, work, image, stack)
 }
@@ -368,7 +371,7 @@ fn read_case(text: &[u8], at: usize) -> TextRead
     let mut input = [0u8; FIELD];
     let mut work = [0u8; 65536];
     let mut image = [0u8; IMAGE];
-    let mut stack = [0u8; 61441];
+    let mut stack = [0u8; LONG_STACK];
     let input_at = after_blank(text, at);
     let sheet_size = bytes_field(text, at, &mut sheet);
     let input_size = bytes_field(text, input_at, &mut input);

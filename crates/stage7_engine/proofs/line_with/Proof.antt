@@ -4,7 +4,8 @@ use Prim.Native.Nat.{ℕ}
 use denote.Ref.{now}
 use lib.ListN.{length}
 use Rattle.stage7_engine.specs.declared.Line.{Line}
-use Rattle.stage7_engine.specs.Program.{program-line, OwnLine}
+use Rattle.stage5_image.specs.Compile.{work-bytes}
+use Rattle.stage7_engine.specs.Program.{program-room, program-entries, program-line, OwnLine}
 use Rattle.stage7_engine.proofs.Laws.{program-prints}
 use borrow.Author.Needs.{needs}
 use Rattle.stage7_engine.proofs.line_with.Statement.{statement}
@@ -27,9 +28,9 @@ returns : tie.Need-returns
 returns c =
     let z = c .before .before .before .before .before .before .before .args in
     let read = c .before .read-text in
-    let work : length (now (z .work)) ≡ 65536 = search needs in
-    let image : length (now (z .image)) ≡ 65536 = search needs in
-    let stack : length (now (z .stack)) ≡ 61441 = search needs in
+    let work : length (now (z .work)) ≡ work-bytes = search needs in
+    let image : length (now (z .image)) ≡ program-room = search needs in
+    let stack : length (now (z .stack)) ≡ program-entries = search needs in
     let p = program-prints (now (z .sheet)) (now (z .text)) (length (now (z .work))) (length (now (z .image))) (length (now (z .stack)))
     work image stack _ (read .ensures .0) (read .ensures .4) in
     let e = c .line-for .ensures in

@@ -22,8 +22,8 @@ loop-holds c = search needs
 returns : tie.Need-returns Inv-loop μ-loop
 returns c = search needs
 
-shared-slice-read-byte : tie.Need-shared-slice-read-byte Inv-loop μ-loop
-shared-slice-read-byte c = search needs
+shared-slice-read-show-byte : tie.Need-shared-slice-read-show-byte Inv-loop μ-loop
+shared-slice-read-show-byte c = search needs
 
 show-byte-requires : tie.Need-show-byte-requires Inv-loop μ-loop
 show-byte-requires c κs = search needs
@@ -50,7 +50,7 @@ show-front-spec =
     write-all-requires
     loop-holds
     returns
-    shared-slice-read-byte
+    shared-slice-read-show-byte
     show-byte-requires
     add-i
     loop-less
