@@ -5,6 +5,7 @@ pub mod Regex
 pub mod Expression
 pub mod Sheet
 pub mod Spelling
+pub mod NodePlaces
 pub mod WellFormed
 pub mod Field
 pub mod Items
@@ -15,6 +16,7 @@ pub mod ListLaws
 pub mod FieldLaws
 pub mod RegexItems
 pub mod ExpressionItems
+pub mod NodePlaceLaws
 pub mod SheetFields
 pub mod RegexReading
 pub mod ExpressionReading
