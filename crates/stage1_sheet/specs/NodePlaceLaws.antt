@@ -9,7 +9,6 @@ use lib.ListN.{length, length-append, take}
 use borrow.Author.Tests.{ltb-true, ltb-false}
 use Rattle.stage1_sheet.specs.Expression.{Expression, epsilon, bottom, token, sequence, alternative, fixed-point, variable, size}
 use Rattle.stage1_sheet.specs.Spelling.{expression-numbers}
-use Rattle.stage1_sheet.specs.Items.{ExpressionItem}
 use Rattle.stage1_sheet.specs.ListLaws.{flatMap-append}
 use Rattle.stage1_sheet.specs.ExpressionItems.{expression-items-of, expression-tag, tag-number, expression-item-numbers, expression-items-numbers, expression-items-length}
 use Rattle.stage1_sheet.specs.NodePlaces.{numbers-before}

@@ -5,9 +5,8 @@ use mathlib.Core.Bool.{true}
 use mathlib.Core.List.{List}
 use Prim.Native.Nat.{ℕ}
 use Rattle.stage0_laws.specs.Bits.{_∈_}
-use Rattle.stage1_sheet.specs.Expression.{Expression}
 use Rattle.stage2_types.specs.Types.{LanguageType}
-use Rattle.stage2_types.specs.Nodes.{Node, nodes}
+use Rattle.stage2_types.specs.Nodes.{Node}
 use Rattle.stage2_types.specs.LeastTypes.{type-of, next-types}
 
 -- a ⊑ b: whatever a has, b has.

@@ -1,28 +1,27 @@
 -- What is computed for questions 8 to 10 is what they ask in Figure 2's terms: the computed types are the least solution, the only one,
 -- and the search finds the first node that fails. Of the two, a node that fails and none that does, exactly one is so.
 use mathlib.Core.Path.{_≡_, refl, sym, ap, ap₂, subst, _∙_}
-use mathlib.Core.Bool.{Bool, true, false, cond, true≢false}
+use mathlib.Core.Bool.{Bool, true, false, true≢false}
 use mathlib.Core.List.{List}
 use mathlib.Core.Logic.{_⊎_, inl, inr, _↔_, ⊎-elim}
 use mathlib.Core.Option.{Option, none, some}
-use Prim.Native.Nat.{ℕ, _≤_, _<_}
+use Prim.Native.Nat.{ℕ, _≤_}
 use native.Mathlib.Omega.{arith}
 use lib.ListN.{length, length-map, List·getD-eq-default}
 use lib.Seq.{ext-getD}
 use Rattle.stage0_laws.specs.Order.{lt-or-le}
 use Rattle.stage1_sheet.specs.Limits.{most-tokens}
 use Rattle.stage1_sheet.specs.Expression.{Expression}
-use Rattle.stage1_sheet.specs.Sheet.{Sheet}
-use Rattle.stage1_sheet.specs.WellFormed.{Closed, WithinLimits}
+use Rattle.stage1_sheet.specs.WellFormed.{Closed}
 use Rattle.stage2_types.specs.Types.{LanguageType, bottom-type, Separable, Apart, HasType}
 use Rattle.stage2_types.specs.Nodes.{Node, epsilon-node, bottom-node, token-node, sequence-node, alternative-node, fixed-point-node, variable-node, nodes, node-at}
 use Rattle.stage2_types.specs.LeastTypes.{type-of, node-type, next-types, least-types}
-use Rattle.stage2_types.specs.LeastSolution.{AllBelow, Solves, LeastSolution}
+use Rattle.stage2_types.specs.LeastSolution.{Solves, LeastSolution}
 use Rattle.stage2_types.specs.TypeLaws.{⊑-antisym}
 use Rattle.stage2_types.specs.LeastTypeLaws.{least-below, least-solves}
 use Rattle.stage2_types.specs.Questions.{Fault, separable, apart, unless, node-fault, type-fault}
-use Rattle.stage2_types.specs.QuestionLaws.{separable-iff, apart-iff, Passes, no-fault-iff, FirstToFail, type-fault-first}
-use Rattle.stage2_types.specs.EachFrom.{each-member, member-each}
+use Rattle.stage2_types.specs.QuestionLaws.{separable-iff, apart-iff, PassesAt, no-fault-iff, type-fault-first}
+use Rattle.stage2_types.specs.EachFrom.{each-member}
 use Rattle.stage2_types.specs.Typing.{typed-iff}
 use Rattle.stage2_types.specs.TypeFaults.{Fails, not-guarded, not-separable, not-apart, TypeFault, NoTypeFault}
 
@@ -111,8 +110,8 @@ module _ (tokens : ℕ) (within : tokens ≤ most-tokens) (e : Expression) (clos
   no-fault-means : type-fault e ≡ none → (m question : ℕ) → Fails (least-types e) (node-at (nodes e) m) question → ⊥
   unfolding type-fault
   no-fault-means h m question = ⊎-elim
-      (λ l. let x : Passes (least-types e) m (node-at (nodes e) m) =
-      each-member (Passes (least-types e)) bottom-node (nodes e) (no-fault-iff (least-types e) (nodes e) 0 .0 h) m l in
+      (λ l. let x : PassesAt (least-types e) m (node-at (nodes e) m) =
+      each-member (PassesAt (least-types e)) bottom-node (nodes e) (no-fault-iff (least-types e) (nodes e) 0 .0 h) m l in
       subst (Means (least-types e) (node-at (nodes e) m) m) x (node-means (least-types e) (node-at (nodes e) m) m) question)
       (λ l. rw (List·getD-eq-default (nodes e) bottom-node {n = m} l) (bottom-passes (least-types e) question))
       (lt-or-le m (length (nodes e)))

@@ -2,13 +2,12 @@
 -- Nothing here is about expressions or languages.
 use mathlib.Core.Path.{_≡_}
 use mathlib.Core.Bool.{_&&_, false≢true}
-use mathlib.Core.List.{List}
 use Prim.Native.Nat.{ℕ}
 use lib.Bits.{bitOr, bitAnd}
 use Rattle.stage0_laws.specs.BitLaws.{∈-zero, ∈-disjoint, disjoint-zero}
 use Rattle.stage2_types.specs.Types.{LanguageType, if-null, bottom-type, sequence-type, alternative-type, Separable, Apart}
 use Rattle.stage2_types.specs.LeastSolution.{_⊑_}
-use Rattle.stage2_types.specs.SetOrder.{_⇒_, implied-both, and-rises, or-rises, false-falls, _⊆_, included-both, union-rises, cond-rises}
+use Rattle.stage2_types.specs.SetOrder.{implied-both, and-rises, or-rises, false-falls, _⊆_, included-both, union-rises, cond-rises}
 
 pub ⊑-refl : (a : LanguageType) → a ⊑ a
 ⊑-refl a = record { null-rises = λ e. e; first-rises = λ i m. m; flast-rises = λ i m. m }

@@ -31,7 +31,7 @@ module _ (N : ℕ → Language) (rows : List Row) (unfolds : (n : ℕ) → Unfol
 
   by-row : (k n : ℕ) (β : List ℕ) → Below k → ((w : List ℕ) → length w ≤ k → concatenation N β w → Unfolds rows β w)
       → (v : List ℕ) → concatenation N β v → {u : List ℕ} → ByRow N (row-of rows n) u → length (u ++ v) ≤ k → Unfolds rows (n ∷ β) (u ++ v)
-  by-row k n β f rest v c (by-epsilon e) h = unfold-epsilon (holds-true ((row-of rows n) .empty) e) (rest v h c)
+  by-row k n β f rest v c (by-epsilon e) h = unfold-epsilon (holds-true ((row-of rows n) .has-epsilon) e) (rest v h c)
   by-row k n β f rest v c (by-production {q = q} {w = w} m x) h =
       unfold-production m (f (q .tail ++ β) (w ++ v) (omega arith) (concatenation-append N (q .tail) β w v x c))
 

@@ -30,8 +30,8 @@ module _ (N : ℕ → Language) where
     pub tail-words : (q : Production) → q of P → HaveWords N (q .tail)
     pub tail-good : (q : Production) → q of P → Good N (q .tail)
 
-  without-productions : (L : Language) (empty : Bool) → UnfoldsOnce N L (record { empty = empty; productions = [] })
-      → RowFits L (record { empty = empty; productions = [] })
+  without-productions : (L : Language) (empty : Bool) → UnfoldsOnce N L (record { has-epsilon = empty; productions = [] })
+      → RowFits L (record { has-epsilon = empty; productions = [] })
   without-productions L empty u =
       record { unfolds = u; tail-words = λ q m. absurd (List·Memᴰ·not-nil m); tail-good = λ q m. absurd (List·Memᴰ·not-nil m) }
 

@@ -12,16 +12,16 @@ use Rattle.stage3_normal_form.specs.Productions.{Production, Row, no-pro
 
 -- The rows that the equations make.
 abbrev pub epsilon-row : Row
-epsilon-row = record { empty = true; productions = [] }
+epsilon-row = record { has-epsilon = true; productions = [] }
 
 abbrev pub token-row : ℕ → Row
-token-row t = record { empty = false; productions = record { head = t; tail = [] } ∷ [] }
+token-row t = record { has-epsilon = false; productions = record { head = t; tail = [] } ∷ [] }
 
 abbrev pub sequence-row : ℕ → Row → Row
-sequence-row n P = record { empty = false; productions = map (ended-by n) (P .productions) }
+sequence-row n P = record { has-epsilon = false; productions = map (ended-by n) (P .productions) }
 
 abbrev pub alternative-row : Row → Row → Row
-alternative-row P Q = record { empty = P .empty || Q .empty; productions = P .productions ++ Q .productions }
+alternative-row P Q = record { has-epsilon = P .has-epsilon || Q .has-epsilon; productions = P .productions ++ Q .productions }
 
 -- A production of a row.
 abbrev pub _of_ : Production → Row → Type 0
@@ -36,7 +36,7 @@ module _ (N : ℕ → Language) where
 
   -- The words that a row gives in one step: the empty one by ε, and t w' by a production t β with w' a word of β.
   pub data ByRow (P : Row) : List ℕ → Type 0 where
-    by-epsilon : T (P .empty) → ByRow P []
+    by-epsilon : T (P .has-epsilon) → ByRow P []
     by-production : {q : Production} {w : List ℕ} → q of P → concatenation (q .tail) w → ByRow P (q .head ∷ w)
 
   -- A row gives a language in one step.
@@ -89,15 +89,15 @@ module _ (N : ℕ → Language) where
 
   -- An alternative.
   left-words : (P Q : Row) {w : List ℕ} → ByRow P w → ByRow (alternative-row P Q) w
-  left-words P Q (by-epsilon t) = by-epsilon (or-left (P .empty) (Q .empty) t)
+  left-words P Q (by-epsilon t) = by-epsilon (or-left (P .has-epsilon) (Q .has-epsilon) t)
   left-words P Q (by-production m c) = by-production (Memᴰ·append-left (Q .productions) m) c
 
   right-words : (P Q : Row) {w : List ℕ} → ByRow Q w → ByRow (alternative-row P Q) w
-  right-words P Q (by-epsilon t) = by-epsilon (or-right (P .empty) (Q .empty) t)
+  right-words P Q (by-epsilon t) = by-epsilon (or-right (P .has-epsilon) (Q .has-epsilon) t)
   right-words P Q (by-production m c) = by-production (Memᴰ·append-right (P .productions) m) c
 
   alternative-words : (P Q : Row) {w : List ℕ} → ByRow (alternative-row P Q) w → ByRow P w ⊎ ByRow Q w
-  alternative-words P Q (by-epsilon t) = ⊎-map (λ x. by-epsilon x) (λ x. by-epsilon x) (or-cases (P .empty) (Q .empty) t)
+  alternative-words P Q (by-epsilon t) = ⊎-map (λ x. by-epsilon x) (λ x. by-epsilon x) (or-cases (P .has-epsilon) (Q .has-epsilon) t)
   alternative-words P Q (by-production m c) =
       ⊎-map (λ x. by-production x c) (λ x. by-production x c) (List·Memᴰ·append-cases (P .productions) m)
 
@@ -109,7 +109,7 @@ module _ (N : ℕ → Language) where
   )
 
   -- A sequence, whose left part has no ε.
-  add-right : (n : ℕ) (P : Row) {u : List ℕ} (v : List ℕ) → (T (P .empty) → ⊥) → ByRow P u → N n v → ByRow (sequence-row n P) (u ++ v)
+  add-right : (n : ℕ) (P : Row) {u : List ℕ} (v : List ℕ) → (T (P .has-epsilon) → ⊥) → ByRow P u → N n v → ByRow (sequence-row n P) (u ++ v)
   unfolding ended-by
   add-right n P v s (by-epsilon t) y = absurd (s t)
   add-right n P v s (by-production {q = q} {w = w} m c) y =
@@ -138,15 +138,15 @@ module _ (N : ℕ → Language) where
     λ h. let y = sequence-words n P h in f w .1 (y .0, y .1, y .2, x (y .0) .1 (y .3), y .4),
   )
 
-  null-word : {P : Row} {w : List ℕ} → w ≡ [] → ByRow P w → T (P .empty)
+  null-word : {P : Row} {w : List ℕ} → w ≡ [] → ByRow P w → T (P .has-epsilon)
   null-word e (by-epsilon s) = s
   null-word e (by-production m c) = absurd (cons≢nil e)
 
   -- The ε flag is exact.
-  pub null-exact : {L : Language} {P : Row} → UnfoldsOnce L P → L [] ↔ (P .empty ≡ true)
+  pub null-exact : {L : Language} {P : Row} → UnfoldsOnce L P → L [] ↔ (P .has-epsilon ≡ true)
   null-exact {L} {P} u = (
-    (λ h. holds-true (P .empty) (null-word refl (u [] .0 h))),
-    λ s. u [] .1 (by-epsilon (true-holds (P .empty) s)),
+    (λ h. holds-true (P .has-epsilon) (null-word refl (u [] .0 h))),
+    λ s. u [] .1 (by-epsilon (true-holds (P .has-epsilon) s)),
   )
 
   pub production-word : {L : Language} {P : Row} → UnfoldsOnce L P → (q : Production) (w : List ℕ) → q of P → concatenation (q .tail) w

@@ -9,7 +9,7 @@ use Rattle.stage3_normal_form.specs.Productions.{Production, Row, row-of
 pub data Unfolds (rows : List Row) : List ℕ → List ℕ → Type 0 where
   none-pending : Unfolds rows [] []
   unfold-epsilon : {n : ℕ} {pending symbols : List ℕ}
-      → (row-of rows n) .empty ≡ true → Unfolds rows pending symbols → Unfolds rows (n ∷ pending) symbols
+      → (row-of rows n) .has-epsilon ≡ true → Unfolds rows pending symbols → Unfolds rows (n ∷ pending) symbols
   unfold-production : {n : ℕ} {pending symbols : List ℕ} {p : Production}
       → List·Memᴰ p ((row-of rows n) .productions) → Unfolds rows (p .tail ++ pending) symbols
       → Unfolds rows (n ∷ pending) (p .head ∷ symbols)

@@ -124,8 +124,8 @@ row-width skips count row few-rules few g =
     let most = width-all one-production-numbers 33 ps (each ps (g .productions-in-range)) in
     omega (
       arith,
-      width-append (flag (row .empty) ∷ length ps ∷ []) (production-numbers ps),
-      width-small (flag (row .empty) ∷ length ps ∷ []) (flag-small (row .empty), (omega arith, tt)),
+      width-append (flag (row .has-epsilon) ∷ length ps ∷ []) (production-numbers ps),
+      width-small (flag (row .has-epsilon) ∷ length ps ∷ []) (flag-small (row .has-epsilon), (omega arith, tt)),
       ap width (productions-are ps),
       most,
     )

@@ -42,7 +42,7 @@ module _ (rules : List Rule) (rows image : List Row) (number : ℕ → ℕ) (Kno
   to-tokens (unfold-epsilon {n = m} empty u) (n ∷ pending) e k =
       let r = to-tokens u pending (tail-eq-of-cons-eq e) (k .1) in (
         r .0,
-        unfold-epsilon (sym (s .same-empty n (k .0)) ∙ subst (λ (z : ℕ). (row-of image z) .empty ≡ true) (head-eq-of-cons-eq e) empty) (r .1),
+        unfold-epsilon (sym (s .same-epsilon n (k .0)) ∙ subst (λ (z : ℕ). (row-of image z) .has-epsilon ≡ true) (head-eq-of-cons-eq e) empty) (r .1),
         r .2,
       )
   to-tokens (unfold-production m u) [] e k = absurd (cons≢nil e)
@@ -84,7 +84,7 @@ module _ (rules : List Rule) (rows image : List Row) (number : ℕ → ℕ) (Kno
       → All Known pending
       → Unfolds image (map number pending) ks
   from-tokens one none-pending no-tokens k = none-pending
-  from-tokens one (unfold-epsilon {n = n} empty u) sp k = unfold-epsilon (s .same-empty n (k .0) ∙ empty) (from-tokens one u sp (k .1))
+  from-tokens one (unfold-epsilon {n = n} empty u) sp k = unfold-epsilon (s .same-epsilon n (k .0) ∙ empty) (from-tokens one u sp (k .1))
   from-tokens one (unfold-production {n = n} {pending = pending} {p = q} m u) (one-more {k = r} {ks = ks} h sp) k =
       taken one n q r pending ks (k .0) (k .1) m h (λ known. from-tokens one u sp known)
 
