@@ -157,3 +157,6 @@ module _ (tokens : ℕ) (within : tokens ≤ most-tokens) (e : Expression) (clos
     λ t. no-type-fault-is .0 (typed-iff tokens within e closed .1 t),
     λ t. typed-iff tokens within e closed .0 (no-type-fault-is .1 t),
   )
+
+  pub fault-not-typed : {n question : ℕ} → TypeFault e n question → HasType e → ⊥
+  fault-not-typed t h = not-both t (typed-no-type-fault .0 h)

@@ -1,7 +1,7 @@
 -- What types say of the rows that stay: a nullable row's type is NULL, a production's head is in FIRST, and each token begins one
 -- production at most. Half of Lemma 3.6 of 000: that every token of FIRST begins one is not said, and is not true of rows that stay.
 use mathlib.Core.Path.{_≡_, refl, sym, subst}
-use mathlib.Core.Bool.{Bool, true, false, _||_, cond, true≢false}
+use mathlib.Core.Bool.{Bool, true, false, cond, true≢false}
 use mathlib.Core.List.{List, [], List·Memᴰ·not-nil, List·Memᴰ·eq-of-singleton, List·Memᴰ·append-cases, Memᴰ·of-map}
 use mathlib.Core.Logic.{_⊎_, ⊎-elim}
 use Prim.Native.Nat.{ℕ, _^_}
