@@ -5,6 +5,7 @@ pub mod Regex
 pub mod Expression
 pub mod Sheet
 pub mod Spelling
+pub mod NodePlaces
 pub mod WellFormed
 pub mod Field
 pub mod Items
@@ -17,6 +18,7 @@ pub mod FieldLaws
 pub mod NumberLaws
 pub mod RegexItems
 pub mod ExpressionItems
+pub mod NodePlaceLaws
 pub mod SheetFields
 pub mod PlaceLaws
 pub mod RegexReading

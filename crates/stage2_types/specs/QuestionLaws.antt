@@ -20,7 +20,8 @@ use Rattle.stage2_types.specs.Types.{LanguageType, Separable, Apart}
 use Rattle.stage2_types.specs.Nodes.{Node, epsilon-node, bottom-node, token-node, sequence-node, alternative-node, fixed-point-node, variable-node, nodes, node-at}
 use Rattle.stage2_types.specs.LeastTypes.{type-of, least-types}
 use Rattle.stage2_types.specs.Questions.{Fault, separable, apart, unless, node-fault, first-fault, type-fault}
-use Rattle.stage2_types.specs.TypeLaws.{separable-falls, apart-falls, AllBelow}
+use Rattle.stage2_types.specs.TypeLaws.{separable-falls, apart-falls}
+use Rattle.stage2_types.specs.LeastSolution.{AllBelow}
 use Rattle.stage2_types.specs.EachFrom.{EachFrom, each-member}
 
 -- The tests.
@@ -50,11 +51,11 @@ unless-iff true number p = (λ e. refl, λ e. refl)
 unless-iff false number p = (λ e. cc, λ e. absurd (true≢false (sym e)))
 
 -- The node x at place p passes the question that it is asked.
-abbrev pub Passes : List LanguageType → ℕ → Node → Type 0
-Passes types p x = node-fault types x p ≡ none
+abbrev pub PassesAt : List LanguageType → ℕ → Node → Type 0
+PassesAt types p x = node-fault types x p ≡ none
 
 -- What passes with larger types passes with smaller ones.
-pub passes-falls : (xs ys : List LanguageType) → AllBelow xs ys → (p : ℕ) (x : Node) → Passes ys p x → Passes xs p x
+pub passes-falls : (xs ys : List LanguageType) → AllBelow xs ys → (p : ℕ) (x : Node) → PassesAt ys p x → PassesAt xs p x
 unfolding node-fault
 passes-falls xs ys h p epsilon-node e = refl
 passes-falls xs ys h p bottom-node e = refl
@@ -69,13 +70,13 @@ passes-falls xs ys h p (fixed-point-node b) e = refl
 passes-falls xs ys h p (variable-node f guarded) e = e
 
 -- No fault: every node passes.
-pub no-fault-iff : (types : List LanguageType) (ns : List Node) (p : ℕ) → (first-fault types ns p ≡ none) ↔ EachFrom (Passes types) p ns
+pub no-fault-iff : (types : List LanguageType) (ns : List Node) (p : ℕ) → (first-fault types ns p ≡ none) ↔ EachFrom (PassesAt types) p ns
 unfolding first-fault
 no-fault-iff types [] p = (λ e. tt, λ h. refl)
 no-fault-iff types (x ∷ ns) p = go (node-fault types x p) refl (no-fault-iff types ns (suc p))
   where
-    go : (o : Option Fault) → node-fault types x p ≡ o → (first-fault types ns (suc p) ≡ none) ↔ EachFrom (Passes types) (suc p) ns
-        → (or-else o (first-fault types ns (suc p)) ≡ none) ↔ (Passes types p x × EachFrom (Passes types) (suc p) ns)
+    go : (o : Option Fault) → node-fault types x p ≡ o → (first-fault types ns (suc p) ≡ none) ↔ EachFrom (PassesAt types) (suc p) ns
+        → (or-else o (first-fault types ns (suc p)) ≡ none) ↔ (PassesAt types p x × EachFrom (PassesAt types) (suc p) ns)
     go none e i = (λ f. (e, i .0 f), λ h. i .1 (h .1))
     go (some f) e i = (λ k. let z : _≡_ {A = ℕ} 0 1 = cc in absurd (omega arith), λ h. sym e ∙ h .0)
 
@@ -83,11 +84,11 @@ no-fault-iff types (x ∷ ns) p = go (node-fault types x p) refl (no-fault-iff t
 abbrev pub AlternativesApart : List Node → List LanguageType → Type 0
 AlternativesApart ns types = (n l r : ℕ) → node-at ns n ≡ alternative-node l r → Apart (type-of types l) (type-of types r)
 
-pub passes-apart : (ns : List Node) (types : List LanguageType) → EachFrom (Passes types) 0 ns → AlternativesApart ns types
+pub passes-apart : (ns : List Node) (types : List LanguageType) → EachFrom (PassesAt types) 0 ns → AlternativesApart ns types
 unfolding node-fault
 passes-apart ns types h n l r e = ⊎-elim
     (λ k. apart-iff (type-of types l) (type-of types r) .0 (unless-iff (apart (type-of types l) (type-of types r)) 10 n .0
-    (rw e at (each-member (Passes types) bottom-node ns h n k))))
+    (rw e at (each-member (PassesAt types) bottom-node ns h n k))))
     (λ k. let z : _≡_ {A = ℕ} 0 1 = cc (List·getD-eq-default ns bottom-node {n = n} k, e) in absurd (omega arith)) (lt-or-le n (length ns))
 
 -- A fault names the node that fails.
@@ -111,7 +112,7 @@ record FirstFails (types : List LanguageType) (ns : List Node) (p : ℕ) (f : Fa
   index : ℕ
   among : index < length ns
   fails : node-fault types (node-at ns index) (p + index) ≡ some f
-  earlier : (n : ℕ) → n < index → Passes types (p + n) (node-at ns n)
+  earlier : (n : ℕ) → n < index → PassesAt types (p + n) (node-at ns n)
 
 first-fails : (types : List LanguageType) (ns : List Node) (p : ℕ) (f : Fault) → first-fault types ns p ≡ some f → FirstFails types ns p f
 unfolding first-fault
@@ -130,15 +131,15 @@ first-fails types (x ∷ ns) p f e = go (node-fault types x p) refl e (λ k. fir
           earlier = earlier-of r;
         }
       where
-        earlier-of : (r : FirstFails types ns (suc p) f) (n : ℕ) → n < suc (r .index) → Passes types (p + n) (node-at (x ∷ ns) n)
+        earlier-of : (r : FirstFails types ns (suc p) f) (n : ℕ) → n < suc (r .index) → PassesAt types (p + n) (node-at (x ∷ ns) n)
         earlier-of r zero l = rw (add-zero p) i
-        earlier-of r (suc n) l = subst (λ q. Passes types q (node-at ns n)) (omega arith) (r .earlier n (omega arith))
+        earlier-of r (suc n) l = subst (λ q. PassesAt types q (node-at ns n)) (omega arith) (r .earlier n (omega arith))
 
 -- The fault f stands at the first node of the list that fails: that node's own question has this answer, and earlier nodes pass.
 pub record FirstToFail (types : List LanguageType) (ns : List Node) (f : Fault) : Type 0 where
   pub among : f .node < length ns
   pub fails : node-fault types (node-at ns (f .node)) (f .node) ≡ some f
-  pub earlier : (n : ℕ) → n < f .node → Passes types n (node-at ns n)
+  pub earlier : (n : ℕ) → n < f .node → PassesAt types n (node-at ns n)
 
 pub first-fault-first : (types : List LanguageType) (ns : List Node) (f : Fault) → first-fault types ns 0 ≡ some f → FirstToFail types ns f
 first-fault-first types ns f e =
@@ -148,7 +149,7 @@ first-fault-first types ns f e =
       among = omega (arith, r .among);
       fails = subst (λ q. node-fault types (node-at ns q) q ≡ some f) (sym at)
           (subst (λ q. node-fault types (node-at ns (r .index)) q ≡ some f) (omega arith) (r .fails));
-      earlier = λ n l. subst (λ q. Passes types q (node-at ns n)) (omega arith) (r .earlier n (omega arith));
+      earlier = λ n l. subst (λ q. PassesAt types q (node-at ns n)) (omega arith) (r .earlier n (omega arith));
     }
 
 pub type-fault-first : (e : Expression) (f : Fault) → type-fault e ≡ some f → FirstToFail (least-types e) (nodes e) f

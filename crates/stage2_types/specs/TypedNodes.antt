@@ -11,7 +11,7 @@ use Rattle.stage2_types.specs.Nodes.{Node, Binder, no-binder, guard, nod
 use Rattle.stage2_types.specs.LeastTypes.{type-of, node-type}
 use Rattle.stage2_types.specs.Questions.{separable, apart, node-fault}
 use Rattle.stage2_types.specs.EachFrom.{EachFrom, each-left}
-use Rattle.stage2_types.specs.QuestionLaws.{separable-iff, apart-iff, unless-iff, Passes}
+use Rattle.stage2_types.specs.QuestionLaws.{separable-iff, apart-iff, unless-iff, PassesAt}
 use Rattle.stage2_types.specs.NodeLaws.{Solved, right-nodes, both-nodes}
 use Rattle.stage2_types.specs.TypedAt.{TypedAt}
 
@@ -44,7 +44,7 @@ module _ (types : List LanguageType) where
 -- Node x at place p has the type that its equation gives, and passes.
 pub record Holds (types : List LanguageType) (p : ℕ) (x : Node) : Type 0 where
   pub equation : Solved types p x
-  pub passes : Passes types p x
+  pub passes : PassesAt types p x
 
 -- What holds at every node of g is that g is typed.
 module _ (types : List LanguageType) where

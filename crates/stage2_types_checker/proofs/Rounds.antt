@@ -35,8 +35,8 @@ use Rattle.stage2_types_checker.specs.Found.{language-type, fault-of, as
 use Rattle.stage2_types_checker.specs.declared.NodeType.{NodeType}
 use Rattle.stage2_types_checker.specs.declared.Fault.the-variants.{Nothing, At}
 
-abbrev pub node-at : NodeLinks → ℕ → Node
-node-at links = held-node (links .tag) (links .link) (links .guarded)
+abbrev pub linked-node : NodeLinks → ℕ → Node
+linked-node links = held-node (links .tag) (links .link) (links .guarded)
 
 abbrev pub type-in : TypeColumns → ℕ → LanguageType
 type-in c = held-type (c .null) (c .first) (c .flast)
@@ -69,11 +69,11 @@ pub node-fits : (links : NodeLinks) → LinksFit links → (i : ℕ) → i < lin
 unfolding held-node
 node-fits links fit i l guarded =
     within-guard 64 (getD (links .tag) i 0) (getD (links .link) i 0) i (bit (links .guarded) i) guarded
-    (in-range-more most-tokens most-tokens (links .count) 64 (node-at links i) (omega arith) (fit .count-fits) (fit .all-within i l))
+    (in-range-more most-tokens most-tokens (links .count) 64 (linked-node links i) (omega arith) (fit .count-fits) (fit .all-within i l))
 
 pub fault-read : (links : NodeLinks) (types : TypeColumns) (i number : ℕ) (guarded : Bool) → guarded ≡ bit (links .guarded) i
     → asked number i ≡ fault-by (type-in types) (node-of (getD (links .tag) i 0) (getD (links .link) i 0) guarded i) i
-    → asked number i ≡ fault-by (type-in types) (node-at links i) i
+    → asked number i ≡ fault-by (type-in types) (linked-node links i) i
 unfolding held-node
 fault-read links types i number guarded e h = rw (← e) h
 
@@ -127,17 +127,17 @@ fill-one f i c t one l h is e = rw (add-one i, e) (record {
 module _ (links : NodeLinks) (types : TypeColumns) where
   -- What a round gives node q.
   abbrev pub next-type : ℕ → LanguageType
-  next-type q = type-by (type-in types) (node-at links q)
+  next-type q = type-by (type-in types) (linked-node links q)
 
   pub round-made : (c : TypeColumns) → LinksFit links → Filled next-type (links .count) c
       → held-types (links .count) c ≡ next-types (held-nodes links) (held-types (links .count) types)
   unfolding held-types held-nodes next-types
   round-made c fit h =
       let n = links .count in
-      tabulate-same (type-in c) (λ k. node-type (tabulate (type-in types) 0 n) (node-at links k)) 0 n
+      tabulate-same (type-in c) (λ k. node-type (tabulate (type-in types) 0 n) (linked-node links k)) 0 n
       (λ k l. let m : k < n = omega arith in
-      h .filled k m ∙ sym (node-type-by (type-in types) n (node-at links k) (fit .all-within k m)))
-      ∙ sym (tabulate-map (node-type (tabulate (type-in types) 0 n)) (node-at links) 0 n)
+      h .filled k m ∙ sym (node-type-by (type-in types) n (linked-node links k) (fit .all-within k m)))
+      ∙ sym (tabulate-map (node-type (tabulate (type-in types) 0 n)) (linked-node links) 0 n)
 
 -- ---- two rounds compared
 
@@ -203,10 +203,10 @@ module _ (links : NodeLinks) where
       → settled links (type-height * links .count) no-types ≡ types-of (held-nodes links)
   unfolding types-of type-rounds held-types held-nodes held-type bottom-type
   rounds-first fits = ap₂ (settle same-types (next-types (held-nodes links)))
-      (ap (λ (n : ℕ). type-height * n) (sym (tabulate-length (node-at links) 0 (links .count))))
+      (ap (λ (n : ℕ). type-height * n) (sym (tabulate-length (linked-node links) 0 (links .count))))
       (bottoms (links .count) 0 (held-type 0 (replicate 64 0) (replicate 64 0))
       (λ k l. rw (bit-zero k, getD-replicate {A = ℕ} 64 k 0 0 (omega arith)))
-      ∙ ap (λ (n : ℕ). replicate n bottom-type) (sym (tabulate-length (node-at links) 0 (links .count))))
+      ∙ ap (λ (n : ℕ). replicate n bottom-type) (sym (tabulate-length (linked-node links) 0 (links .count))))
 
   pub rounds-over : (types : TypeColumns) (k : ℕ) → k ≡ 0 → held-types (links .count) types ≡ settled links k types
   unfolding settle
@@ -229,7 +229,7 @@ module _ (links : NodeLinks) where
 -- ---- the first question that fails
 
 abbrev pub faults-from : NodeLinks → TypeColumns → ℕ → Option questions.Fault
-faults-from links types k = first-fault (held-types (links .count) types) (tabulate (node-at links) k (links .count - k)) k
+faults-from links types k = first-fault (held-types (links .count) types) (tabulate (linked-node links) k (links .count - k)) k
 
 pub faults-first : (links : NodeLinks) (types : TypeColumns)
     → faults-from links types 0 ≡ first-fault (held-types (links .count) types) (held-nodes links) 0
@@ -237,12 +237,12 @@ unfolding held-nodes
 faults-first links types = rw sub-zero
 
 module _ (links : NodeLinks) (types : TypeColumns) (fit : LinksFit links) (i : ℕ) where
-  module _ (number : ℕ) (more : i < links .count) (is : asked number i ≡ fault-by (type-in types) (node-at links i) i) where
+  module _ (number : ℕ) (more : i < links .count) (is : asked number i ≡ fault-by (type-in types) (linked-node links i) i) where
     next-fault : faults-from links types i ≡ or-else (asked number i) (faults-from links types (i + 1))
     unfolding first-fault held-types
-    next-fault = rw (tabulate-next (node-at links) (links .count) i more)
-        (ap₂ or-else (node-fault-by (type-in types) (links .count) (node-at links i) i (fit .all-within i more) ∙ sym is)
-        (ap (first-fault (held-types (links .count) types) (tabulate (node-at links) (i + 1) (links .count - (i + 1)))) (sym (add-one i))))
+    next-fault = rw (tabulate-next (linked-node links) (links .count) i more)
+        (ap₂ or-else (node-fault-by (type-in types) (links .count) (linked-node links i) i (fit .all-within i more) ∙ sym is)
+        (ap (first-fault (held-types (links .count) types) (tabulate (linked-node links) (i + 1) (links .count - (i + 1)))) (sym (add-one i))))
 
     pub fault-here : (number ≡ 0 → ⊥) → fault-of (At number i) ≡ faults-from links types i
     unfolding fault-of asked
@@ -254,4 +254,4 @@ module _ (links : NodeLinks) (types : TypeColumns) (fit : LinksFit links) (i : �
 
   pub fault-none : links .count ≤ i → fault-of Nothing ≡ faults-from links types i
   unfolding fault-of first-fault
-  fault-none l = rw (tabulate-end (node-at links) (links .count) i l)
+  fault-none l = rw (tabulate-end (linked-node links) (links .count) i l)

@@ -24,10 +24,10 @@ abbrev pub goes : ℕ → List ℕ → Production
 goes t tail = record { head = t; tail = tail }
 
 abbrev pub row : List Production → Row
-row ps = record { empty = false; productions = ps }
+row ps = record { has-epsilon = false; productions = ps }
 
 abbrev pub nullable-row : List Production → Row
-nullable-row ps = record { empty = true; productions = ps }
+nullable-row ps = record { has-epsilon = true; productions = ps }
 
 abbrev pub examples : List Example
 examples =

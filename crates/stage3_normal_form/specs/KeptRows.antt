@@ -104,20 +104,20 @@ module _ (flags : List Bool) where
   kept-node-row rs bottom-node = refl
   kept-node-row rs (token-node t) = refl
   kept-node-row rs (sequence-node l r) =
-      ap (λ (ps : List Production). record { empty = false; productions = ps }) (kept-ended r ((row-of rs l) .productions))
+      ap (λ (ps : List Production). record { has-epsilon = false; productions = ps }) (kept-ended r ((row-of rs l) .productions))
       ∙ (go (derives-at flags r)
-      ∙ ap (λ (P : Row). cond (derives-at flags r) (record { empty = false; productions = map (ended-by r) (P .productions) }) no-productions)
+      ∙ ap (λ (P : Row). cond (derives-at flags r) (record { has-epsilon = false; productions = map (ended-by r) (P .productions) }) no-productions)
       (sym (kept-rows-at rs l)))
     where
       go : (b : Bool)
-          → _≡_ {A = Row} (record { empty = false; productions = cond b (map (ended-by r) (kept flags ((row-of rs l) .productions))) [] })
-          (cond b (record { empty = false; productions = map (ended-by r) (kept flags ((row-of rs l) .productions)) }) no-productions)
+          → _≡_ {A = Row} (record { has-epsilon = false; productions = cond b (map (ended-by r) (kept flags ((row-of rs l) .productions))) [] })
+          (cond b (record { has-epsilon = false; productions = map (ended-by r) (kept flags ((row-of rs l) .productions)) }) no-productions)
       go true = refl
       go false = refl
   kept-node-row rs (alternative-node l r) =
-      ap (λ (ps : List Production). record { empty = (row-of rs l) .empty || (row-of rs r) .empty; productions = ps })
+      ap (λ (ps : List Production). record { has-epsilon = (row-of rs l) .has-epsilon || (row-of rs r) .has-epsilon; productions = ps })
       (kept-append ((row-of rs l) .productions) ((row-of rs r) .productions))
-      ∙ ap₂ (λ (P Q : Row). record { empty = P .empty || Q .empty; productions = P .productions ++ Q .productions })
+      ∙ ap₂ (λ (P Q : Row). record { has-epsilon = P .has-epsilon || Q .has-epsilon; productions = P .productions ++ Q .productions })
       (sym (kept-rows-at rs l)) (sym (kept-rows-at rs r))
   kept-node-row rs (fixed-point-node b) = sym (kept-rows-at rs b)
   kept-node-row rs (variable-node f guarded) = sym (kept-rows-at rs f)
@@ -144,9 +144,9 @@ unfolding kept-row
 kept-production e n q m = kept-exact (derives e) q ((row-of (rows e) n) .productions) .0 (rw (normal-form-row e n) at m)
 
 -- Dropping keeps the ε flag.
-pub normal-form-epsilon : (e : Expression) (n : ℕ) → (row-of (normal-form e) n) .empty ≡ (row-of (rows e) n) .empty
+pub normal-form-epsilon : (e : Expression) (n : ℕ) → (row-of (normal-form e) n) .has-epsilon ≡ (row-of (rows e) n) .has-epsilon
 unfolding kept-row
-normal-form-epsilon e n = ap (λ (P : Row). P .empty) (normal-form-row e n)
+normal-form-epsilon e n = ap (λ (P : Row). P .has-epsilon) (normal-form-row e n)
 
 -- What no productions have, and every equation keeps, the normal form's rows have. No typing is asked for.
 module _ (e : Expression) (Q : ℕ → Row → Type 0) (bare : (n : ℕ) → Q n no-productions)

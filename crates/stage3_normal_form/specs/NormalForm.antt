@@ -16,7 +16,7 @@ kept flags [] = []
 kept flags (p ∷ ps) = elim (all-derive flags (p .tail)) [ true ↦ p ∷ kept flags ps | false ↦ kept flags ps ]
 
 unfoldable pub kept-row : List Bool → Row → Row
-kept-row flags r = record { empty = r .empty; productions = kept flags (r .productions) }
+kept-row flags r = record { has-epsilon = r .has-epsilon; productions = kept flags (r .productions) }
 
 -- All nodes' rows, in sheet order.
 unfoldable pub normal-form : Expression → List Row

@@ -13,6 +13,7 @@ use Rattle.stage2_types.specs.Types.{LanguageType, epsilon-type, bottom-type, t
 use Rattle.stage2_types.specs.Nodes.{Node, epsilon-node, bottom-node, token-node, sequence-node, alternative-node, fixed-point-node, variable-node, nodes, node-at}
 use Rattle.stage2_types.specs.LeastTypes.{type-of, node-type, next-types, same-types, type-rounds, types-of, least-types}
 use Rattle.stage2_types.specs.LeastTypeLaws.{type-of-next}
+use Rattle.stage2_types.specs.SetOrder.{or-rises}
 use Rattle.stage2_types.specs.QuestionLaws.{passes-apart}
 use Rattle.stage2_types.specs.Typing.{least-passes}
 use Rattle.stage3_normal_form.specs.Productions.{Row, row-of, node-row, rows}
@@ -20,7 +21,7 @@ use Rattle.stage3_normal_form.specs.NormalForm.{normal-form}
 use Rattle.stage3_normal_form.specs.Places.{nodes-count}
 use Rattle.stage3_normal_form.specs.RowEquations.{row-solves}
 use Rattle.stage3_normal_form.specs.KeptRows.{normal-form-epsilon}
-use Rattle.stage3_normal_form.specs.RowTypes.{rows-within, or-either}
+use Rattle.stage3_normal_form.specs.RowTypes.{rows-within}
 use Rattle.stage3_normal_form.specs.NodeLanguages.{language-of, Site, at-left, site-sound, at-every-node}
 use Rattle.stage3_normal_form.specs.Unfolding.{null-exact}
 use Rattle.stage3_normal_form.specs.NormalFormLaws.{normal-form-fits}
@@ -30,7 +31,7 @@ abbrev LeftNotNull : List Row → Node → Type 0
 LeftNotNull rs epsilon-node = Unit
 LeftNotNull rs bottom-node = Unit
 LeftNotNull rs (token-node t) = Unit
-LeftNotNull rs (sequence-node l r) = (row-of rs l) .empty ≡ false
+LeftNotNull rs (sequence-node l r) = (row-of rs l) .has-epsilon ≡ false
 LeftNotNull rs (alternative-node l r) = Unit
 LeftNotNull rs (fixed-point-node b) = Unit
 LeftNotNull rs (variable-node f guarded) = Unit
@@ -51,7 +52,7 @@ left-not-null {e} d n = at-every-node d (λ b i. LeftNotNull (rows e) (node-at (
     own type-bottom γ p fs s = rw (s .placed) tt
     own (type-token t) γ p fs s = rw (s .placed) tt
     own (type-variable u) γ p fs s = rw (s .placed .1) tt
-    own (type-sequence x y q) γ p fs s = rw (s .placed .0) (not-true ((row-of (rows e) (suc p)) .empty)
+    own (type-sequence x y q) γ p fs s = rw (s .placed .0) (not-true ((row-of (rows e) (suc p)) .has-epsilon)
         (λ h. true≢false (sym ((site-sound x (at-left s)) .null-holds
         (null-exact (language-of e) ((normal-form-fits d) .unfolds (suc p)) .1 (normal-form-epsilon e (suc p) ∙ h))) ∙ q .not-null)))
     own (type-alternative x y q) γ p fs s = rw (s .placed .0) tt
@@ -59,7 +60,7 @@ left-not-null {e} d n = at-every-node d (λ b i. LeftNotNull (rows e) (node-at (
 
 -- NULL promises no more than the row has.
 abbrev NullWithin : LanguageType → Row → Type 0
-NullWithin a P = a .null ≡ true → P .empty ≡ true
+NullWithin a P = a .null ≡ true → P .has-epsilon ≡ true
 
 -- One round of types, over rows that solve the equations.
 module _ (rs : List Row) (types : List LanguageType) (within : (n : ℕ) → NullWithin (type-of types n) (row-of rs n)) where
@@ -70,8 +71,8 @@ module _ (rs : List Row) (types : List LanguageType) (within : (n : ℕ) → Nul
   node-within (token-node t) s e = e
   node-within (sequence-node l r) s e =
       absurd (true≢false (sym (within l (and-true-first ((type-of types l) .null) ((type-of types r) .null) e)) ∙ s))
-  node-within (alternative-node l r) s e = or-either ((type-of types l) .null) ((type-of types r) .null)
-      ((row-of rs l) .empty) ((row-of rs r) .empty) (within l) (within r) e
+  node-within (alternative-node l r) s e = or-rises ((type-of types l) .null) ((row-of rs l) .has-epsilon)
+      ((type-of types r) .null) ((row-of rs r) .has-epsilon) (within l) (within r) e
   node-within (fixed-point-node b) s e = within b e
   node-within (variable-node f guarded) s e = within f e
 
@@ -99,7 +100,7 @@ same-truth false false f g = refl
 
 -- NULL is the ε flag, and so it is exact: it holds iff the empty word is in L(n).
 pub null-is-epsilon : {e : Expression} {a : LanguageType} → [] ⊢ e ∶ a → least-types e ≡ next-types (nodes e) (least-types e)
-    → (n : ℕ) → (type-of (least-types e) n) .null ≡ (row-of (normal-form e) n) .empty
-null-is-epsilon {e} d s n = same-truth ((type-of (least-types e) n) .null) ((row-of (normal-form e) n) .empty)
+    → (n : ℕ) → (type-of (least-types e) n) .null ≡ (row-of (normal-form e) n) .has-epsilon
+null-is-epsilon {e} d s n = same-truth ((type-of (least-types e) n) .null) ((row-of (normal-form e) n) .has-epsilon)
     (λ h. normal-form-epsilon e n ∙ null-within d n h)
     ((rows-within e (least-types e) s (passes-apart (nodes e) (least-types e) (least-passes e d)) n) .null-within)

@@ -12,7 +12,7 @@ use lib.ListN.{length, length-append}
 use Rattle.stage0_laws.specs.Truth.{true-holds}
 use Rattle.stage2_types.specs.Denotation.{Language}
 use Rattle.stage3_normal_form.specs.Productions.{Production, Row}
-use Rattle.stage3_normal_form.specs.Unfolding.{_of_, concatenation, ByRow, by-epsilon, by-production, Unfolds, concatenation-append, concatenation-split, production-word, null-exact}
+use Rattle.stage3_normal_form.specs.Unfolding.{_of_, concatenation, ByRow, by-epsilon, by-production, UnfoldsOnce, concatenation-append, concatenation-split, production-word, null-exact}
 
 -- The token c begins a word of L.
 abbrev pub Begins : Language → ℕ → Type 0
@@ -107,7 +107,7 @@ module _ (N : ℕ → Language) where
 -- What a run asks of the rows: each unfolds its node's language, no two productions of a row begin alike, and the nodes of each
 -- tail have words and are good.
 pub record Fits (N : ℕ → Language) (M : ℕ → Row) : Type 0 where
-  pub unfolds : (n : ℕ) → Unfolds N (N n) (M n)
+  pub unfolds : (n : ℕ) → UnfoldsOnce N (N n) (M n)
   pub one-each : (n : ℕ) (q r : Production) → q of M n → r of M n → q .head ≡ r .head → q ≡ r
   pub tail-words : (n : ℕ) (q : Production) → q of M n → HaveWords N (q .tail)
   pub tail-good : (n : ℕ) (q : Production) → q of M n → Good N (q .tail)
@@ -119,7 +119,7 @@ Lacks P t = (q : Production) → q of P → q .head ≡ t → ⊥
 -- Each row has ε.
 abbrev pub AllNullable : (ℕ → Row) → List ℕ → Type 0
 AllNullable M [] = Unit
-AllNullable M (n ∷ β) = ((M n) .empty ≡ true) × AllNullable M β
+AllNullable M (n ∷ β) = ((M n) .has-epsilon ≡ true) × AllNullable M β
 
 module _ (N : ℕ → Language) (M : ℕ → Row) (fits : Fits N M) where
   production-by-row : (n t : ℕ) {x : List ℕ} (w : List ℕ) → x ≡ t ∷ w → ByRow N (M n) x
@@ -169,7 +169,7 @@ module _ (N : ℕ → Language) (M : ℕ → Row) (fits : Fits N M) where
   taken-has-word n β q m r = words-together N (q .tail ++ β) (have-words-append N (q .tail) β (fits .tail-words n q m) (r .1))
 
   -- The ε flag is exact.
-  pub nullable-exact : (n : ℕ) → N n [] ↔ ((M n) .empty ≡ true)
+  pub nullable-exact : (n : ℕ) → N n [] ↔ ((M n) .has-epsilon ≡ true)
   nullable-exact n = null-exact N (fits .unfolds n)
 
   lacking : (n t : ℕ) (β : List ℕ) → Lacks (M n) t → (w : List ℕ) → concatenation N (n ∷ β) (t ∷ w) → N n [] × concatenation N β (t ∷ w)
@@ -179,7 +179,7 @@ module _ (N : ℕ → Language) (M : ℕ → Row) (fits : Fits N M) where
       (begins-where t w (h .0) (h .1) (N n) (concatenation N β) (h .2) (h .3) (h .4))
 
   -- None for t, and nullable: { w | t w ∈ F(n S) } = { w | t w ∈ F(S) }.
-  pub drop-words : (n t : ℕ) (β : List ℕ) → Lacks (M n) t → (M n) .empty ≡ true → (w : List ℕ)
+  pub drop-words : (n t : ℕ) (β : List ℕ) → Lacks (M n) t → (M n) .has-epsilon ≡ true → (w : List ℕ)
       → concatenation N (n ∷ β) (t ∷ w) ↔ concatenation N β (t ∷ w)
   drop-words n t β l e w = (λ h. lacking n t β l w h .1, λ h. ([], t ∷ w, refl, nullable-exact n .1 e, h))
 
@@ -187,8 +187,8 @@ module _ (N : ℕ → Language) (M : ℕ → Row) (fits : Fits N M) where
   drop-ready n β r = ready-of N β (r .0 .1) (r .1)
 
   -- None for t, and not nullable: no word of F(n S) begins with t.
-  pub stop-words : (n t : ℕ) (β : List ℕ) → Lacks (M n) t → (M n) .empty ≡ false → (w : List ℕ) → concatenation N (n ∷ β) (t ∷ w) → ⊥
-  stop-words n t β l e w h = subst T e (true-holds ((M n) .empty) (nullable-exact n .0 (lacking n t β l w h .0)))
+  pub stop-words : (n t : ℕ) (β : List ℕ) → Lacks (M n) t → (M n) .has-epsilon ≡ false → (w : List ℕ) → concatenation N (n ∷ β) (t ∷ w) → ⊥
+  stop-words n t β l e w h = subst T e (true-holds ((M n) .has-epsilon) (nullable-exact n .0 (lacking n t β l w h .0)))
 
   -- At the end: all pending nodes are nullable iff they have the empty word together.
   pub end-exact : (β : List ℕ) → AllNullable M β ↔ concatenation N β []
@@ -206,8 +206,8 @@ module _ (N : ℕ → Language) (M : ℕ → Row) (fits : Fits N M) where
 -- without is dropped, any other, or none left, ends the run.
 pub data TokenStep (M : ℕ → Row) (t : ℕ) : List ℕ → Option (List ℕ) → Type 0 where
   takes : {n : ℕ} {β : List ℕ} (q : Production) → q of M n → q .head ≡ t → TokenStep M t (n ∷ β) (some (q .tail ++ β))
-  drops : {n : ℕ} {β : List ℕ} {o : Option (List ℕ)} → Lacks (M n) t → (M n) .empty ≡ true → TokenStep M t β o → TokenStep M t (n ∷ β) o
-  stops : {n : ℕ} {β : List ℕ} → Lacks (M n) t → (M n) .empty ≡ false → TokenStep M t (n ∷ β) none
+  drops : {n : ℕ} {β : List ℕ} {o : Option (List ℕ)} → Lacks (M n) t → (M n) .has-epsilon ≡ true → TokenStep M t β o → TokenStep M t (n ∷ β) o
+  stops : {n : ℕ} {β : List ℕ} → Lacks (M n) t → (M n) .has-epsilon ≡ false → TokenStep M t (n ∷ β) none
   none-left : TokenStep M t [] none
 
 -- What it then says of the words: those that go on with t, of which there is one, are the new list's; or none goes on with t.
@@ -217,7 +217,7 @@ StepWords N t β (some α) =
     Ready N α × ((w : List ℕ) → concatenation N β (t ∷ w) ↔ concatenation N α w) × ((w : List ℕ) × concatenation N β (t ∷ w))
 
 module _ (N : ℕ → Language) (M : ℕ → Row) (fits : Fits N M) where
-  dropped : (n t : ℕ) (β : List ℕ) → Lacks (M n) t → (M n) .empty ≡ true → (o : Option (List ℕ)) → StepWords N t β o → StepWords N t (n ∷ β) o
+  dropped : (n t : ℕ) (β : List ℕ) → Lacks (M n) t → (M n) .has-epsilon ≡ true → (o : Option (List ℕ)) → StepWords N t β o → StepWords N t (n ∷ β) o
   dropped n t β l e none f = λ w h. f w (drop-words N M fits n t β l e w .0 h)
   dropped n t β l e (some α) f = let d = drop-words N M fits n t β l e in (
     f .0,

@@ -28,13 +28,13 @@ unfoldable pub production-of : ℕ → List Production → Option Production
 production-of t [] = none
 production-of t (p ∷ ps) = elim (eqb (p .head) t) [ true ↦ some p | false ↦ production-of t ps ]
 
--- A nonterminal's productions: whether ε is one of them, and the others.
+-- A nonterminal's productions: whether ε is one of them ("its ε flag"), and the others.
 pub record Row : Type 0 where
-  pub empty : Bool
+  pub has-epsilon : Bool
   pub productions : List Production
 
 abbrev pub no-productions : Row
-no-productions = record { empty = false; productions = [] }
+no-productions = record { has-epsilon = false; productions = [] }
 
 -- A nonterminal added at the end of a production's tail.
 unfoldable pub ended-by : ℕ → Production → Production
@@ -47,12 +47,12 @@ row-of rows n = getD rows n no-productions
 -- added at the end of each tail; an alternative gives both parts'; a fixed point its body's; a variable its fixed point's."
 -- No node can be added to ε; a sequence whose left part has ε is turned down by question 9.
 unfoldable pub node-row : List Row → Node → Row
-node-row rows epsilon-node = record { empty = true; productions = [] }
+node-row rows epsilon-node = record { has-epsilon = true; productions = [] }
 node-row rows bottom-node = no-productions
-node-row rows (token-node t) = record { empty = false; productions = record { head = t; tail = [] } ∷ [] }
-node-row rows (sequence-node l r) = record { empty = false; productions = map (ended-by r) ((row-of rows l) .productions) }
+node-row rows (token-node t) = record { has-epsilon = false; productions = record { head = t; tail = [] } ∷ [] }
+node-row rows (sequence-node l r) = record { has-epsilon = false; productions = map (ended-by r) ((row-of rows l) .productions) }
 node-row rows (alternative-node l r) = record {
-  empty = (row-of rows l) .empty || (row-of rows r) .empty;
+  has-epsilon = (row-of rows l) .has-epsilon || (row-of rows r) .has-epsilon;
   productions = (row-of rows l) .productions ++ (row-of rows r) .productions;
 }
 node-row rows (fixed-point-node b) = row-of rows b

@@ -101,15 +101,15 @@ pub row-solves : {e : Expression} {a : LanguageType} → [] ⊢ e ∶ a → (n :
 row-solves {e = e} d n = ap (λ (r : List Row). row-of r n) (rows-solve d) ∙ next-at (nodes e) (rows e) n
 
 -- No node can be added to ε: typed or not, a sequence has no ε production.
-pub sequence-has-no-epsilon : (e : Expression) (n l r : ℕ) → node-at (nodes e) n ≡ sequence-node l r → (row-of (rows e) n) .empty ≡ false
+pub sequence-has-no-epsilon : (e : Expression) (n l r : ℕ) → node-at (nodes e) n ≡ sequence-node l r → (row-of (rows e) n) .has-epsilon ≡ false
 unfolding rows rows-after node-row
 sequence-has-no-epsilon e n l r h = go (length (nodes e))
   where
-    none-at : (m n : ℕ) → (row-of (replicate m no-productions) n) .empty ≡ false
+    none-at : (m n : ℕ) → (row-of (replicate m no-productions) n) .has-epsilon ≡ false
     none-at zero n = refl
     none-at (suc m) zero = refl
     none-at (suc m) (suc n) = none-at m n
 
-    go : (k : ℕ) → (row-of (rows-after k (nodes e)) n) .empty ≡ false
+    go : (k : ℕ) → (row-of (rows-after k (nodes e)) n) .has-epsilon ≡ false
     go zero = none-at (length (nodes e)) n
-    go (suc k) = ap (λ (x : Row). x .empty) (next-at (nodes e) (rows-after k (nodes e)) n ∙ ap (node-row (rows-after k (nodes e))) h)
+    go (suc k) = ap (λ (x : Row). x .has-epsilon) (next-at (nodes e) (rows-after k (nodes e)) n ∙ ap (node-row (rows-after k (nodes e))) h)

@@ -1,7 +1,7 @@
 -- What types say of the rows that stay: a nullable row's type is NULL, a production's head is in FIRST, and each token begins one
 -- production at most. Half of Lemma 3.6 of 000: that every token of FIRST begins one is not said, and is not true of rows that stay.
 use mathlib.Core.Path.{_≡_, refl, sym, subst}
-use mathlib.Core.Bool.{Bool, true, false, _||_, cond, true≢false}
+use mathlib.Core.Bool.{Bool, true, false, cond, true≢false}
 use mathlib.Core.List.{List, [], List·Memᴰ·not-nil, List·Memᴰ·eq-of-singleton, List·Memᴰ·append-cases, Memᴰ·of-map}
 use mathlib.Core.Logic.{_⊎_, ⊎-elim}
 use Prim.Native.Nat.{ℕ, _^_}
@@ -11,7 +11,9 @@ use Rattle.stage1_sheet.specs.Expression.{Expression}
 use Rattle.stage2_types.specs.Types.{LanguageType, if-null, epsilon-type, bottom-type, token-type, sequence-type, alternative-type, Apart, _⊢_∶_}
 use Rattle.stage2_types.specs.Nodes.{Node, epsilon-node, bottom-node, token-node, sequence-node, alternative-node, fixed-point-node, variable-node, nodes, node-at}
 use Rattle.stage2_types.specs.LeastTypes.{type-of, node-type}
-use Rattle.stage2_types.specs.LeastTypeLaws.{Solves, solved-at}
+use Rattle.stage2_types.specs.LeastTypeLaws.{solved-at}
+use Rattle.stage2_types.specs.LeastSolution.{Solves}
+use Rattle.stage2_types.specs.SetOrder.{or-rises}
 use Rattle.stage2_types.specs.QuestionLaws.{AlternativesApart, passes-apart}
 use Rattle.stage2_types.specs.Typing.{typed-solution}
 use Rattle.stage3_normal_form.specs.Productions.{Production, Row, no-productions, ended-by, row-of, node-row}
@@ -23,17 +25,12 @@ use Rattle.stage3_normal_form.specs.Unfolding.{_of_}
 
 -- The row P of a node with the type a.
 pub record RowWithin (P : Row) (a : LanguageType) : Type 0 where
-  pub null-within : P .empty ≡ true → a .null ≡ true
+  pub null-within : P .has-epsilon ≡ true → a .null ≡ true
   pub heads-within : (q : Production) → q of P → q .head ∈ a .first
   pub distinct : DistinctHeads (P .productions)
 
-bare-within : (empty : Bool) (a : LanguageType) → (empty ≡ true → a .null ≡ true) → RowWithin (record { empty = empty; productions = [] }) a
+bare-within : (empty : Bool) (a : LanguageType) → (empty ≡ true → a .null ≡ true) → RowWithin (record { has-epsilon = empty; productions = [] }) a
 bare-within empty a h = record { null-within = h; heads-within = λ q m. absurd (List·Memᴰ·not-nil m); distinct = tt }
-
-pub or-either : (a b c d : Bool) → (a ≡ true → c ≡ true) → (b ≡ true → d ≡ true) → (a || b) ≡ true → (c || d) ≡ true
-or-either true b c d f g e = subst (λ (x : Bool). (x || d) ≡ true) (sym (f refl)) refl
-or-either false b true d f g e = refl
-or-either false b false d f g e = g e
 
 -- Over types that solve Figure 2's equations, with the parts of each alternative apart.
 module _ (flags : List Bool) (types : List LanguageType) (rs : List Row) (w : (n : ℕ) → RowWithin (row-of rs n) (type-of types n)) where
@@ -51,7 +48,7 @@ module _ (flags : List Bool) (types : List LanguageType) (rs : List Row) (w : (n
       → RowWithin (node-row rs (alternative-node l r)) (node-type types (alternative-node l r))
   unfolding node-type node-row alternative-type
   alternative-within l r k = record {
-    null-within = or-either ((row-of rs l) .empty) ((row-of rs r) .empty) ((type-of types l) .null) ((type-of types r) .null)
+    null-within = or-rises ((row-of rs l) .has-epsilon) ((type-of types l) .null) ((row-of rs r) .has-epsilon) ((type-of types r) .null)
         ((w l) .null-within) ((w r) .null-within);
     heads-within = λ q m. ⊎-elim (λ x. ∈-left ((type-of types l) .first) ((type-of types r) .first) (q .head) ((w l) .heads-within q x))
         (λ x. ∈-right ((type-of types l) .first) ((type-of types r) .first) (q .head) ((w r) .heads-within q x))

@@ -12,16 +12,16 @@ use Rattle.stage3_normal_form.specs.Productions.{Production, Row, no-pro
 
 -- The rows that the equations make.
 abbrev pub epsilon-row : Row
-epsilon-row = record { empty = true; productions = [] }
+epsilon-row = record { has-epsilon = true; productions = [] }
 
 abbrev pub token-row : ℕ → Row
-token-row t = record { empty = false; productions = record { head = t; tail = [] } ∷ [] }
+token-row t = record { has-epsilon = false; productions = record { head = t; tail = [] } ∷ [] }
 
 abbrev pub sequence-row : ℕ → Row → Row
-sequence-row n P = record { empty = false; productions = map (ended-by n) (P .productions) }
+sequence-row n P = record { has-epsilon = false; productions = map (ended-by n) (P .productions) }
 
 abbrev pub alternative-row : Row → Row → Row
-alternative-row P Q = record { empty = P .empty || Q .empty; productions = P .productions ++ Q .productions }
+alternative-row P Q = record { has-epsilon = P .has-epsilon || Q .has-epsilon; productions = P .productions ++ Q .productions }
 
 -- A production of a row.
 abbrev pub _of_ : Production → Row → Type 0
@@ -36,11 +36,12 @@ module _ (N : ℕ → Language) where
 
   -- The words that a row gives in one step: the empty one by ε, and t w' by a production t β with w' a word of β.
   pub data ByRow (P : Row) : List ℕ → Type 0 where
-    by-epsilon : T (P .empty) → ByRow P []
+    by-epsilon : T (P .has-epsilon) → ByRow P []
     by-production : {q : Production} {w : List ℕ} → q of P → concatenation (q .tail) w → ByRow P (q .head ∷ w)
 
-  abbrev pub Unfolds : Language → Row → Type 0
-  Unfolds L P = (w : List ℕ) → L w ↔ ByRow P w
+  -- A row gives a language in one step.
+  abbrev pub UnfoldsOnce : Language → Row → Type 0
+  UnfoldsOnce L P = (w : List ℕ) → L w ↔ ByRow P w
 
   pub concatenation-append : (α β : List ℕ) (u v : List ℕ) → concatenation α u → concatenation β v → concatenation (α ++ β) (u ++ v)
   concatenation-append [] β u v x y = rw x y
@@ -76,39 +77,39 @@ module _ (N : ℕ → Language) where
   token-words k (by-production {q = q} {w = w} m c) = let e = List·Memᴰ·eq-of-singleton m in
       ap₂ (λ (h : ℕ) (t : List ℕ). h ∷ t) (ap (λ (r : Production). r .head) e) (subst (λ (r : Production). concatenation (r .tail) w) e c)
 
-  pub epsilon-unfolds : (L : Language) → ((w : List ℕ) → L w ↔ (w ≡ [])) → Unfolds L epsilon-row
+  pub epsilon-unfolds : (L : Language) → ((w : List ℕ) → L w ↔ (w ≡ [])) → UnfoldsOnce L epsilon-row
   epsilon-unfolds L f w = (λ x. subst (ByRow epsilon-row) (sym (f w .0 x)) (by-epsilon tt), λ x. f w .1 (epsilon-words x))
 
-  pub bottom-unfolds : (L : Language) → ((w : List ℕ) → L w ↔ ⊥) → Unfolds L no-productions
+  pub bottom-unfolds : (L : Language) → ((w : List ℕ) → L w ↔ ⊥) → UnfoldsOnce L no-productions
   bottom-unfolds L f w = (λ x. absurd (f w .0 x), λ x. absurd (no-production-words x))
 
-  pub token-unfolds : (k : ℕ) (L : Language) → ((w : List ℕ) → L w ↔ (w ≡ k ∷ [])) → Unfolds L (token-row k)
+  pub token-unfolds : (k : ℕ) (L : Language) → ((w : List ℕ) → L w ↔ (w ≡ k ∷ [])) → UnfoldsOnce L (token-row k)
   token-unfolds k L f w =
       (λ x. subst (ByRow (token-row k)) (sym (f w .0 x)) (by-production (List·Memᴰ·head refl) refl), λ x. f w .1 (token-words k x))
 
   -- An alternative.
   left-words : (P Q : Row) {w : List ℕ} → ByRow P w → ByRow (alternative-row P Q) w
-  left-words P Q (by-epsilon t) = by-epsilon (or-left (P .empty) (Q .empty) t)
+  left-words P Q (by-epsilon t) = by-epsilon (or-left (P .has-epsilon) (Q .has-epsilon) t)
   left-words P Q (by-production m c) = by-production (Memᴰ·append-left (Q .productions) m) c
 
   right-words : (P Q : Row) {w : List ℕ} → ByRow Q w → ByRow (alternative-row P Q) w
-  right-words P Q (by-epsilon t) = by-epsilon (or-right (P .empty) (Q .empty) t)
+  right-words P Q (by-epsilon t) = by-epsilon (or-right (P .has-epsilon) (Q .has-epsilon) t)
   right-words P Q (by-production m c) = by-production (Memᴰ·append-right (P .productions) m) c
 
   alternative-words : (P Q : Row) {w : List ℕ} → ByRow (alternative-row P Q) w → ByRow P w ⊎ ByRow Q w
-  alternative-words P Q (by-epsilon t) = ⊎-map (λ x. by-epsilon x) (λ x. by-epsilon x) (or-cases (P .empty) (Q .empty) t)
+  alternative-words P Q (by-epsilon t) = ⊎-map (λ x. by-epsilon x) (λ x. by-epsilon x) (or-cases (P .has-epsilon) (Q .has-epsilon) t)
   alternative-words P Q (by-production m c) =
       ⊎-map (λ x. by-production x c) (λ x. by-production x c) (List·Memᴰ·append-cases (P .productions) m)
 
-  pub alternative-unfolds : (L L₁ L₂ : Language) (P Q : Row) → ((w : List ℕ) → L w ↔ either L₁ L₂ w) → Unfolds L₁ P → Unfolds L₂ Q
-      → Unfolds L (alternative-row P Q)
+  pub alternative-unfolds : (L L₁ L₂ : Language) (P Q : Row) → ((w : List ℕ) → L w ↔ either L₁ L₂ w) → UnfoldsOnce L₁ P → UnfoldsOnce L₂ Q
+      → UnfoldsOnce L (alternative-row P Q)
   alternative-unfolds L L₁ L₂ P Q f x y w = (
     (λ h. ⊎-elim (λ a. left-words P Q (x w .0 a)) (λ b. right-words P Q (y w .0 b)) (f w .0 h)),
     λ h. f w .1 (⊎-map (x w .1) (y w .1) (alternative-words P Q h)),
   )
 
   -- A sequence, whose left part has no ε.
-  add-right : (n : ℕ) (P : Row) {u : List ℕ} (v : List ℕ) → (T (P .empty) → ⊥) → ByRow P u → N n v → ByRow (sequence-row n P) (u ++ v)
+  add-right : (n : ℕ) (P : Row) {u : List ℕ} (v : List ℕ) → (T (P .has-epsilon) → ⊥) → ByRow P u → N n v → ByRow (sequence-row n P) (u ++ v)
   unfolding ended-by
   add-right n P v s (by-epsilon t) y = absurd (s t)
   add-right n P v s (by-production {q = q} {w = w} m c) y =
@@ -129,25 +130,25 @@ module _ (N : ℕ → Language) where
         one-node n (y .1) .0 (y .4),
       )
 
-  pub sequence-unfolds : (L L₁ : Language) (n : ℕ) (P : Row) → ((w : List ℕ) → L w ↔ followed-by L₁ (N n) w) → (L₁ [] → ⊥) → Unfolds L₁ P
-      → Unfolds L (sequence-row n P)
+  pub sequence-unfolds : (L L₁ : Language) (n : ℕ) (P : Row) → ((w : List ℕ) → L w ↔ followed-by L₁ (N n) w) → (L₁ [] → ⊥) → UnfoldsOnce L₁ P
+      → UnfoldsOnce L (sequence-row n P)
   sequence-unfolds L L₁ n P f s x w = (
     (λ h. let y = f w .0 h in
         subst (ByRow (sequence-row n P)) (sym (y .2)) (add-right n P (y .1) (λ t. s (x [] .1 (by-epsilon t))) (x (y .0) .0 (y .3)) (y .4))),
     λ h. let y = sequence-words n P h in f w .1 (y .0, y .1, y .2, x (y .0) .1 (y .3), y .4),
   )
 
-  null-word : {P : Row} {w : List ℕ} → w ≡ [] → ByRow P w → T (P .empty)
+  null-word : {P : Row} {w : List ℕ} → w ≡ [] → ByRow P w → T (P .has-epsilon)
   null-word e (by-epsilon s) = s
   null-word e (by-production m c) = absurd (cons≢nil e)
 
   -- The ε flag is exact.
-  pub null-exact : {L : Language} {P : Row} → Unfolds L P → L [] ↔ (P .empty ≡ true)
+  pub null-exact : {L : Language} {P : Row} → UnfoldsOnce L P → L [] ↔ (P .has-epsilon ≡ true)
   null-exact {L} {P} u = (
-    (λ h. holds-true (P .empty) (null-word refl (u [] .0 h))),
-    λ s. u [] .1 (by-epsilon (true-holds (P .empty) s)),
+    (λ h. holds-true (P .has-epsilon) (null-word refl (u [] .0 h))),
+    λ s. u [] .1 (by-epsilon (true-holds (P .has-epsilon) s)),
   )
 
-  pub production-word : {L : Language} {P : Row} → Unfolds L P → (q : Production) (w : List ℕ) → q of P → concatenation (q .tail) w
+  pub production-word : {L : Language} {P : Row} → UnfoldsOnce L P → (q : Production) (w : List ℕ) → q of P → concatenation (q .tail) w
       → L (q .head ∷ w)
   production-word u q w m c = u (q .head ∷ w) .1 (by-production m c)

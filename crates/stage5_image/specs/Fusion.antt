@@ -18,7 +18,7 @@ fused-from (rule ∷ rules) r ps =
     elim (rule .action) [ zero ↦ fused-from rules (suc r) ps | suc k ↦ by-rule r (production-of k ps) (fused-from rules (suc r) ps) ]
 
 unfoldable pub fused-row : List Rule → Row → Row
-fused-row rules row = record { empty = row .empty; productions = fused-from rules 0 (row .productions) }
+fused-row rules row = record { has-epsilon = row .has-epsilon; productions = fused-from rules 0 (row .productions) }
 
 unfoldable pub fused : List Rule → List Row → List Row
 fused rules rows = map (fused-row rules) rows

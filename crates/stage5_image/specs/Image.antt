@@ -51,7 +51,7 @@ production-numbers (p ∷ ps) = p .head ∷ length (p .tail) ∷ (p .tail ++ pro
 -- "per nonterminal its ε flag, production count and productions"
 unfoldable pub row-numbers : List Row → List ℕ
 row-numbers [] = []
-row-numbers (r ∷ rs) = flag (r .empty) ∷ length (r .productions) ∷ (production-numbers (r .productions) ++ row-numbers rs)
+row-numbers (r ∷ rs) = flag (r .has-epsilon) ∷ length (r .productions) ∷ (production-numbers (r .productions) ++ row-numbers rs)
 
 -- "version 1; R; per rule 1 if it skips, else 0; position count P; per position ..; first set; nonterminal count; per
 -- nonterminal .."

@@ -1,5 +1,5 @@
--- How long an image is: an image in range has at most 1,070 bytes and 1,058 for each nonterminal, and a sheet's image has at most
--- 32 nonterminals, so that it fits 65,536 bytes.
+-- How long an image is: an image in range has at most 1,070 bytes and `most-row-bytes` for each nonterminal, and a sheet's image has at
+-- most 32 nonterminals, so that it fits 65,536 bytes.
 use mathlib.Core.Path.{_≡_, refl, ap, subst, _∙_}
 use mathlib.Core.Bool.{Bool, true, false}
 use mathlib.Core.List.{List, [], _∷_, _++_, flatMap, List·Memᴰ, List·Memᴰ·head, List·Memᴰ·tail, List·Memᴰ·cases-cons}
@@ -21,7 +21,7 @@ use Rattle.stage1_sheet.specs.FieldLaws.{spell-append}
 use Rattle.stage1_sheet.specs.WellFormed.{WithinLimits, Closed}
 use Rattle.stage2_types.specs.Nodes.{nodes}
 use Rattle.stage2_types.specs.Types.{LanguageType, _⊢_∶_}
-use Rattle.stage3_normal_form.specs.Productions.{Production, Row, row-of}
+use Rattle.stage3_normal_form.specs.Productions.{Production, Row, row-of, most-tail}
 use Rattle.stage3_normal_form.specs.NormalForm.{normal-form}
 use Rattle.stage3_normal_form.specs.RightParts.{right-parts, right-parts-count, tails-right}
 use Rattle.stage3_normal_form.specs.Tails.{sequence-count, sequence-count-bound}
@@ -108,8 +108,16 @@ small-members : (count : ℕ) (l : List ℕ) → count ≤ most-expression-nodes
 small-members count [] few h = tt
 small-members count (n ∷ l) few h = ((let a = h .0 in omega arith), small-members count l few (h .1))
 
+-- A production's rule, its tail's length and the tail, a byte each.
+abbrev most-production-bytes : ℕ
+most-production-bytes = 2 + most-tail
+
+-- A row's ε flag, its production count, and a production for each rule.
+abbrev pub most-row-bytes : ℕ
+most-row-bytes = 2 + most-rules * most-production-bytes
+
 production-width : (skips : List Bool) (count : ℕ) (p : Production) → length skips ≤ most-rules → count ≤ most-expression-nodes
-    → ProductionInRange skips count p → width (one-production-numbers p) ≤ 33
+    → ProductionInRange skips count p → width (one-production-numbers p) ≤ most-production-bytes
 production-width skips count p few-rules few g =
     let a = g .rule-below in
     let b = g .tail-length in
@@ -117,25 +125,25 @@ production-width skips count p few-rules few g =
 
 row-width : (skips : List Bool) (count : ℕ) (row : Row) → length skips ≤ most-rules → count ≤ most-expression-nodes
     → RowInRange skips count row
-    → width (one-row-numbers row) ≤ 1058
+    → width (one-row-numbers row) ≤ most-row-bytes
 row-width skips count row few-rules few g =
     let a = g .production-count in
     let ps = row .productions in
-    let most = width-all one-production-numbers 33 ps (each ps (g .productions-in-range)) in
+    let most = width-all one-production-numbers most-production-bytes ps (each ps (g .productions-in-range)) in
     omega (
       arith,
-      width-append (flag (row .empty) ∷ length ps ∷ []) (production-numbers ps),
-      width-small (flag (row .empty) ∷ length ps ∷ []) (flag-small (row .empty), (omega arith, tt)),
+      width-append (flag (row .has-epsilon) ∷ length ps ∷ []) (production-numbers ps),
+      width-small (flag (row .has-epsilon) ∷ length ps ∷ []) (flag-small (row .has-epsilon), (omega arith, tt)),
       ap width (productions-are ps),
       most,
     )
   where
-    each : (ps : List Production) → All (ProductionInRange skips count) ps → All (λ p. width (one-production-numbers p) ≤ 33) ps
+    each : (ps : List Production) → All (ProductionInRange skips count) ps → All (λ p. width (one-production-numbers p) ≤ most-production-bytes) ps
     each [] h = tt
     each (p ∷ ps) h = (production-width skips count p few-rules few (h .0), each ps (h .1))
 
--- 1,070 bytes, and 1,058 for each nonterminal.
-pub image-width : (i : Image) → InRange i → length (image-bytes i) ≤ 1070 + length (i .rows) * 1058
+-- 1,070 bytes, and so many for each nonterminal.
+pub image-width : (i : Image) → InRange i → length (image-bytes i) ≤ 1070 + length (i .rows) * most-row-bytes
 unfolding image-bytes image-numbers
 image-width i g =
     let R = length (i .skips) in
@@ -151,9 +159,9 @@ image-width i g =
     let positions : width (position-numbers (i .positions)) ≤ P * 16 =
     subst (λ (l : List ℕ). width l ≤ P * 16) (positions-are (i .positions))
     (width-all one-position-numbers 16 (i .positions) (all-positions (i .positions) (g .positions-in-range))) in
-    let rows : width (row-numbers (i .rows)) ≤ N * 1058 =
-    subst (λ (l : List ℕ). width l ≤ N * 1058) (rows-are (i .rows))
-    (width-all one-row-numbers 1058 (i .rows) (all-rows (i .rows) (g .rows-in-range))) in
+    let rows : width (row-numbers (i .rows)) ≤ N * most-row-bytes =
+    subst (λ (l : List ℕ). width l ≤ N * most-row-bytes) (rows-are (i .rows))
+    (width-all one-row-numbers most-row-bytes (i .rows) (all-rows (i .rows) (g .rows-in-range))) in
     let a = width-append (1 ∷ R ∷ []) (flag-numbers (i .skips) ++ fields) in
     let b = width-small (1 ∷ R ∷ []) (omega arith, (omega arith, tt)) in
     let c = width-append (flag-numbers (i .skips)) fields in
@@ -176,7 +184,7 @@ image-width i g =
     all-positions (p ∷ ps) h =
         (position-width (length (i .skips)) (length (i .positions)) p (g .rule-count) (h .0), all-positions ps (h .1))
 
-    all-rows : (rs : List Row) → All (RowInRange (i .skips) (length (i .rows))) rs → All (λ r. width (one-row-numbers r) ≤ 1058) rs
+    all-rows : (rs : List Row) → All (RowInRange (i .skips) (length (i .rows))) rs → All (λ r. width (one-row-numbers r) ≤ most-row-bytes) rs
     all-rows [] h = tt
     all-rows (r ∷ rs) h = (row-width (i .skips) (length (i .rows)) r (g .rule-count) (g .row-count) (h .0), all-rows rs (h .1))
 
@@ -212,9 +220,9 @@ nonterminals-few s c =
     let few = distinct-few (reached rows) (0 ∷ right-parts (nodes e)) (r .once) (reached-right (s .rules) e (s .tokens) c) in
     omega (arith, numbered-count rows, right-parts-count e)
 
--- 1,070 bytes, and 1,058 for each of 32 nonterminals.
+-- 1,070 bytes, and so many for each of 32 nonterminals.
 abbrev pub most-image-bytes : ℕ
-most-image-bytes = 34926
+most-image-bytes = 1070 + 32 * most-row-bytes
 
 -- The image of a sheet that compiling accepts is no longer.
 pub image-fits : (s : Sheet) {a : LanguageType} → WithinLimits s → empty-match (s .rules) 0 ≡ none → [] ⊢ s .expression ∶ a

@@ -26,7 +26,7 @@ abbrev pub one-production-numbers : Production → List ℕ
 one-production-numbers p = p .head ∷ length (p .tail) ∷ p .tail
 
 abbrev pub one-row-numbers : Row → List ℕ
-one-row-numbers r = flag (r .empty) ∷ length (r .productions) ∷ production-numbers (r .productions)
+one-row-numbers r = flag (r .has-epsilon) ∷ length (r .productions) ∷ production-numbers (r .productions)
 
 pub tail-is : (l : List ℕ) → all-numbers just l ≡ l
 tail-is [] = refl

@@ -59,7 +59,7 @@ read-row bytes skips count at =
     and-then (read-flag bytes at)
     (λ empty at-count. and-then (image-field (between 0 most-productions) bytes at-count)
     (λ productions at-first. and-then (read-many (read-production bytes skips count) (λ least p. suc (p .head)) 0 productions at-first)
-    (λ ps end. got (record { empty = empty; productions = ps }) end)))
+    (λ ps end. got (record { has-epsilon = empty; productions = ps }) end)))
 
 -- "and nothing after"
 unfoldable pub image-end : List ℕ → Image → ℕ → Reading Image

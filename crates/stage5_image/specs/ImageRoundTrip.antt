@@ -124,11 +124,11 @@ module _ (bytes : List ℕ) where
   unfolding read-row
   row-stands skips count row at mid few-rules few g s =
       let pc = g .production-count in
-      then-flag at (row .empty) _ mid _ (got row mid) s
+      then-flag at (row .has-epsilon) _ mid _ (got row mid) s
       (λ m₁ s₁. then-field _ m₁ (length (row .productions)) _ mid _ (got row mid) (omega arith)
       (between-true 0 most-rules (length (row .productions)) (omega arith) pc) s₁
       (λ m₂ s₂.
-      ap (λ (z : Reading (List Production)). and-then z (λ ps end. got (record { empty = row .empty; productions = ps }) end))
+      ap (λ (z : Reading (List Production)). and-then z (λ ps end. got (record { has-epsilon = row .has-epsilon; productions = ps }) end))
       (many-stands one-production-numbers (read-production bytes skips count) (λ least p. suc (p .head))
       (λ least p. (least ≤ p .head) × ProductionInRange skips count p)
       (λ least p from to h. production-stands skips count least p from to few-rules few (h .0) (h .1))

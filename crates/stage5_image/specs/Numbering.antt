@@ -47,7 +47,7 @@ renumbered met p = record { head = p .head; tail = map (number-of met) (p .tail)
 
 unfoldable pub renumbered-row : List Row → List ℕ → ℕ → Row
 renumbered-row rows met n = record {
-  empty = (row-of rows n) .empty;
+  has-epsilon = (row-of rows n) .has-epsilon;
   productions = map (renumbered met) ((row-of rows n) .productions);
 }
 

@@ -39,7 +39,7 @@ fused-none (rule ∷ rules) r = go (rule .action) (fused-none rules (suc r))
 pub fused-row-of : (rules : List Rule) (rows : List Row) (n : ℕ) → row-of (fused rules rows) n ≡ fused-row rules (row-of rows n)
 unfolding fused fused-row
 fused-row-of rules rows n =
-    ap (getD (map (fused-row rules) rows) n) (λ i. record { empty = false; productions = sym (fused-none rules 0) i })
+    ap (getD (map (fused-row rules) rows) n) (λ i. record { has-epsilon = false; productions = sym (fused-none rules 0) i })
     ∙ List·getD-map (fused-row rules) rows n no-productions
 
 pub fused-length : (rules : List Rule) (rows : List Row) → length (fused rules rows) ≡ length rows
@@ -83,7 +83,7 @@ pub record Simulates (rules : List Rule) (rows image : List Row) (number : ℕ �
   pub start-known : Known 0
   pub start-number : number 0 ≡ 0
   pub number-below : (n : ℕ) → Known n → number n < length image
-  pub same-empty : (n : ℕ) → Known n → (row-of image (number n)) .empty ≡ (row-of rows n) .empty
+  pub same-epsilon : (n : ℕ) → Known n → (row-of image (number n)) .has-epsilon ≡ (row-of rows n) .has-epsilon
   -- a rule that returns t has the production of t, its tail in numbers
   pub same-production : (n : ℕ) → Known n → (r t : ℕ) → Returns rules r t
       → tail-of (production-of r ((row-of image (number n)) .productions)) ≡ tail-numbers number
@@ -179,7 +179,7 @@ module _ (rules : List Rule) (rows : List Row) (inside : TailsInside rows) (some
     start-known = reached-fused .starts;
     start-number = reached-fused .start-number;
     number-below = λ n t. let b = node-number n met t in let c = numbered-count all-fused in omega (arith, b .0);
-    same-empty = λ n t. ap (λ (w : Row). w .empty) (image-row n t) ∙ ap (λ (w : Row). w .empty) (fused-row-of rules rows n);
+    same-epsilon = λ n t. ap (λ (w : Row). w .has-epsilon) (image-row n t) ∙ ap (λ (w : Row). w .has-epsilon) (fused-row-of rules rows n);
     same-production = same-production;
     closed = closed;
     sources = sources;

@@ -34,7 +34,7 @@ module _ (bytes : List ℕ) (skips : List Bool) (n at : ℕ) where
 
       pub row-reads : {ps : List Production} {next : ℕ}
           → read-many (read-production bytes skips n) (λ least p. suc (p .head)) 0 size at-first ≡ got ps next
-          → read-row bytes skips n at ≡ got (record { empty = eqb v 1; productions = ps }) next
+          → read-row bytes skips n at ≡ got (record { has-epsilon = eqb v 1; productions = ps }) next
       unfolding read-row
       row-reads e₃ = rw (flag-reads bytes at e, e₂, e₃)
 
@@ -46,7 +46,7 @@ room-after table base r = record { size = r .size; zero-from = λ k h. r .zero-f
 pub record Filling (bytes : List ℕ) (n : ℕ) (table : List ℕ) (s base i : ℕ) (rows : List Row) : Type 0 where
   pub size : length rows ≡ i
   pub start : base ≡ i * 32
-  pub empty : FlagsOf (λ row. row .empty) no-productions s rows
+  pub empty : FlagsOf (λ row. row .has-epsilon) no-productions s rows
   pub entries : (m : ℕ) → m < i → EntriesOf bytes n table (m * 32) ((row-of rows m) .productions)
   pub room : Room table base
 
@@ -54,7 +54,7 @@ pub filling-none : (bytes : List ℕ) (n : ℕ) (table : List ℕ) → Room tabl
 filling-none bytes n table z = record {
   size = refl;
   start = refl;
-  empty = flags-none (λ row. row .empty) no-productions refl;
+  empty = flags-none (λ row. row .has-epsilon) no-productions refl;
   entries = λ m h. absurd (omega arith);
   room = z;
 }
@@ -81,7 +81,7 @@ module _ (bytes : List ℕ) (n : ℕ) (table table' : List ℕ) (s base i v : �
     size = length-append rows (row ∷ []) ∙ ap (λ (x : ℕ). x + 1) (f .size);
     start = omega (arith, f .start);
     empty =
-        flags-more (λ row. row .empty) no-productions row s i rows refl (f .size) (f .empty) (e ∙ ap (with-flag s i) (h .empty));
+        flags-more (λ row. row .has-epsilon) no-productions row s i rows refl (f .size) (f .empty) (e ∙ ap (with-flag s i) (h .empty));
     entries = λ m l. ⊎-elim (λ k. entries-below m k) (λ k. entries-last m (omega arith)) (lt-or-le m i);
     room = after;
   }

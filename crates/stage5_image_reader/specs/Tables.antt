@@ -79,13 +79,13 @@ pub record EntriesHeld (bytes : List ℕ) (n : ℕ) (table : List ℕ) (base v :
 
 -- A row in the table from a base on; v is its ε flag as a number.
 pub record RowHeld (bytes : List ℕ) (n : ℕ) (table : List ℕ) (base v : ℕ) (row : Row) : Type 0 where
-  pub empty : eqb v 1 ≡ row .empty
+  pub empty : eqb v 1 ≡ row .has-epsilon
   pub entries : EntriesOf bytes n table base (row .productions)
 
 -- All rows in the table; s is the set of those with ε.
 pub record RowsHeld (bytes : List ℕ) (n : ℕ) (table : List ℕ) (s : ℕ) (rows : List Row) : Type 0 where
   pub size : length rows ≡ n
-  pub empty : FlagsOf (λ row. row .empty) no-productions s rows
+  pub empty : FlagsOf (λ row. row .has-epsilon) no-productions s rows
   pub entries : (m : ℕ) → m < n → EntriesOf bytes n table (m * 32) ((row-of rows m) .productions)
 
 -- The table is whole, and its entries from a place on are zero: rows from there on can be entered.

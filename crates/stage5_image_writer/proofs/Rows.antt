@@ -105,7 +105,7 @@ productions-emitted g number rules e h node r l m x =
 
 -- The ε flag of a node is in the set of nullable nodes.
 null-empty : (g : Grammar) (rules : List Rule) (e : Expression) → GrammarOf g rules e → (node : ℕ) → node < size e
-    → bit (g .null) node ≡ (row-of (normal-form e) node) .empty
+    → bit (g .null) node ≡ (row-of (normal-form e) node) .has-epsilon
 null-empty g rules e h node inside =
     let k = h .columns in
     h .null-held node inside
@@ -124,7 +124,7 @@ pub row-emitted : {a b c d : List ℕ} {at v n m : ℕ} (g : Grammar) (number : 
 unfolding row-part mapped-row fused-row productions-part
 row-emitted g number rules e h node inside null count is-null is-count x y z =
     let ps = fused-from rules 0 (productions-of e node) in
-    let flags : flag null ∷ [] ≡ flag ((row-of (normal-form e) node) .empty) ∷ [] = ap (λ (b : Bool). flag b ∷ []) (is-null
+    let flags : flag null ∷ [] ≡ flag ((row-of (normal-form e) node) .has-epsilon) ∷ [] = ap (λ (b : Bool). flag b ∷ []) (is-null
     ∙ null-empty g rules e h node inside) in
     let counts : count ∷ [] ≡ length (map (mapped number) ps) ∷ [] = ap (λ (k : ℕ). k ∷ []) (is-count ∙ sym (length-map ps (mapped number))) in
     let numbers : all-numbers (λ p. one-production-numbers (mapped number p)) ps ≡ production-numbers (map (mapped number) ps) =

@@ -127,7 +127,7 @@ module _ (g : Grammar) (rules : List Rule) (e : Expression) (h : GrammarOf g rul
   row-same node t =
       ap (mapped-row (c .number)) (sym (fused-row-of rules (normal-form e) node))
       ∙ (unfold mapped-row renumbered-row in
-      ap (λ (ps : List Production). record { empty = (row-of rows node) .empty; productions = ps })
+      ap (λ (ps : List Production). record { has-epsilon = (row-of rows node) .has-epsilon; productions = ps })
       (map-same (mapped (c .number)) (renumbered met) ((row-of rows node) .productions) one))
     where
       one : (p : Production) → List·Memᴰ p ((row-of rows node) .productions) → mapped (c .number) p ≡ renumbered met p

@@ -43,7 +43,7 @@ unfoldable pub mapped : List ℕ → Production → Production
 mapped number p = record { head = p .head; tail = map (λ n. getD number n 0) (p .tail) }
 
 unfoldable pub mapped-row : List ℕ → Row → Row
-mapped-row number row = record { empty = row .empty; productions = map (mapped number) (row .productions) }
+mapped-row number row = record { has-epsilon = row .has-epsilon; productions = map (mapped number) (row .productions) }
 
 -- A rule's production, if it has one.
 unfoldable pub production-part : List ℕ → ℕ → Tail → List ℕ

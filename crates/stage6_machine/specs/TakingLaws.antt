@@ -44,7 +44,7 @@ module _ (rules : List Rule) (rows image : List Row) (number : ℕ → ℕ) (Kno
         (same .same-production n (h .0) k t returns) (production-found t ((row-of rows n) .productions)) (same .closed n (h .0) k t returns) refl
       where
         -- none for the token: dropped or stopped, by the ε flag
-        lacks : Taken t k nodes → Found t ((row-of rows n) .productions) none → (b : Bool) → (row-of rows n) .empty ≡ b
+        lacks : Taken t k nodes → Found t ((row-of rows n) .productions) none → (b : Bool) → (row-of rows n) .has-epsilon ≡ b
             → (o : Option (List ℕ)) × TokenStep (row-of rows) t (n ∷ nodes) o
             × (elim b [ true ↦ take-rule image (map number nodes) k | false ↦ none ] ≡ numbers-of number o) × AllKnown Known o
         lacks r f true e = (r .after, drops f e (r .token-step), r .numbered, r .known)
@@ -53,8 +53,8 @@ module _ (rules : List Rule) (rows image : List Row) (number : ℕ → ℕ) (Kno
         go : Taken t k nodes → (x y : Option Production) → tail-of x ≡ tail-numbers number y → Found t ((row-of rows n) .productions) y → TailKnown Known y
             → production-of k ((row-of image (number n)) .productions) ≡ x → Taken t k (n ∷ nodes)
         go r none none e f c p =
-            let l = lacks r f ((row-of rows n) .empty) refl in
-            record { after = l .0; token-step = l .1; numbered = rw (p, same .same-empty n (h .0), take-rule) (l .2); known = l .3 }
+            let l = lacks r f ((row-of rows n) .has-epsilon) refl in
+            record { after = l .0; token-step = l .1; numbered = rw (p, same .same-epsilon n (h .0), take-rule) (l .2); known = l .3 }
         go r none (some q) e f c p = let z : _≡_ {A = ℕ} 0 1 = cc in absurd (omega arith)
         go r (some q) none e f c p = let z : _≡_ {A = ℕ} 0 1 = cc in absurd (omega arith)
         go r (some q) (some s) e f c p =
@@ -72,8 +72,8 @@ module _ (rules : List Rule) (rows image : List Row) (number : ℕ → ℕ) (Kno
   nullable-same [] h = (λ e. tt, λ e. refl)
   nullable-same (n ∷ nodes) h =
       let r = nullable-same nodes (h .1) in
-      let a = (row-of image (number n)) .empty in
+      let a = (row-of image (number n)) .has-epsilon in
       let b = all-nullable image (map number nodes) in (
-        (λ e. (sym (same .same-empty n (h .0)) ∙ and-true-first a b e, r .0 (and-true-second a b e))),
-        λ e. ap₂ _&&_ (same .same-empty n (h .0) ∙ e .0) (r .1 (e .1)),
+        (λ e. (sym (same .same-epsilon n (h .0)) ∙ and-true-first a b e, r .0 (and-true-second a b e))),
+        λ e. ap₂ _&&_ (same .same-epsilon n (h .0) ∙ e .0) (r .1 (e .1)),
       )

@@ -18,7 +18,7 @@ take-rule rows [] rule = none
 take-rule rows (n ∷ pending) rule =
     elim (production-of rule ((row-of rows n) .productions)) [
       | some p ↦ some (p .tail ++ pending)
-      | none ↦ elim ((row-of rows n) .empty) [ true ↦ take-rule rows pending rule | false ↦ none ]
+      | none ↦ elim ((row-of rows n) .has-epsilon) [ true ↦ take-rule rows pending rule | false ↦ none ]
     ]
 
 -- The state of a run: the place p in the text, the pending nonterminals, and how many tokens were taken.
@@ -54,7 +54,7 @@ turn image entries (matched rule n) s =
 -- "At the end all pending ones must be nullable."
 unfoldable pub all-nullable : List Row → List ℕ → Bool
 all-nullable rows [] = true
-all-nullable rows (n ∷ pending) = (row-of rows n) .empty && all-nullable rows pending
+all-nullable rows (n ∷ pending) = (row-of rows n) .has-epsilon && all-nullable rows pending
 
 -- At the text's end, which is the state's place: 0 or 16.
 unfoldable pub at-text-end : List Row → State → Answer

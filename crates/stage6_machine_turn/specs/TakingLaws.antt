@@ -30,12 +30,12 @@ module _ (rows : List Row) (m : ℕ) (l : List ℕ) (rule : ℕ) where
   unfolding take-rule
   take-some p e = rw (e, take-rule)
 
-  take-stops : production-of rule ((row-of rows m) .productions) ≡ none → (row-of rows m) .empty ≡ false
+  take-stops : production-of rule ((row-of rows m) .productions) ≡ none → (row-of rows m) .has-epsilon ≡ false
       → take-rule rows (m ∷ l) rule ≡ none
   unfolding take-rule
   take-stops e f = rw (e, f, take-rule)
 
-  take-passes : production-of rule ((row-of rows m) .productions) ≡ none → (row-of rows m) .empty ≡ true
+  take-passes : production-of rule ((row-of rows m) .productions) ≡ none → (row-of rows m) .has-epsilon ≡ true
       → (o : Option (List ℕ)) → take-rule rows l rule ≡ o → take-rule rows (m ∷ l) rule ≡ o
   unfolding take-rule
   take-passes e f o g = rw (e, f, take-rule) g

@@ -7,7 +7,7 @@ use Rattle.stage2_types.specs.Questions.{first-fault}
 use Rattle.stage2_types_columns.specs.Held.{held-nodes, held-types}
 use Rattle.stage2_types_checker.specs.TypeBy.{fault-by}
 use Rattle.stage2_types_checker.specs.Found.{asked}
-use Rattle.stage2_types_checker.proofs.Rounds.{type-in, node-at, node-fits, fault-read, faults-from, faults-first, fault-here, fault-later, fault-none}
+use Rattle.stage2_types_checker.proofs.Rounds.{type-in, linked-node, node-fits, fault-read, faults-from, faults-first, fault-here, fault-later, fault-none}
 use Rattle.stage2_types_checker.proofs.first_fault.Statement.{statement}
 use Rattle.stage2_types_checker.proofs.first_fault.Tie as tie
 
@@ -42,7 +42,7 @@ cast-t20 c = omega (arith, c .before .before .before .before .before .before .be
 read : (c : tie.After-node-fault Inv-loop μ-loop)
     → let z = c .before .before .before .before .before .before .before .before .before in
     let l = c .before .before .before .before .before .before .before .before .loop in
-    asked (c .node-fault .result) (l .node) ≡ fault-by (type-in (z .args .t2)) (node-at (z .args .t1) (l .node)) (l .node)
+    asked (c .node-fault .result) (l .node) ≡ fault-by (type-in (z .args .t2)) (linked-node (z .args .t1) (l .node)) (l .node)
 read c =
     let z = c .before .before .before .before .before .before .before .before .before in
     let l = c .before .before .before .before .before .before .before .before .loop in
