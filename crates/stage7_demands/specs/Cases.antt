@@ -23,7 +23,7 @@ use Rattle.stage1_sheet.specs.Places.{contents-of}
 use Rattle.stage1_sheet.specs.ReadingLaws.{spelled-read}
 use Rattle.stage1_sheet.specs.SheetD.{sheet-D, with-expression, bytes-of-D}
 use Rattle.stage7_demands.specs.Demands.{Demand3}
-use Rattle.stage7_demands.specs.Proofs.{demand-3}
+use Rattle.stage7_demands.specs.Proofs.{run-own-answer}
 use Rattle.stage7_demands.specs.ImageD.{rules-of-image-D, image-D}
 
 pub data Case : Type 0 where
@@ -109,7 +109,7 @@ holds (compiles sheet c) h = h
 holds (reads sheet text a) h = (
   ap (λ (c : Compiled). run (written-part c) text (long-enough text)) (h .1) ∙ h .2,
   λ s spells. subst (OwnAnswer s text) (h .2)
-      (demand-3 .own-answer sheet (tested-bytes sheet (h .3)) 65536 65536 (h .0) (h .1) s spells text (long-enough text)
+      (run-own-answer sheet (tested-bytes sheet (h .3)) 65536 65536 (h .0) (h .1) s spells text (long-enough text)
       (leb→le (length text) most-text-bytes (h .4)) (omega arith)),
 )
 holds (denotes-nothing sheet) h =
