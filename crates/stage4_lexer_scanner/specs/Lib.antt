@@ -1,4 +1,3 @@
--- What the scanner's answers mean, what one position makes of one byte, and what holds of every longest match.
+-- What the scanner's answers mean, and what one position makes of one byte.
 pub mod Meaning
 pub mod Turn
-pub mod Laws

@@ -7,11 +7,12 @@ use mathlib.Core.List.{List, [], _∷_}
 use Prim.Native.Nat.{ℕ, suc, _^_, _≤_, _<_}
 use lib.ListN.{length, getD}
 use Rattle.stage0_laws.specs.Lists.{All}
-use Rattle.stage1_sheet.specs.Limits.{most-rules, most-classes, most-expression-nodes, most-byte}
+use Rattle.stage1_sheet.specs.Limits.{most-rules, most-byte}
 use Rattle.stage3_normal_form.specs.Productions.{Production, Row, most-tail}
 use Rattle.stage4_lexer.specs.Positions.{Position}
 use Rattle.stage4_lexer.specs.PositionBounds.{NeverFalling}
 use Rattle.stage5_image.specs.Image.{Image}
+use Rattle.stage5_image.specs.ImageFields.{most-positions, most-nonterminals, most-productions}
 
 -- A position, where there are so many rules and positions.
 pub record PositionInRange (rules count : ℕ) (p : Position) : Type 0 where
@@ -33,7 +34,7 @@ Rising least [] = Unit
 Rising least (p ∷ ps) = (least ≤ p .head) × Rising (suc (p .head)) ps
 
 pub record RowInRange (skips : List Bool) (count : ℕ) (row : Row) : Type 0 where
-  pub production-count : length (row .productions) ≤ most-rules
+  pub production-count : length (row .productions) ≤ most-productions
   pub productions-in-range : All (ProductionInRange skips count) (row .productions)
   pub rising : Rising 0 (row .productions)
 
@@ -41,10 +42,10 @@ pub record InRange (i : Image) : Type 0 where
   pub some-rules : 1 ≤ length (i .skips)
   pub rule-count : length (i .skips) ≤ most-rules
   pub some-positions : 1 ≤ length (i .positions)
-  pub position-count : length (i .positions) ≤ most-classes
+  pub position-count : length (i .positions) ≤ most-positions
   pub positions-in-range : All (PositionInRange (length (i .skips)) (length (i .positions))) (i .positions)
   pub never-falling : NeverFalling 0 (i .positions)
   pub first-below : i .first < 2 ^ length (i .positions)
   pub some-rows : 1 ≤ length (i .rows)
-  pub row-count : length (i .rows) ≤ most-expression-nodes
+  pub row-count : length (i .rows) ≤ most-nonterminals
   pub rows-in-range : All (RowInRange (i .skips) (length (i .rows))) (i .rows)

@@ -11,17 +11,7 @@ use Rattle.stage1_sheet.specs.Field.{Reading, stop, got, and-then, between, rea
 use Rattle.stage3_normal_form.specs.Productions.{Production, Row, most-tail}
 use Rattle.stage4_lexer.specs.Positions.{Position}
 use Rattle.stage5_image.specs.Image.{Image}
-
--- The ranges that "The image" gives: "position count P, 1 to 64", "nonterminal count, 1 to 64", "production count (0 to 32)". The rule
--- count's is the sheet's, the tail length's that of the normal form.
-abbrev pub most-positions : ℕ
-most-positions = 64
-
-abbrev pub most-nonterminals : ℕ
-most-nonterminals = 64
-
-abbrev pub most-productions : ℕ
-most-productions = 32
+use Rattle.stage5_image.specs.ImageFields.{most-positions, most-nonterminals, most-productions}
 
 -- A number of an image: 13 where it is not readable or not allowed.
 unfoldable pub image-field : (ℕ → Bool) → List ℕ → ℕ → Reading ℕ

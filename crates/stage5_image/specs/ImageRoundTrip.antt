@@ -1,17 +1,21 @@
--- Round trip: an image in range, written as bytes, is read back as it was, to its last byte; and bytes are readable exactly if
--- they are those of an image in range. What reading any bytes gives is said in ReadableImages.
+-- Round trip: an image in range, written as bytes, is read back as it was, to its last byte. What reading any bytes gives is said in
+-- ReadableImages.
 use mathlib.Core.Path.{_≡_, refl, sym, ap, subst, _∙_}
 use mathlib.Core.Bool.{Bool, true, false, not, _&&_, cond}
 use mathlib.Core.List.{List, [], _∷_, _++_}
-use mathlib.Core.Logic.{_↔_}
-use Prim.Native.Nat.{ℕ, suc, _^_, _≤_, _<_}
+use mathlib.Core.Logic.{⊎-elim}
+use Prim.Native.Nat.{ℕ, suc, _+_, _-_, _^_, _≤_, _<_}
 use native.Mathlib.Omega.{arith}
 use lib.Dec.{ltb, leb, le→leb, lt→ltb}
-use lib.ListN.{length, getD}
+use lib.ListN.{length, getD, List·getD-append}
+use lib.Seq.{getD-append-add}
 use lib.Pow.{pow-mono}
 use borrow.Author.Tests.{eq-eqb, lt-ltb}
 use Rattle.stage0_laws.specs.Lists.{All}
+use Rattle.stage0_laws.specs.Order.{lt-or-le}
 use Rattle.stage0_laws.specs.Truth.{and-both, holds-true}
+use Rattle.stage0_number.specs.Number.{encode}
+use Rattle.stage0_number.specs.Laws.{encode-bytes}
 use Rattle.stage1_sheet.specs.Limits.{most-rules, most-classes, most-expression-nodes, most-byte}
 use Rattle.stage1_sheet.specs.Spelling.{spell}
 use Rattle.stage1_sheet.specs.Field.{Reading, stop, got, and-then, between, read-many}
@@ -22,7 +26,6 @@ use Rattle.stage4_lexer.specs.PositionBounds.{NeverFalling}
 use Rattle.stage5_image.specs.Image.{Image, flag, flag-numbers, position-numbers, image-numbers, image-bytes}
 use Rattle.stage5_image.specs.ImageReading.{image-field, read-flag, read-list, read-position, read-production, read-row, image-end, read-image}
 use Rattle.stage5_image.specs.ImageNumbers.{all-numbers, just, flag-number, one-position-numbers, one-production-numbers, one-row-numbers, tail-is, flags-are, positions-are, productions-are, rows-are, EachFrom}
-use Rattle.stage5_image.specs.ReadableImages.{read-in-range, read-exact}
 use Rattle.stage5_image.specs.ImageRanges.{PositionInRange, ProductionInRange, Rising, RowInRange, InRange}
 
 module _ (bytes : List ℕ) where
@@ -196,10 +199,19 @@ pub read-back : (i : Image) → InRange i → read-image (image-bytes i) ≡ got
 unfolding image-bytes
 read-back i g = image-stands (image-bytes i) i g (stands-whole (image-bytes i) (image-numbers i) .1 refl)
 
--- Bytes are readable as an image exactly if they are the bytes of an image in range.
-pub readable-iff : (bytes : List ℕ) → Bytes bytes → (i : Image)
-    → (read-image bytes ≡ got i (length bytes)) ↔ (InRange i × (bytes ≡ image-bytes i))
-readable-iff bytes b i = (
-  λ e. (read-in-range bytes i (length bytes) e .0, read-exact bytes b i (length bytes) e),
-  λ g. subst (λ (l : List ℕ). read-image l ≡ got i (length l)) (sym (g .1)) (read-back i (g .0)),
-)
+-- An image's bytes are bytes.
+spell-bytes : (ns : List ℕ) → Bytes (spell ns)
+unfolding spell
+spell-bytes [] i = omega arith
+spell-bytes (n ∷ ns) i =
+    ⊎-elim
+    (λ l. subst (λ (v : ℕ). v < 256) (sym (List·getD-append (encode n) (spell ns) 0 i l)) (encode-bytes n i))
+    (λ l. let k = i - length (encode n) in
+    let e : length (encode n) + k ≡ i = omega arith in
+    let f = getD-append-add (encode n) (spell ns) k 0 in
+    subst (λ (j : ℕ). getD (encode n ++ spell ns) j 0 < 256) e (subst (λ (v : ℕ). v < 256) (sym f) (spell-bytes ns k)))
+    (lt-or-le i (length (encode n)))
+
+pub image-are-bytes : (i : Image) → Bytes (image-bytes i)
+unfolding image-bytes
+image-are-bytes i = spell-bytes (image-numbers i)

@@ -3,11 +3,12 @@
 pub mod Fusion
 pub mod Numbering
 pub mod Image
+pub mod ImageRanges
+pub mod ImageFields
 pub mod ImageReading
 pub mod Unfolding
 pub mod Compile
 pub mod Computing
-pub mod ImageRanges
 pub mod FusionLaws
 pub mod MetNodes
 pub mod DistinctNodes
@@ -17,6 +18,8 @@ pub mod UnfoldingLaws
 pub mod ImageNumbers
 pub mod ReadableImages
 pub mod ImageRoundTrip
+pub mod FieldsLaws
+pub mod UnreadableImages
 pub mod RowRanges
 pub mod ImageLaws
 pub mod ImageLength

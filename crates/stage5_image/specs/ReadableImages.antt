@@ -201,18 +201,18 @@ module _ (bytes : List ℕ) where
 
   -- ---- the image
 
-  -- What a readable image is: in range, to the last byte, and its numbers are the bytes.
-  record Readable (i : Image) (end : ℕ) : Type 0 where
+  -- An image that was read to the last byte: in range, and its numbers are the bytes.
+  record WhollyRead (i : Image) (end : ℕ) : Type 0 where
     in-range : InRange i
     whole : end ≡ length bytes
     taken : Taken bytes 0 (image-numbers i) end
 
   -- "and nothing after"
-  ended : (i : Image) (end : ℕ) → InRange i → Taken bytes 0 (image-numbers i) end → Outcome (Refusal bytes) Readable (image-end bytes i end)
+  ended : (i : Image) (end : ℕ) → InRange i → Taken bytes 0 (image-numbers i) end → Outcome (Refusal bytes) WhollyRead (image-end bytes i end)
   unfolding image-end
   ended i end g t = go (eqb end (length bytes)) refl
     where
-      go : (b : Bool) → eqb end (length bytes) ≡ b → Outcome (Refusal bytes) Readable (cond b (got i end) (stop 13 end))
+      go : (b : Bool) → eqb end (length bytes) ≡ b → Outcome (Refusal bytes) WhollyRead (cond b (got i end) (stop 13 end))
       go true e = accepted i end (record { in-range = g; whole = eqb-true end (length bytes) e; taken = t })
       go false e = refused 13 end (refl, t .inside)
 
@@ -225,7 +225,7 @@ module _ (bytes : List ℕ) where
   position-rules R P before [] g = tt
   position-rules R P before (p ∷ ps) g = (g .0 .0, position-rules R P (p .rule) ps (g .1))
 
-  image-gives : Outcome (Refusal bytes) Readable (read-image bytes)
+  image-gives : Outcome (Refusal bytes) WhollyRead (read-image bytes)
   unfolding read-image image-numbers
   image-gives =
       then-outcome (field-gives _ 0 (omega arith))

@@ -58,7 +58,7 @@ module _ (s : Sheet) {a : LanguageType} (limits : WithinLimits s) (typed : [] �
 
   -- The pending nonterminals stand for the tokens so far: they are the numbers of known nodes, which are ready, and the words of
   -- these nodes are just what may follow the tokens in a denoted sequence.
-  pub record Stands (pending tokens : List ℕ) : Type 0 where
+  pub record StandsFor (pending tokens : List ℕ) : Type 0 where
     nodes : List ℕ
     pending-are : pending ≡ map number nodes
     known : All Known nodes
@@ -66,7 +66,7 @@ module _ (s : Sheet) {a : LanguageType} (limits : WithinLimits s) (typed : [] �
     words : (w : List ℕ) → concatenation (language-of e) nodes w ↔ Denotes e (tokens ++ w)
 
   -- The start stands for no tokens.
-  pub start-stands : Stands (0 ∷ []) []
+  pub start-stands : StandsFor (0 ∷ []) []
   start-stands = record {
     nodes = 0 ∷ [];
     pending-are = ap (λ n. n ∷ []) (sym (same .start-number));
@@ -75,7 +75,7 @@ module _ (s : Sheet) {a : LanguageType} (limits : WithinLimits s) (typed : [] �
     words = start-words e;
   }
 
-  ends : (pending tokens : List ℕ) → Stands pending tokens
+  ends : (pending tokens : List ℕ) → StandsFor pending tokens
       → (all-nullable ((image-of s) .rows) pending ≡ true) ↔ Denotes e tokens
   unfolding image-of
   ends pending tokens h =
@@ -85,8 +85,8 @@ module _ (s : Sheet) {a : LanguageType} (limits : WithinLimits s) (typed : [] �
       rw (h .pending-are) (λ y. w .0 (x .0 (n .0 y)), λ y. n .1 (x .1 (w .1 y)))
 
   -- What the token's step says of the words is what the sheet allows.
-  after-step : (pending tokens : List ℕ) (h : Stands pending tokens) (t : ℕ) (o : Option (List ℕ)) → StepWords (language-of e) t (h .nodes) o
-      → AllKnown Known o → GrowsBy most-growth (h .nodes) o → TakenIs s Stands pending tokens t (numbers-of number o)
+  after-step : (pending tokens : List ℕ) (h : StandsFor pending tokens) (t : ℕ) (o : Option (List ℕ)) → StepWords (language-of e) t (h .nodes) o
+      → AllKnown Known o → GrowsBy most-growth (h .nodes) o → TakenIs s StandsFor pending tokens t (numbers-of number o)
   after-step pending tokens h t none f k g = λ l. f (l .0) (h .words (t ∷ l .0) .1 (l .1))
   after-step pending tokens h t (some next) f k g = (
     (f .2 .0, h .words (t ∷ f .2 .0) .0 (f .2 .1)),
@@ -100,8 +100,8 @@ module _ (s : Sheet) {a : LanguageType} (limits : WithinLimits s) (typed : [] �
     omega (arith, ap length (h .pending-are), length-map (h .nodes) number, length-map next number),
   )
 
-  takes-right : (pending tokens : List ℕ) (k t : ℕ) → Stands pending tokens → ActionOf s k (suc t)
-      → TakenIs s Stands pending tokens t (take-rule ((image-of s) .rows) pending k)
+  takes-right : (pending tokens : List ℕ) (k t : ℕ) → StandsFor pending tokens → ActionOf s k (suc t)
+      → TakenIs s StandsFor pending tokens t (take-rule ((image-of s) .rows) pending k)
   unfolding image-of
   takes-right pending tokens k t h act =
       let r : Returns (s .rules) k t = record { rule = act .0; at = act .1; returns = act .2 } in
@@ -111,7 +111,7 @@ module _ (s : Sheet) {a : LanguageType} (limits : WithinLimits s) (typed : [] �
       ap (λ (l : List ℕ). take-rule (numbered (fused (s .rules) (normal-form e))) l k) (h .pending-are) ∙ x .numbered in
       rw o (after-step pending tokens h t (x .after) step (x .known) (pending-grows typed (limits .nodes-most) (x .token-step)))
 
-  pub image-faithful : empty-match (s .rules) 0 ≡ none → Faithful s (image-of s) Stands
+  pub image-faithful : empty-match (s .rules) 0 ≡ none → Faithful s (image-of s) StandsFor
   unfolding image-of
   image-faithful no-empty = record {
     matching = match-right (s .rules) no-empty;

@@ -14,5 +14,4 @@ pub mod TakingLaws
 pub mod RunAnswers
 pub mod FaithfulImage
 pub mod StackLaws
-pub mod RunNumbers
 pub mod Examples

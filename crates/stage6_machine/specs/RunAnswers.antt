@@ -27,27 +27,27 @@ use Rattle.stage6_machine.specs.RunsLaws.{start-runs}
 use Rattle.stage6_machine.specs.OwnAnswer.{Allowed, ActionOf, AnswersFrom, accepts, ends-early, no-rule, skips, takes, refuses, OwnAnswer}
 
 -- What taking a token's rule answers: refused, and no denoted sequence goes on with the token; or taken, some does, and the
--- pending ones that are left stand for the tokens with it. `Stands pending tokens` is what they stand for.
+-- pending ones that are left stand for the tokens with it. `StandsFor pending tokens` is what they stand for.
 abbrev pub TakenIs : Sheet → (List ℕ → List ℕ → Type 0) → List ℕ → List ℕ → ℕ → Option (List ℕ) → Type 0
-TakenIs s Stands pending tokens t none = Allowed s tokens t → ⊥
-TakenIs s Stands pending tokens t (some next) =
-    Allowed s tokens t × Stands next (tokens ++ (t ∷ [])) × (length next ≤ length pending + most-growth)
+TakenIs s StandsFor pending tokens t none = Allowed s tokens t → ⊥
+TakenIs s StandsFor pending tokens t (some next) =
+    Allowed s tokens t × StandsFor next (tokens ++ (t ∷ [])) × (length next ≤ length pending + most-growth)
 
 -- The four facts about an image of a sheet.
-pub record Faithful (s : Sheet) (image : Image) (Stands : List ℕ → List ℕ → Type 0) : Type 0 where
+pub record Faithful (s : Sheet) (image : Image) (StandsFor : List ℕ → List ℕ → Type 0) : Type 0 where
   pub matching : (text : List ℕ) → Right (s .rules) text (longest-match (image .positions) (image .first) text)
   pub skipping : (k : ℕ) (r : Rule) → RuleAt (s .rules) k r → getD (image .skips) k false ≡ eqb (r .action) 0
-  pub taking : (pending tokens : List ℕ) (k t : ℕ) → Stands pending tokens → ActionOf s k (suc t)
-      → TakenIs s Stands pending tokens t (take-rule (image .rows) pending k)
-  pub ending : (pending tokens : List ℕ) → Stands pending tokens → (all-nullable (image .rows) pending ≡ true) ↔ Denotes (s .expression) tokens
+  pub taking : (pending tokens : List ℕ) (k t : ℕ) → StandsFor pending tokens → ActionOf s k (suc t)
+      → TakenIs s StandsFor pending tokens t (take-rule (image .rows) pending k)
+  pub ending : (pending tokens : List ℕ) → StandsFor pending tokens → (all-nullable (image .rows) pending ≡ true) ↔ Denotes (s .expression) tokens
 
-module _ (s : Sheet) (text : List ℕ) (image : Image) (entries : ℕ) (Stands : List ℕ → List ℕ → Type 0)
-    (faithful : Faithful s image Stands) (room : long-enough text ≤ entries) where
+module _ (s : Sheet) (text : List ℕ) (image : Image) (entries : ℕ) (StandsFor : List ℕ → List ℕ → Type 0)
+    (faithful : Faithful s image StandsFor) (room : long-enough text ≤ entries) where
   -- At place p, with the pending ones for the tokens so far, of which there are `count`.
   record Here (p : ℕ) (pending tokens : List ℕ) (count : ℕ) : Type 0 where
     inside : p ≤ length text
     counted : count ≡ length tokens
-    stands : Stands pending tokens
+    stands : StandsFor pending tokens
     few : length pending ≤ 1 + most-growth * count
     earlier : count ≤ p
 
@@ -112,18 +112,18 @@ module _ (s : Sheet) (text : List ℕ) (image : Image) (entries : ℕ) (Stands :
   runs-answer (untaken {p = p} {pending = pending} rule n l m k t) tokens h =
       let f = found p rule n l m in
       let token = returning rule (f .action) (f .acts) k in
-      let x = subst (TakenIs s Stands pending tokens (token .0)) t (faithful .taking pending tokens rule (token .0) (h .stands) (token .1)) in
+      let x = subst (TakenIs s StandsFor pending tokens (token .0)) t (faithful .taking pending tokens rule (token .0) (h .stands) (token .1)) in
       rw (h .counted) (refuses rule n (token .0) l (f .longest) (token .1) x)
   runs-answer (overflowed {p = p} {pending = pending} {count = count} rule n next l m k t o) tokens h =
       let f = found p rule n l m in
       let token = returning rule (f .action) (f .acts) k in
-      let x = subst (TakenIs s Stands pending tokens (token .0)) t (faithful .taking pending tokens rule (token .0) (h .stands) (token .1)) in
+      let x = subst (TakenIs s StandsFor pending tokens (token .0)) t (faithful .taking pending tokens rule (token .0) (h .stands) (token .1)) in
       let fits = few-next p count pending next l (h .earlier) (h .few) (x .2) in
       absurd (omega (arith, fits .1))
   runs-answer (taken {p = p} {pending = pending} {count = count} rule n next l m k t o r) tokens h =
       let f = found p rule n l m in
       let token = returning rule (f .action) (f .acts) k in
-      let x = subst (TakenIs s Stands pending tokens (token .0)) t (faithful .taking pending tokens rule (token .0) (h .stands) (token .1)) in
+      let x = subst (TakenIs s StandsFor pending tokens (token .0)) t (faithful .taking pending tokens rule (token .0) (h .stands) (token .1)) in
       takes rule n (token .0) l (f .longest) (token .1) (x .0)
       (runs-answer r (tokens ++ (token .0 ∷ [])) (record {
         inside = f .further;
@@ -134,9 +134,10 @@ module _ (s : Sheet) (text : List ℕ) (image : Image) (entries : ℕ) (Stands :
       }))
 
   -- From the start: nonterminal 0 alone stands for no tokens yet.
-  pub run-image-answers : Stands (0 ∷ []) [] → OwnAnswer s text (run-image image entries text)
+  pub runs-own-answer : StandsFor (0 ∷ []) [] → {a : Answer} → RunsFrom image text entries 0 (0 ∷ []) 0 a → OwnAnswer s text a
+  runs-own-answer start r =
+      runs-answer r [] (record { inside = omega arith; counted = refl; stands = start; few = omega arith; earlier = omega arith })
+
+  pub run-image-answers : StandsFor (0 ∷ []) [] → OwnAnswer s text (run-image image entries text)
   unfolding run-image
-  run-image-answers start =
-      rw (le-ltb entries 1 (omega (arith, room)))
-      (runs-answer (start-runs image text entries) []
-      (record { inside = omega arith; counted = refl; stands = start; few = omega arith; earlier = omega arith }))
+  run-image-answers start = rw (le-ltb entries 1 (omega (arith, room))) (runs-own-answer start (start-runs image text entries))

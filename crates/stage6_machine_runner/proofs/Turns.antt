@@ -9,9 +9,8 @@ use Rattle.stage0_laws.specs.Lists.{All}
 use Rattle.stage4_lexer.specs.Positions.{Position}
 use Rattle.stage4_lexer.specs.Match.{matched}
 use Rattle.stage4_lexer.specs.Walk.{longest-match}
-use Rattle.stage4_lexer.specs.LongestMatchLaws.{match-within}
+use Rattle.stage4_lexer.specs.LongestMatchLaws.{match-within, match-rule-below}
 use Rattle.stage4_lexer_columns.specs.Held.{held-from, held-positions}
-use Rattle.stage4_lexer_scanner.specs.Laws.{match-rule}
 use Rattle.stage4_lexer_scanner.specs.Meaning.{match-of}
 use Rattle.stage4_lexer_scanner.specs.declared.Found.{Found}
 use Rattle.stage4_lexer_scanner.specs.declared.Found.the-variants as found
@@ -106,7 +105,7 @@ module _ (i : Image) (bytes : List ℕ) (t : ImageTables) (decoded : Decoded byt
         by-match found.Nothing e = tt
         by-match (found.Rule rule n) e =
             let w = match-within (i .positions) (i .first) (drop (s .place) text) rule n (sym e) in
-            let r = match-rule (t .rules) (i .positions) (i .first) (drop (s .place) text) rule n (decoded .positions-below) (sym e) in
+            let r = match-rule-below (i .positions) (t .rules) (decoded .positions-below) (i .first) (drop (s .place) text) rule n (sym e) in
             let l = length-drop (s .place) text in
             (omega (arith, r, decoded .most-rules), omega (arith, w .1, l, more, small), omega (arith, w .0, going .counted))
 

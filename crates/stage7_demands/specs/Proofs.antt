@@ -2,7 +2,7 @@
 use mathlib.Core.Path.{_≡_, refl, sym, ap, subst, _∙_}
 use mathlib.Core.Bool.{Bool, true, false, cond, _||_}
 use mathlib.Core.List.{List, _++_}
-use mathlib.Core.Logic.{_↔_}
+use mathlib.Core.Logic.{_↔_, _⊎_, ⊎-elim}
 use mathlib.Core.Option.{none}
 use Prim.Native.Nat.{ℕ, _≤_}
 use native.Mathlib.Omega.{arith}
@@ -12,24 +12,27 @@ use borrow.Author.Tests.{le-ltb, ltb-false}
 use Rattle.stage1_sheet.specs.Sheet.{Sheet}
 use Rattle.stage1_sheet.specs.WellFormed.{Spells}
 use Rattle.stage1_sheet.specs.FieldLaws.{Bytes}
-use Rattle.stage1_sheet.specs.Field.{got}
 use Rattle.stage1_sheet.specs.ReadingLaws.{spelled-once}
 use Rattle.stage4_lexer.specs.Positions.{empty-match}
 use Rattle.stage4_lexer.specs.EmptyWord.{none-empty}
-use Rattle.stage5_image.specs.Image.{image-of, image-bytes}
-use Rattle.stage5_image.specs.ImageReading.{read-image}
+use Rattle.stage5_image.specs.Image.{Image, image-of, image-bytes}
+use Rattle.stage5_image.specs.ImageFields.{ReadableAs}
+use Rattle.stage5_image.specs.ImageRoundTrip.{image-are-bytes}
+use Rattle.stage5_image.specs.FieldsLaws.{readable-one, image-readable}
 use Rattle.stage5_image.specs.Unfolding.{StartUnfolds, DenotedRules}
-use Rattle.stage5_image.specs.ImageLaws.{image-denotes, image-read-back}
+use Rattle.stage5_image.specs.ImageLaws.{image-denotes, image-in-range}
 use Rattle.stage5_image.specs.Compile.{work-bytes, Compiled, refused, too-long, compiled, compile, image-after, work-after}
 use Rattle.stage5_image.specs.CompileLaws.{Acceptable, acceptable-compiles, compiled-acceptable, compiled-fits}
 use Rattle.stage5_image.specs.CompileQuestions.{compile-answers}
 use Rattle.stage6_machine.specs.Answer.{Answer}
-use Rattle.stage6_machine.specs.Run.{most-text-bytes, run, run-reading, long-enough, stack-after}
+use Rattle.stage6_machine.specs.Run.{most-text-bytes, run, long-enough, stack-after}
+use Rattle.stage6_machine.specs.Runs.{Runs, long-text, unreadable, no-entry, started}
+use Rattle.stage6_machine.specs.RunsLaws.{run-runs, runs-one}
+use Rattle.stage6_machine.specs.StackLaws.{stack-untouched-12, stack-untouched-13, stack-zero}
 use Rattle.stage6_machine.specs.OwnAnswer.{OwnAnswer}
 use Rattle.stage6_machine.specs.OwnAnswerLaws.{own-answer-one}
-use Rattle.stage6_machine.specs.RunNumbers.{run-ends}
-use Rattle.stage6_machine.specs.RunAnswers.{run-image-answers}
-use Rattle.stage6_machine.specs.FaithfulImage.{Stands, start-stands, image-faithful}
+use Rattle.stage6_machine.specs.RunAnswers.{Faithful, runs-own-answer}
+use Rattle.stage6_machine.specs.FaithfulImage.{StandsFor, start-stands, image-faithful}
 use Rattle.stage7_demands.specs.Demands.{Demand1, Demand2, Demand3}
 
 -- ---- demand 1
@@ -58,16 +61,19 @@ work-kept work = go (ltb (length work) work-bytes) refl
     go true e = refl
     go false e = cleared-kept work-bytes work (ltb-false (length work) work-bytes e)
 
-stack-kept : (a : Answer) (stack : List ℕ) → length (stack-after a stack) ≡ length stack
-unfolding stack-after
-stack-kept a stack = go (eqb (a .number) 12 || eqb (a .number) 13)
-  where
-    go : (b : Bool) → length (cond b stack (replicate (length stack) 0)) ≡ length stack
-    go true = refl
-    go false = length-replicate {A = ℕ} (length stack) 0
+stack-untouched : (a : Answer) (stack : List ℕ) → (a .number ≡ 12) ⊎ (a .number ≡ 13) → stack-after a stack ≡ stack
+stack-untouched a stack h = ⊎-elim (stack-untouched-12 a stack) (stack-untouched-13 a stack) h
 
-pub demand-1 : Demand1
-demand-1 = record { compiling = λ sheet bytes work room. compile-answers sheet work room bytes; running = run-ends; image-kept = image-kept; work-kept = work-kept; stack-kept = stack-kept }
+pub demand-1 : Demand1 run
+demand-1 = record {
+  compiling = λ sheet bytes work room. compile-answers sheet work room bytes;
+  running = λ image text bytes entries. run-runs image text entries bytes;
+  one-running = λ image text bytes entries a b. runs-one image text entries bytes;
+  image-kept = image-kept;
+  work-kept = work-kept;
+  stack-untouched = stack-untouched;
+  stack-zero = stack-zero;
+}
 
 -- ---- demand 2
 
@@ -91,11 +97,11 @@ no-empty s sheet room a = none-empty (s .rules) .1 (a .no-empty-text)
 
 accepted-normal-form : (sheet : List ℕ) → Bytes sheet → (work room : ℕ) (image : List ℕ) → compile sheet work room ≡ compiled image
     → (s : Sheet) → Spells sheet s
-    → (image ≡ image-bytes (image-of s)) × (read-image image ≡ got (image-of s) (length image))
+    → (image ≡ image-bytes (image-of s)) × ReadableAs image (image-of s)
 accepted-normal-form sheet bytes work room image e s spells =
     let a = accepted-sheet sheet bytes work room image e s spells in
-    let r = image-read-back s (spells .limits) (no-empty s sheet room (a .0)) (((a .0) .has-type) .1) in
-    (a .1, subst (λ l. read-image l ≡ got (image-of s) (length l)) (sym (a .1)) r)
+    let r = image-readable (image-of s) (image-in-range s (spells .limits) (no-empty s sheet room (a .0)) (((a .0) .has-type) .1)) in
+    (a .1, subst (λ (l : List ℕ). ReadableAs l (image-of s)) (sym (a .1)) r)
 
 unfolds-exactly : (sheet : List ℕ) → Bytes sheet → (work room : ℕ) (image : List ℕ) → compile sheet work room ≡ compiled image
     → (s : Sheet) → Spells sheet s → (rules : List ℕ) → StartUnfolds ((image-of s) .rows) rules ↔ DenotedRules s rules
@@ -111,15 +117,32 @@ demand-2 = record { accepted-exactly = accepted-exactly; normal-form = accepted-
 own-answer : (sheet : List ℕ) → Bytes sheet → (work room : ℕ) (image : List ℕ) → compile sheet work room ≡ compiled image
     → (s : Sheet) → Spells sheet s
     → (text : List ℕ) (entries : ℕ) → length text ≤ most-text-bytes → long-enough text ≤ entries
-    → OwnAnswer s text (run image text entries)
-unfolding run run-reading
-own-answer sheet bytes work room image e s spells text entries short room-enough =
-    let a = (accepted-sheet sheet bytes work room image e s spells) .0 in
-    let typed = (a .has-type) .1 in
-    let r = (accepted-normal-form sheet bytes work room image e s spells) .1 in
-    rw (le-ltb most-text-bytes (length text) short, r)
-    (run-image-answers s text (image-of s) entries (Stands s (spells .limits) typed) (image-faithful s (spells .limits) typed (no-empty s sheet room a))
-    room-enough (start-stands s (spells .limits) typed))
+    → (a : Answer) → Runs image text entries a → OwnAnswer s text a
+own-answer sheet bytes work room image e s spells text entries short long a runs = by-question runs
+  where
+    acceptable : Acceptable sheet room s
+    acceptable = (accepted-sheet sheet bytes work room image e s spells) .0
+
+    by-question : {b : Answer} → Runs image text entries b → OwnAnswer s text b
+    by-question (long-text h) = absurd (omega arith)
+    by-question (unreadable p h n o) = absurd (n (image-of s, accepted-normal-form sheet bytes work room image e s spells .1))
+    by-question (no-entry h r l) = absurd (omega arith)
+    by-question (started i h r l x) =
+        let typed = (acceptable .has-type) .1 in
+        let same = readable-one image (image-of s) i (accepted-normal-form sheet bytes work room image e s spells .1) r in
+        let faithful = image-faithful s (spells .limits) typed (no-empty s sheet room acceptable) in
+        runs-own-answer s text i entries (StandsFor s (spells .limits) typed)
+        (subst (λ (j : Image). Faithful s j (StandsFor s (spells .limits) typed)) same faithful) long (start-stands s (spells .limits) typed) x
 
 pub demand-3 : Demand3
 demand-3 = record { own-answer = own-answer; exactly = λ s text a b. own-answer-one s text }
+
+-- What `run` answers over the image that compiling made.
+pub run-own-answer : (sheet : List ℕ) → Bytes sheet → (work room : ℕ) (image : List ℕ) → compile sheet work room ≡ compiled image
+    → (s : Sheet) → Spells sheet s
+    → (text : List ℕ) (entries : ℕ) → length text ≤ most-text-bytes → long-enough text ≤ entries
+    → OwnAnswer s text (run image text entries)
+run-own-answer sheet bytes work room image e s spells text entries short long =
+    let r = accepted-normal-form sheet bytes work room image e s spells in
+    own-answer sheet bytes work room image e s spells text entries short long (run image text entries)
+    (run-runs image text entries (subst Bytes (sym (r .0)) (image-are-bytes (image-of s))))

@@ -9,7 +9,8 @@ use denote.Ref.{now}
 use Rattle.stage5_image.specs.Image.{Image}
 use Rattle.stage5_image_reader.specs.Decoded.{Decoded}
 use Rattle.stage6_machine.specs.Run.{run-from, first-state}
-use Rattle.stage6_machine_turn.specs.Steps.{answer-held, Fits}
+use Rattle.stage6_machine_turn.specs.Steps.{answer-held, turn-step, Fits}
+use Rattle.stage6_machine_turn.specs.declared.Turn.the-variants.{Next, Done}
 use Rattle.stage6_machine_turn.specs.StackLaws.{ready-entries}
 use Rattle.stage6_machine_runner.proofs.Turns.{Going, going-first, going-ends, going-fits, going-done, going-next}
 use Rattle.stage6_machine_runner.proofs.Ending.{run-no-entry, run-some-entry}
@@ -63,7 +64,9 @@ next-here c i d =
     let start = head .before .before .before .before .before .before .before in
     let text = now (start .args .text) in
     let more : l .state .place < length text = scan .before .before .before .before .before .before .before .if2 .taken in
-    let e = sym (turn .one-turn .ensures .0) ∙ c .after2 .given .1 in
+    let t = start .args .t2 in
+    let e : turn-step (now (start .args .image)) (t .productions) (t .empty) (t .skips) (l .stack) (scan .longest-match .result) (l .state) .outcome
+    ≡ Next (c .after2 .given .0 .0) = sym (turn .one-turn .ensures .0) ∙ c .after2 .given .1 in
     going-next i (now (start .args .image)) (start .args .t2) d text (l .stack) (l .state) _ (l .inv .1 i d) more
     (scan .longest-match .result) (scan .longest-match .ensures) (fits-here scan i d) _ (c .after2 .given .0 .0)
     (turn .one-turn .kept .1 .1 .1 .1 .0) (turn .one-turn .ensures .1) e
@@ -135,7 +138,9 @@ returns-2 c =
     let start = head .before .before .before .before .before .before .before in
     let text = now (start .args .text) in
     let more : l .state .place < length text = scan .before .before .before .before .before .before .before .if2 .taken in
-    let e = sym (turn .one-turn .ensures .0) ∙ c .before .after .given .1 in
+    let t = start .args .t2 in
+    let e : turn-step (now (start .args .image)) (t .productions) (t .empty) (t .skips) (l .stack) (scan .longest-match .result) (l .state) .outcome
+    ≡ Done (c .before .after .given .0 .0) = sym (turn .one-turn .ensures .0) ∙ c .before .after .given .1 in
     λ i d.
     let g = going-done i (now (start .args .image)) (start .args .t2) d text (l .stack) (l .state) _ (l .inv .1 i d) more
     (scan .longest-match .result) (scan .longest-match .ensures) (fits-here scan i d) (c .before .after .given .0 .0) e in

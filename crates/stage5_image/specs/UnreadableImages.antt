@@ -1,0 +1,56 @@
+-- Worked places of 13, "at the first offending number or leftover byte": one table, one theorem, by computing.
+use mathlib.Core.Path.{_≡_, refl}
+use mathlib.Core.List.{List, [], _∷_, _++_, map}
+use Prim.Native.Nat.{ℕ}
+use Rattle.stage1_sheet.specs.Field.{Reading, stop}
+use Rattle.stage5_image.specs.Image.{Image}
+use Rattle.stage5_image.specs.ImageReading.{read-image}
+use Rattle.stage5_image.specs.Computing.{computing-image}
+
+pub record Offence : Type 0 where
+  pub bytes : List ℕ
+  pub place : ℕ
+
+abbrev pub refused-at : Offence → Reading Image
+refused-at x = stop 13 (x .place)
+
+abbrev offence : List ℕ → ℕ → Offence
+offence bytes place = record { bytes = bytes; place = place }
+
+-- One rule, which returns; one position, `a`; one nonterminal, which takes the rule: the first numbers, up to the first set.
+abbrev start : List ℕ
+start = 1 ∷ 1 ∷ 0 ∷ 1 ∷ 97 ∷ 97 ∷ 0 ∷ 1 ∷ 0 ∷ 1 ∷ []
+
+pub offences : List Offence
+offences =
+    -- the version
+    offence (2 ∷ 1 ∷ []) 0
+    -- R out of range
+    ∷ offence (1 ∷ 33 ∷ 0 ∷ []) 1
+    -- a flag of 2
+    ∷ offence (1 ∷ 1 ∷ 2 ∷ 1 ∷ []) 2
+    -- a high byte below its low byte
+    ∷ offence (1 ∷ 1 ∷ 0 ∷ 1 ∷ 97 ∷ 96 ∷ 0 ∷ []) 5
+    -- a rule that falls
+    ∷ offence (1 ∷ 2 ∷ 0 ∷ 0 ∷ 2 ∷ 97 ∷ 97 ∷ 1 ∷ 1 ∷ 0 ∷ 98 ∷ 98 ∷ 0 ∷ 1 ∷ []) 12
+    -- a set not below 2^P
+    ∷ offence (1 ∷ 1 ∷ 0 ∷ 1 ∷ 97 ∷ 97 ∷ 0 ∷ 1 ∷ 2 ∷ 1 ∷ []) 8
+    -- a production's rule that skips
+    ∷ offence (1 ∷ 1 ∷ 1 ∷ 1 ∷ 97 ∷ 97 ∷ 0 ∷ 1 ∷ 0 ∷ 1 ∷ 1 ∷ 0 ∷ 1 ∷ 0 ∷ 0 ∷ []) 13
+    -- one that does not rise
+    ∷ offence (start ++ (1 ∷ 0 ∷ 2 ∷ 0 ∷ 0 ∷ 0 ∷ 0 ∷ [])) 15
+    -- a tail member not below the nonterminal count
+    ∷ offence (start ++ (1 ∷ 0 ∷ 1 ∷ 0 ∷ 1 ∷ 1 ∷ [])) 15
+    -- zero written as 80 00
+    ∷ offence (1 ∷ 1 ∷ 128 ∷ 0 ∷ 1 ∷ []) 2
+    -- a byte left over
+    ∷ offence (start ++ (1 ∷ 0 ∷ 1 ∷ 0 ∷ 0 ∷ 7 ∷ [])) 15
+    -- a number that is cut off
+    ∷ offence (1 ∷ 1 ∷ 0 ∷ 1 ∷ 97 ∷ 97 ∷ 0 ∷ 1 ∷ 128 ∷ []) 8
+    -- one that is missing
+    ∷ offence start 10
+    ∷ []
+
+pub offences-found : map (λ (x : Offence). read-image (x .bytes)) offences ≡ map refused-at offences
+unfolding offences computing-image
+offences-found = refl
