@@ -6,6 +6,7 @@ pub mod Expression
 pub mod Sheet
 pub mod Spelling
 pub mod WellFormed
+pub mod SheetQuestions
 pub mod Field
 pub mod Items
 pub mod Reading
@@ -15,6 +16,7 @@ pub mod Computing
 pub mod ListLaws
 pub mod FieldLaws
 pub mod NumberLaws
+pub mod RefusalLaws
 pub mod RegexItems
 pub mod ExpressionItems
 pub mod SheetFields

@@ -26,6 +26,7 @@ use Rattle.stage5_image.specs.Image.{image-of, image-bytes}
 use Rattle.stage5_image.specs.ImageReading.{read-image}
 use Rattle.stage5_image.specs.Unfolding.{StartUnfolds, DenotedRules}
 use Rattle.stage5_image.specs.ImageLaws.{image-denotes, image-read-back}
+use Rattle.stage5_image.specs.Compiles.{Acceptable}
 use Rattle.stage5_image.specs.Compile.{work-bytes, Compiled, refused, too-long, compiled, fitted, after-types, after-rules, after-reading, compile}
 
 -- Questions 2 to 11 pass, with these contents.
@@ -103,15 +104,7 @@ module _ (sheet : List ℕ) (room : ℕ) (image : List ℕ) where
       start true h f = not-compiled 1 0 f
       start false h f = (ltb-false work work-bytes h, long (ltb most-sheet-bytes (length sheet)) refl f)
 
--- A sheet that demand 2 accepts, with an image buffer of so many bytes: "it is well formed, no lexer rule matches the empty text,
--- its expression has a type under the published typing rules, and the image fits".
-pub record Acceptable (sheet : List ℕ) (room : ℕ) (s : Sheet) : Type 0 where
-  pub well-formed : Spells sheet s
-  pub no-empty-text : (k : ℕ) → WordOf (s .rules) k [] → ⊥
-  pub has-type : HasType (s .expression)
-  pub fits : length (image-bytes (image-of s)) ≤ room
-
--- Compiling accepts every such sheet, and makes its image.
+-- Compiling accepts every sheet that demand 2 accepts, and makes its image.
 pub acceptable-compiles : (sheet : List ℕ) (work room : ℕ) (s : Sheet) → work-bytes ≤ work → Acceptable sheet room s
     → compile sheet work room ≡ compiled (image-bytes (image-of s))
 acceptable-compiles sheet work room s w a =

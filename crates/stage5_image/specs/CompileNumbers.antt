@@ -8,14 +8,15 @@ use Prim.Native.Nat.{ℕ, _≤_}
 use native.Mathlib.Omega.{arith}
 use lib.ListN.{length}
 use Rattle.stage1_sheet.specs.FieldLaws.{Bytes}
-use Rattle.stage1_sheet.specs.SheetFields.{SheetRefusal}
+use Rattle.stage1_sheet.specs.RefusalLaws.{refused-number}
 use Rattle.stage2_types.specs.Types.{LanguageType}
 use Rattle.stage2_types.specs.Nodes.{Node, epsilon-node, bottom-node, token-node, sequence-node, alternative-node, fixed-point-node, variable-node}
 use Rattle.stage2_types.specs.LeastTypes.{type-of}
 use Rattle.stage2_types.specs.Questions.{Fault, separable, apart, unless, node-fault}
 use Rattle.stage2_types.specs.QuestionLaws.{FirstToFail}
 use Rattle.stage5_image.specs.Compile.{Compiled, refused, too-long, compiled, compile, CompileAnswer, compile-answer}
-use Rattle.stage5_image.specs.CompileQuestions.{Compiles, short-work, long-sheet, unreadable, empty-rule, untyped, no-room, success, compile-answers}
+use Rattle.stage5_image.specs.Compiles.{Compiles, short-work, long-sheet, unreadable, empty-rule, untyped, no-room, success}
+use Rattle.stage5_image.specs.CompileQuestions.{compile-answers}
 
 abbrev InTypes : Option Fault → Type 0
 InTypes none = Unit
@@ -44,7 +45,7 @@ Numbered (compiled image) = Unit
 numbered : {bytes : List ℕ} {work room : ℕ} {c : Compiled} → Compiles bytes work room c → Numbered c
 numbered (short-work l) = (omega arith, omega arith)
 numbered (long-sheet l m) = (omega arith, omega arith)
-numbered (unreadable question place l m r n) = let a = r .least in let b = r .most in (omega arith, omega arith)
+numbered (unreadable question place l m r) = let a = refused-number (r .fails) in (omega arith, omega arith)
 numbered (empty-rule s k p l m w n q) = (omega arith, omega arith)
 numbered (untyped s f p l m n x q) = let z = subst InTypes (x .fails) (node-number _ _ _) in (omega arith, omega arith)
 numbered (no-room s l m n t r) = tt

@@ -6,6 +6,7 @@ pub mod Image
 pub mod ImageReading
 pub mod Unfolding
 pub mod Compile
+pub mod Compiles
 pub mod Computing
 pub mod ImageRanges
 pub mod FusionLaws

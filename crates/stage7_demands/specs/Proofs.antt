@@ -21,8 +21,10 @@ use Rattle.stage5_image.specs.ImageReading.{read-image}
 use Rattle.stage5_image.specs.Unfolding.{StartUnfolds, DenotedRules}
 use Rattle.stage5_image.specs.ImageLaws.{image-denotes, image-read-back}
 use Rattle.stage5_image.specs.Compile.{work-bytes, Compiled, refused, too-long, compiled, compile, image-after, work-after}
-use Rattle.stage5_image.specs.CompileLaws.{Acceptable, acceptable-compiles, compiled-acceptable, compiled-fits}
-use Rattle.stage5_image.specs.CompileQuestions.{compile-answers}
+use Rattle.stage5_image.specs.Compiles.{Acceptable}
+use Rattle.stage5_image.specs.CompileLaws.{acceptable-compiles, compiled-acceptable, compiled-fits}
+use Rattle.stage5_image.specs.CompileQuestions.{compile-answers, compiles-one}
+use Rattle.stage5_image.specs.BufferLaws.{answers, handed-back, refused-untouched, image-written, image-rest, work-short, work-cleared, work-rest}
 use Rattle.stage6_machine.specs.Answer.{Answer}
 use Rattle.stage6_machine.specs.Run.{most-text-bytes, run, run-reading, long-enough, stack-after}
 use Rattle.stage6_machine.specs.OwnAnswer.{OwnAnswer}
@@ -63,8 +65,22 @@ stack-kept a stack = go (eqb (a .number) 12 || eqb (a .number) 13)
     go true = refl
     go false = length-replicate {A = ℕ} (length stack) 0
 
-pub demand-1 : Demand1
-demand-1 = record { compiling = λ sheet bytes work room. compile-answers sheet work room bytes; running = run-ends; image-kept = image-kept; work-kept = work-kept; stack-kept = stack-kept }
+pub demand-1 : Demand1 compile
+demand-1 = record {
+  compiling = λ sheet bytes work room. compile-answers sheet work room bytes;
+  one-ending = λ sheet bytes work room c d. compiles-one bytes;
+  returned = answers;
+  handed-back = handed-back;
+  image-untouched = refused-untouched;
+  image-written = λ image buffer. (image-written image buffer, image-rest image buffer);
+  image-kept = image-kept;
+  work-short = work-short;
+  work-cleared = work-cleared;
+  work-rest = work-rest;
+  work-kept = work-kept;
+  running = run-ends;
+  stack-kept = stack-kept;
+}
 
 -- ---- demand 2
 
@@ -100,7 +116,7 @@ unfolds-exactly sheet bytes work room image e s spells =
     let a = accepted-sheet sheet bytes work room image e s spells in
     image-denotes s ((spells .limits) .closed) (((a .0) .has-type) .1)
 
-pub demand-2 : Demand2
+pub demand-2 : Demand2 compile
 demand-2 = record { accepted-exactly = accepted-exactly; normal-form = accepted-normal-form; unfolds-exactly = unfolds-exactly }
 
 -- ---- demand 3
@@ -118,5 +134,5 @@ own-answer sheet bytes work room image e s spells text entries short room-enough
     (run-image-answers s text (image-of s) entries (Stands s (spells .limits) typed) (image-faithful s (spells .limits) typed (no-empty s sheet room a))
     room-enough (start-stands s (spells .limits) typed))
 
-pub demand-3 : Demand3
+pub demand-3 : Demand3 compile
 demand-3 = record { own-answer = own-answer; exactly = λ s text a b. own-answer-one s text }

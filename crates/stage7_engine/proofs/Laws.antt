@@ -10,7 +10,8 @@ use Rattle.stage1_sheet.specs.Sheet.{Sheet}
 use Rattle.stage1_sheet.specs.FieldLaws.{Bytes}
 use Rattle.stage5_image.specs.Compile.{refused, too-long, compiled, compile, image-after}
 use Rattle.stage5_image.specs.Compile as page
-use Rattle.stage5_image.specs.CompileLaws.{Acceptable, acceptable-compiles, compiled-fits}
+use Rattle.stage5_image.specs.Compiles.{Acceptable}
+use Rattle.stage5_image.specs.CompileLaws.{acceptable-compiles, compiled-fits}
 use Rattle.stage5_image.specs.BufferLaws.{image-written}
 use Rattle.stage5_image_compiler.specs.Answer.{case-of}
 use Rattle.stage5_image_compiler.specs.declared.Compiled.{Compiled}
