@@ -8,12 +8,12 @@ use lib.Dec.{ltb, lt→ltb}
 use lib.ListN.{length}
 use Rattle.stage0_laws.specs.Truth.{holds-true}
 use Rattle.stage1_sheet.specs.Limits.{most-expression-tag}
-use Rattle.stage1_sheet.specs.Spelling.{NumberAt, NumbersAt, no-more, one-more}
+use Rattle.stage1_sheet.specs.Spelling.{Bytes, NumberAt, NumbersAt, no-more, one-more}
 use Rattle.stage1_sheet.specs.Field.{got, and-then, between}
 use Rattle.stage1_sheet.specs.Items.{ExpressionItem, epsilon-item, bottom-item, token-item, sequence-item, alternative-item}
 use Rattle.stage1_sheet.specs.Items.{fixed-point-item, variable-item, part-depths}
 use Rattle.stage1_sheet.specs.Reading.{sheet-field, ReadNode, expression-item, expression-nodes}
-use Rattle.stage1_sheet.specs.FieldLaws.{Bytes, Outcome, refused, accepted, then-outcome, outcome-got, between-true}
+use Rattle.stage1_sheet.specs.FieldLaws.{Outcome, refused, accepted, then-outcome, outcome-got, between-true}
 use Rattle.stage1_sheet.specs.NumberLaws.{none-stand, first-stands, numbers-append, numbers-split}
 use Rattle.stage1_sheet.specs.RefusalLaws.{reaches-next}
 use Rattle.stage1_sheet.specs.SheetFields.{below-test, expression-test, sheet-field-outcome, number-outcome, sheet-field-got}

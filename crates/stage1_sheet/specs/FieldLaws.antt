@@ -15,13 +15,10 @@ use Rattle.stage0_number.specs.Laws.{decode-within, decode-there, decode-bytes,
 use Rattle.stage0_number.specs.declared.Number.{Number}
 use Rattle.stage0_number.specs.declared.Number.the-variants.{Read, Refused}
 use Rattle.stage1_sheet.specs.Spelling.{spell}
+pub use Rattle.stage1_sheet.specs.Spelling.{Bytes}
 use Rattle.stage1_sheet.specs.Field.{Reading, stop, got, and-then, between, field-of, read-field, read-many}
 
 -- ---- where numbers stand
-
--- Every byte is below 256.
-abbrev pub Bytes : List ℕ → Type 0
-Bytes bytes = (i : ℕ) → getD bytes i 0 < 256
 
 -- The same as a test, for bytes that are written out.
 abbrev pub all-bytes : List ℕ → Bool

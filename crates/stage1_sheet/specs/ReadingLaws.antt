@@ -9,11 +9,11 @@ use native.Mathlib.Omega.{arith}
 use lib.ListN.{length}
 use Rattle.stage1_sheet.specs.Limits.{most-sheet-bytes}
 use Rattle.stage1_sheet.specs.Sheet.{Sheet}
-use Rattle.stage1_sheet.specs.Spelling.{NumbersAt, sheet-numbers}
+use Rattle.stage1_sheet.specs.Spelling.{Bytes, NumbersAt, sheet-numbers}
 use Rattle.stage1_sheet.specs.WellFormed.{Spells, WellFormed}
 use Rattle.stage1_sheet.specs.Field.{Reading, stop, got}
 use Rattle.stage1_sheet.specs.Reading.{Contents, read-sheet}
-use Rattle.stage1_sheet.specs.FieldLaws.{Bytes, outcome-got, outcome-stop}
+use Rattle.stage1_sheet.specs.FieldLaws.{outcome-got, outcome-stop}
 use Rattle.stage1_sheet.specs.SheetQuestions.{nothing-due, sheet-due, all-left, Reaches, SheetRefused}
 use Rattle.stage1_sheet.specs.RefusalLaws.{refused-once, ended-not-refused}
 use Rattle.stage1_sheet.specs.Places.{ContentsOf}

@@ -9,12 +9,12 @@ use lib.Dec.{eqb, eqb·suc-zero}
 use lib.ListN.{length}
 use Rattle.stage0_laws.specs.Lists.{sum}
 use Rattle.stage1_sheet.specs.Limits.{most-byte, most-regex-tag}
-use Rattle.stage1_sheet.specs.Spelling.{NumberAt, NumbersAt, no-more, one-more}
+use Rattle.stage1_sheet.specs.Spelling.{Bytes, NumberAt, NumbersAt, no-more, one-more}
 use Rattle.stage1_sheet.specs.Field.{got, between}
 use Rattle.stage1_sheet.specs.Items.{RegexItem, empty-item, class-item, concat-item, union-item, star-item, regex-parts}
 use Rattle.stage1_sheet.specs.Items.{item-classes}
 use Rattle.stage1_sheet.specs.Reading.{class-after, regex-item, regex-items}
-use Rattle.stage1_sheet.specs.FieldLaws.{Bytes, Outcome, refused, accepted, then-outcome, outcome-got, between-true}
+use Rattle.stage1_sheet.specs.FieldLaws.{Outcome, refused, accepted, then-outcome, outcome-got, between-true}
 use Rattle.stage1_sheet.specs.NumberLaws.{none-stand, first-stands, numbers-append, numbers-split}
 use Rattle.stage1_sheet.specs.RefusalLaws.{reaches-next}
 use Rattle.stage1_sheet.specs.SheetFields.{range-test, regex-test, sheet-field-outcome, number-outcome, sheet-field-got}
@@ -95,12 +95,15 @@ module _ (bytes : List ℕ) (from : Due) (from-left : LimitsLeft) (start : ℕ) 
       (then-outcome (number-outcome bytes from from-left start b (between 0 most-byte) 0 (suc most-byte) _ _ next (range-test 0 most-byte _) r)
       (λ low mid f.
       then-outcome (number-outcome bytes from from-left start b (between low most-byte) low (suc most-byte) _ _ mid (range-test low most-byte _) (f .1))
-      (λ high end g. accepted (class-item low high) end (record {
-        same-tag = refl;
-        in-range = (g .0 .holds .0, omega (arith, g .0 .holds .1));
-        room = omega arith;
-        stands = one-more (f .0 .stands) (one-more (g .0 .stands) no-more);
-      }, g .1))))
+      (λ high end g. accepted (class-item low high) end (
+        record {
+          same-tag = refl;
+          in-range = (g .0 .holds .0, omega (arith, g .0 .holds .1));
+          room = omega arith;
+          stands = one-more (f .0 .stands) (one-more (g .0 .stands) no-more);
+        },
+        g .1,
+      ))))
 
   -- A tag with nothing after it but its parts.
   bare-outcome : (classes : ℕ) (more : Due) (left : LimitsLeft) (at tag next : ℕ) (item : RegexItem) → TagRead more left at tag next

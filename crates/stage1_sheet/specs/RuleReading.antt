@@ -8,12 +8,12 @@ use lib.ListN.{length, getD}
 use Rattle.stage0_laws.specs.Lists.{All, sum}
 use Rattle.stage1_sheet.specs.Regex.{Regex, empty, regex-nodes, class-count}
 use Rattle.stage1_sheet.specs.Sheet.{Rule}
-use Rattle.stage1_sheet.specs.Spelling.{NumbersAt, no-more, one-more, regex-numbers, rule-numbers}
+use Rattle.stage1_sheet.specs.Spelling.{Bytes, NumbersAt, no-more, one-more, regex-numbers, rule-numbers}
 use Rattle.stage1_sheet.specs.WellFormed.{RuleInRange}
 use Rattle.stage1_sheet.specs.Field.{got, between, read-many}
 use Rattle.stage1_sheet.specs.Items.{RegexItem, item-classes, regexes}
 use Rattle.stage1_sheet.specs.Reading.{ReadRule, Allowance, less-rule, read-rule}
-use Rattle.stage1_sheet.specs.FieldLaws.{Bytes, Outcome, accepted, then-outcome, between-true}
+use Rattle.stage1_sheet.specs.FieldLaws.{Outcome, accepted, then-outcome, between-true}
 use Rattle.stage1_sheet.specs.NumberLaws.{none-stand, first-stands, numbers-append, numbers-split}
 use Rattle.stage1_sheet.specs.SheetQuestions.{Due, number-due, regex-due, rules-due, LimitsLeft, Reaches, RefusedFrom}
 use Rattle.stage1_sheet.specs.SheetFields.{range-test, FieldAt, number-outcome, sheet-field-got}

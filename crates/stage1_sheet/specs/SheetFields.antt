@@ -10,12 +10,12 @@ use Rattle.stage0_laws.specs.Truth.{holds-true, true-holds}
 use Rattle.stage0_number.specs.Number.{decode}
 use Rattle.stage0_number.specs.declared.Number.the-variants.{Read, Refused}
 use Rattle.stage1_sheet.specs.Limits.{most-regex-tag, most-expression-tag}
-use Rattle.stage1_sheet.specs.Spelling.{NumberAt}
+use Rattle.stage1_sheet.specs.Spelling.{Bytes, NumberAt}
 use Rattle.stage1_sheet.specs.Field.{got, between, field-of, read-field}
 use Rattle.stage1_sheet.specs.Reading.{sheet-field}
 use Rattle.stage1_sheet.specs.SheetQuestions.{Due, nothing-due, number-due, regex-due, expression-due, due-after, AllowedValue}
 use Rattle.stage1_sheet.specs.SheetQuestions.{LimitsLeft, left-after, Reaches, no-number, not-allowed, RefusedFrom}
-use Rattle.stage1_sheet.specs.FieldLaws.{Bytes, Outcome, outcome-imply, field-cases, between-true, true-between}
+use Rattle.stage1_sheet.specs.FieldLaws.{Outcome, outcome-imply, field-cases, between-true, true-between}
 use Rattle.stage1_sheet.specs.NumberLaws.{number-read, read-number}
 use Rattle.stage1_sheet.specs.RefusalLaws.{reaches-next}
 

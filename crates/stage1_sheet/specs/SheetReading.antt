@@ -14,13 +14,13 @@ use Rattle.stage0_laws.specs.Truth.{holds-true, true-holds}
 use Rattle.stage1_sheet.specs.Limits.{most-tokens, most-rules, most-classes, most-regex-nodes, most-expression-nodes}
 use Rattle.stage1_sheet.specs.Expression.{Expression, bottom, size}
 use Rattle.stage1_sheet.specs.Sheet.{Rule, Sheet}
-use Rattle.stage1_sheet.specs.Spelling.{NumbersAt, no-more, one-more, rule-numbers, expression-numbers, sheet-numbers}
+use Rattle.stage1_sheet.specs.Spelling.{Bytes, NumbersAt, no-more, one-more, rule-numbers, expression-numbers, sheet-numbers}
 use Rattle.stage1_sheet.specs.WellFormed.{WithinLimits, Spells}
 use Rattle.stage1_sheet.specs.Field.{stop, got, between}
 use Rattle.stage1_sheet.specs.Items.{ExpressionItem, expressions}
 use Rattle.stage1_sheet.specs.Reading.{ReadRule, ReadNode, Allowance, Contents, contents, at-end, read-sheet}
 use Rattle.stage1_sheet.specs.Places.{head-numbers, numbers-before-rule, numbers-before-node, ContentsOf}
-use Rattle.stage1_sheet.specs.FieldLaws.{Bytes, Outcome, refused, accepted, then-outcome, between-true}
+use Rattle.stage1_sheet.specs.FieldLaws.{Outcome, refused, accepted, then-outcome, between-true}
 use Rattle.stage1_sheet.specs.NumberLaws.{first-stands, numbers-inside, numbers-append, numbers-split}
 use Rattle.stage1_sheet.specs.SheetQuestions.{nothing-due, rules-due, sheet-due, LimitsLeft, all-left, Reaches, arrived, left-over, SheetRefused}
 use Rattle.stage1_sheet.specs.SheetFields.{range-test, number-outcome, sheet-field-got}

@@ -12,7 +12,8 @@ use Rattle.stage1_sheet.specs.Regex.{empty}
 use Rattle.stage1_sheet.specs.Expression.{bottom}
 use Rattle.stage1_sheet.specs.Sheet.{Rule}
 use Rattle.stage1_sheet.specs.Field.{Reading, stop, got, and-then, between, read-many}
-use Rattle.stage1_sheet.specs.FieldLaws.{Bytes, Outcome, refused, accepted, then-outcome, outcome-got, true-between, Row, many-outcome}
+use Rattle.stage1_sheet.specs.Spelling.{Bytes}
+use Rattle.stage1_sheet.specs.FieldLaws.{Outcome, refused, accepted, then-outcome, outcome-got, true-between, Row, many-outcome}
 use Rattle.stage1_sheet.specs.Items.{RegexItem, regexes, expressions}
 use Rattle.stage1_sheet.specs.RegexItems.{regex-items-of, MakesRegexes, one-regex}
 use Rattle.stage1_sheet.specs.ExpressionItems.{expression-items-of, one-expression}

@@ -62,6 +62,10 @@ compile-answer (refused number place) = record { number = number; place = place;
 compile-answer (too-long needed) = record { number = 11; place = 0; length = needed }
 compile-answer (compiled image) = record { number = 0; place = 0; length = length image }
 
+-- The three numbers of an answer, one after the other.
+unfoldable pub answer-numbers : CompileAnswer → List ℕ
+answer-numbers a = a .number ∷ a .place ∷ a .length ∷ []
+
 -- "A refused compile leaves the image buffer untouched; success leaves the bytes past the image."
 unfoldable pub image-after : Compiled → List ℕ → List ℕ
 image-after (refused number place) buffer = buffer

@@ -13,7 +13,7 @@ use Rattle.stage1_sheet.specs.Limits.{most-sheet-bytes}
 use Rattle.stage1_sheet.specs.Sheet.{Sheet}
 use Rattle.stage1_sheet.specs.WellFormed.{WithinLimits, Spells}
 use Rattle.stage1_sheet.specs.Field.{Reading, stop, got}
-use Rattle.stage1_sheet.specs.FieldLaws.{Bytes}
+use Rattle.stage1_sheet.specs.Spelling.{Bytes}
 use Rattle.stage1_sheet.specs.Reading.{Contents, read-sheet}
 use Rattle.stage1_sheet.specs.ReadingLaws.{spelled-read, Accepted, read-accepted, spelled-once}
 use Rattle.stage2_types.specs.Types.{LanguageType, _⊢_∶_, HasType}

@@ -17,9 +17,8 @@ use Rattle.stage1_sheet.specs.Expression.{size}
 use Rattle.stage1_sheet.specs.Sheet.{Rule, Sheet}
 use Rattle.stage1_sheet.specs.WellFormed.{Spells}
 use Rattle.stage1_sheet.specs.Field.{Reading, stop, got}
-use Rattle.stage1_sheet.specs.FieldLaws.{Bytes}
 use Rattle.stage1_sheet.specs.Reading.{Contents, read-sheet}
-use Rattle.stage1_sheet.specs.Spelling.{NumbersAt}
+use Rattle.stage1_sheet.specs.Spelling.{Bytes, NumbersAt}
 use Rattle.stage1_sheet.specs.Places.{numbers-before-rule, numbers-before-node, ContentsOf}
 use Rattle.stage1_sheet.specs.NumberLaws.{numbers-once}
 use Rattle.stage1_sheet.specs.ReadingLaws.{spelled-read, read-accepted, read-refused, refused-read}

@@ -16,10 +16,6 @@ answer-of (Done written) = record { number = 0; place = 0; length = written }
 answer-of (TooLong needed) = record { number = 11; place = 0; length = needed }
 answer-of (Refused number place) = record { number = number; place = place; length = 0 }
 
--- The three numbers of an answer, one after the other.
-unfoldable pub answer-numbers : CompileAnswer → List ℕ
-answer-numbers a = a .number ∷ a .place ∷ a .length ∷ []
-
 -- The case of each way to end. It keeps the length of the image and not its bytes, which are in the buffer.
 unfoldable pub case-of : page.Compiled → Compiled
 case-of (page.refused number place) = Refused number place
