@@ -30,8 +30,11 @@ extern "C" {
 /* The most bytes that a text may have. */
 #define VINZAGEW_TEXT_LIMIT 1048576
 
+/* The most members that a production's tail has. A take removes one pending nonterminal and adds a tail. */
+#define VINZAGEW_TAIL_LIMIT 31
+
 /* The length of a stack that is enough for every text of n bytes. */
-#define VINZAGEW_STACK_LENGTH(n) (1 + 30 * (size_t)(n))
+#define VINZAGEW_STACK_LENGTH(n) (1 + (VINZAGEW_TAIL_LIMIT - 1) * (size_t)(n))
 
 /* The numbers: 0 for success, otherwise the question that was answered with no. */
 #define VINZAGEW_SUCCESS 0           /* compiled, or accepted */

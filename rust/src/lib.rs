@@ -69,13 +69,17 @@ pub const SHEET_LIMIT: usize = 4_096;
 /// The most bytes that a text may have.
 pub const TEXT_LIMIT: usize = 1_048_576;
 
+/// The most members that a production's tail has. A take removes one pending nonterminal at least and
+/// adds a tail.
+pub const TAIL_LIMIT: usize = 31;
+
 /// The length of a stack that is enough for every text of `text_length` bytes.
 ///
 /// ```
 /// assert_eq!(vinzagew::stack_length(4), 121);
 /// ```
 pub const fn stack_length(text_length: usize) -> usize {
-    1 + 30 * text_length
+    1 + (TAIL_LIMIT - 1) * text_length
 }
 
 /// Compiles a sheet, with buffers of its own.
@@ -181,7 +185,7 @@ impl Image {
     /// Runs the image over a text on a long enough stack, and gives how many tokens were taken.
     ///
     /// For an image that compiling made, this is the sheet's own answer. The stack is long enough for
-    /// every readable image: a tail has at most 31 members, and replaces one.
+    /// every readable image: a tail has at most [`TAIL_LIMIT`] members, and replaces one.
     ///
     /// # Errors
     ///

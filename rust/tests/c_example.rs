@@ -31,6 +31,26 @@ fn the_example_compiles() {
     assert!(status.success());
 }
 
+/// The header's limits are those of this package.
+#[test]
+fn the_header_has_the_same_limits() {
+    let header = fs::read_to_string(top().join("include/vinzagew.h")).expect("the header");
+    let limit = |name: &str| {
+        let define = format!("#define VINZAGEW_{name} ");
+        let line = header.lines().find_map(|line| line.strip_prefix(&define));
+        let value = line.unwrap_or_else(|| panic!("{name} is in the header"));
+        value.trim().parse::<usize>().expect("a number")
+    };
+    assert_eq!(limit("WORK_BYTES"), vinzagew::WORK_BYTES);
+    assert_eq!(limit("IMAGE_BYTES"), vinzagew::IMAGE_BYTES);
+    assert_eq!(limit("SHEET_LIMIT"), vinzagew::SHEET_LIMIT);
+    assert_eq!(limit("TEXT_LIMIT"), vinzagew::TEXT_LIMIT);
+    assert_eq!(limit("TAIL_LIMIT"), vinzagew::TAIL_LIMIT);
+    assert!(header.contains(
+        "#define VINZAGEW_STACK_LENGTH(n) (1 + (VINZAGEW_TAIL_LIMIT - 1) * (size_t)(n))\n"
+    ));
+}
+
 #[test]
 #[cfg_attr(not(vinzagew_library), ignore = "the static library was not found")]
 fn the_example_reads_by_sheet_d() {

@@ -12,6 +12,7 @@ use common::{compile_checked, engines, generate, run_checked, Engine, LIBRARY, R
 use std::collections::BTreeMap;
 use std::fmt;
 use vinzagew::builder::{Expression, PartKind};
+use vinzagew::stack_length;
 use vinzagew_reference::image::Image;
 use vinzagew_reference::sheet::Sheet;
 use vinzagew_reference::{answer, image_of};
@@ -172,7 +173,7 @@ fn least_stack(image: &[u8], text: &[u8]) -> usize {
         (REFERENCE.run)(image, text, &mut vec![0; length], &mut out);
         out[0] != 17
     };
-    let (mut low, mut high) = (0, 1 + 30 * text.len());
+    let (mut low, mut high) = (0, stack_length(text.len()));
     while low < high {
         let middle = (low + high) / 2;
         if enough(middle) {
@@ -192,11 +193,11 @@ fn long_call(random: &mut Random) -> Call {
     ];
     let length = random.range(1_048_574, 1_048_577);
     let piece = *random.pick(&[&b"7"[..], b"12 /", b"7/"]);
-    let stack_length = random.below(4);
+    let entries = random.below(4);
     Call::Run {
         image: image.to_vec(),
         text: piece.iter().copied().cycle().take(length).collect(),
-        stack: buffer(random, stack_length),
+        stack: buffer(random, entries),
         out: out(random),
     }
 }
@@ -216,16 +217,16 @@ fn run_call(random: &mut Random) -> Call {
         1 => generate::damage_field(random, &image),
         _ => image.to_bytes(),
     };
-    let stack_length = match random.below(8) {
+    let entries = match random.below(8) {
         0 => random.below(12),
         1..=3 => {
             let least = least_stack(&image, &text);
             (least + random.below(3)).saturating_sub(1)
         }
-        _ => 1 + 30 * text.len(),
+        _ => stack_length(text.len()),
     };
     Call::Run {
-        stack: buffer(random, stack_length),
+        stack: buffer(random, entries),
         out: out(random),
         image,
         text,
@@ -299,8 +300,9 @@ fn refusals_lead_back_to_their_parts() {
         } else {
             generate::nearly_accepted_sheet(random)
         };
-        let Err(refusal) = image_of(sheet.as_bytes()) else {
-            continue;
+        let refusal = match image_of(sheet.as_bytes()) {
+            Err(refusal) => refusal,
+            Ok(_) => continue,
         };
         let part = sheet.locate(refusal.place);
         assert_eq!(part.place, refusal.place);
@@ -345,7 +347,7 @@ fn runs_give_the_sheets_own_answer() {
             for _ in 0..4 {
                 let mut text = generate::text(random, &parts);
                 text.truncate(40);
-                let ran = run_checked(engine, &image, &text, 1 + 30 * text.len());
+                let ran = run_checked(engine, &image, &text, stack_length(text.len()));
                 let own = answer(&Sheet::read(sheet).expect("compiled"), &text);
                 assert_eq!(
                     ran,

@@ -4,6 +4,7 @@ mod common;
 
 use common::json_lines::{self, Object};
 use common::{compile_checked, engines, run_checked, Engine};
+use vinzagew::stack_length;
 
 fn vectors(kind: &str) -> Vec<Object> {
     let vectors: Vec<Object> = include_str!("data/base.jsonl")
@@ -63,7 +64,7 @@ fn read() {
         if compiled[0] != 0 {
             return Some(format!("the sheet is refused: {compiled:?}"));
         }
-        let found = run_checked(engine, &image, &text, 1 + 30 * text.len());
+        let found = run_checked(engine, &image, &text, stack_length(text.len()));
         unequal(found, three(vector, "count"))
     });
 }
@@ -98,7 +99,7 @@ fn program_line(engine: Engine, sheet: &[u8], text: &[u8]) -> String {
     if text.len() > 2_048 {
         return "text 12 0".to_owned();
     }
-    let [number, place, count] = run_checked(engine, &image, text, 1 + 30 * text.len());
+    let [number, place, count] = run_checked(engine, &image, text, stack_length(text.len()));
     if number == 0 {
         format!("accepted {count}")
     } else {

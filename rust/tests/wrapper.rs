@@ -25,6 +25,12 @@ fn sheet_d() -> Sheet {
     builder().finish(number.then(more)).unwrap()
 }
 
+/// Where the archive's folder is named, the tests that need the archive are not left out.
+#[test]
+fn a_named_archive_is_linked() {
+    assert!(option_env!("VINZAGEW_LIB_DIR").is_none() || vinzagew::LIBRARY_LINKED);
+}
+
 #[test]
 fn the_builder_writes_sheet_d() {
     let expected = [

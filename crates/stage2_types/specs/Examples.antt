@@ -10,7 +10,7 @@ use Rattle.stage2_types.specs.Nodes.{nodes-from, nodes}
 use Rattle.stage2_types.specs.LeastTypes.{node-type, next-types, same-type, same-types, type-rounds, types-of, least-types}
 use Rattle.stage2_types.specs.Questions.{Fault, separable, apart, unless, node-fault, first-fault, type-fault}
 
-record Row : Type 0 where
+record Example : Type 0 where
   expression : Expression
   answer : Option Fault
 
@@ -24,8 +24,8 @@ S = token 1
 abbrev at : ℕ → ℕ → Option Fault
 at number node = some (record { number = number; node = node })
 
-abbrev rows : List Row
-rows =
+abbrev examples : List Example
+examples =
     -- D's own, N·μβ.(ε ∨ S·(N·β))
     record { expression = sequence N (fixed-point (alternative epsilon (sequence S (sequence N (variable 0))))); answer = none }
     -- N ∨ N
@@ -45,7 +45,7 @@ rows =
     ∷ record { expression = alternative (sequence N bottom) N; answer = at 10 0 }
     ∷ []
 
-rows-answered : map (λ row. type-fault (row .expression)) rows ≡ map (λ row. row .answer) rows
+examples-answered : map (λ x. type-fault (x .expression)) examples ≡ map (λ x. x .answer) examples
 unfolding type-fault first-fault node-fault unless separable apart least-types types-of settle type-rounds next-types node-type same-types same-type
     nodes nodes-from size epsilon-type bottom-type token-type sequence-type alternative-type
-rows-answered = refl
+examples-answered = refl

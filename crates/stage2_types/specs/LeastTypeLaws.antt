@@ -2,33 +2,31 @@
 -- Whether they pass the side conditions is not asked here.
 use mathlib.Core.Path.{_≡_, refl, sym, ap, ap₂, subst, _∙_}
 use mathlib.Core.Bool.{Bool, true, false, _&&_, Bool·beq, true≢false}
-use mathlib.Core.List.{List, [], _∷_, _++_}
+use mathlib.Core.List.{List, [], _∷_}
 use mathlib.Core.Logic.{⊎-elim}
-use Prim.Native.Nat.{ℕ, zero, suc, _+_, _-_, _*_, _≤_, _<_}
+use Prim.Native.Nat.{ℕ, zero, suc, _-_, _*_, _≤_, _<_}
 use native.Mathlib.Omega.{arith}
 use lib.Dec.{eqb}
-use lib.ListN.{getD, length, replicate, length-map, length-replicate, List·getD-map}
+use lib.ListN.{length, replicate, length-map, length-replicate, List·getD-map}
 use lib.Seq.{ext-getD}
 use borrow.Author.Tests.{eq-eqb, eqb-true}
 use Rattle.stage0_laws.specs.Truth.{and-true-first, and-true-second}
 use Rattle.stage0_laws.specs.Order.{lt-or-le}
-use Rattle.stage0_laws.specs.Lists.{All, sum}
+use Rattle.stage0_laws.specs.Lists.{sum}
 use Rattle.stage0_laws.specs.Settling.{settle-keeps, settled}
 use Rattle.stage1_sheet.specs.Limits.{most-tokens}
-use Rattle.stage1_sheet.specs.Expression.{Expression, epsilon, bottom, token, sequence, alternative, fixed-point, variable, size}
+use Rattle.stage1_sheet.specs.Expression.{Expression, size}
 use Rattle.stage1_sheet.specs.WellFormed.{Closed}
 use Rattle.stage2_types.specs.Types.{LanguageType, epsilon-type, bottom-type, token-type}
-use Rattle.stage2_types.specs.Nodes.{Node, epsilon-node, bottom-node, token-node, sequence-node, alternative-node, fixed-point-node, variable-node, Binder, nodes-from, nodes}
-use Rattle.stage2_types.specs.LeastTypes.{type-of, node-type, next-types, same-type, same-types, type-rounds, types-of, least-types}
+use Rattle.stage2_types.specs.Nodes.{Node, epsilon-node, bottom-node, token-node, sequence-node, alternative-node, fixed-point-node, variable-node, nodes, node-at}
+use Rattle.stage2_types.specs.NodeRanges.{NodeInRange, in-range-more, node-in-range, nodes-in-range}
+use Rattle.stage2_types.specs.LeastTypes.{type-of, node-type, next-types, same-type, same-types, type-height, type-rounds, types-of, least-types}
 use Rattle.stage2_types.specs.TypeLaws.{_⊑_, ⊑-refl, ⊑-trans, ⊑-antisym, bottom-least, sequence-rises, alternative-rises, AllBelow}
 use Rattle.stage2_types.specs.TypeWeight.{Fits, epsilon-fits, bottom-fits, token-fits, sequence-fits, alternative-fits, weight, weights-most, weights-full}
 
 -- Figure 2's equations, one a node.
 abbrev pub Solves : List Node → List LanguageType → Type 0
 Solves ns types = types ≡ next-types ns types
-
-abbrev pub node-at : List Node → ℕ → Node
-node-at ns n = getD ns n bottom-node
 
 -- One round, at one node.
 pub type-of-next : (ns : List Node) (types : List LanguageType) (n : ℕ) → type-of (next-types ns types) n ≡ node-type types (node-at ns n)
@@ -88,30 +86,17 @@ pub types-unique : (ns : List Node) (types : List LanguageType) → length types
 types-unique ns types long below closed = ext-getD bottom-type types (types-of ns) (long ∙ sym (types-long ns))
     (λ n l. ⊑-antisym (below n) (types-below ns types closed n))
 
--- Solved: every round that changes something adds to the weight of all types together, which is at most 49 a node.
-abbrev TokenFits : Node → Type 0
-TokenFits epsilon-node = Unit
-TokenFits bottom-node = Unit
-TokenFits (token-node t) = t < most-tokens
-TokenFits (sequence-node l r) = Unit
-TokenFits (alternative-node l r) = Unit
-TokenFits (fixed-point-node b) = Unit
-TokenFits (variable-node f guarded) = Unit
-
-all-at : (ns : List Node) → All TokenFits ns → (n : ℕ) → TokenFits (node-at ns n)
-all-at [] h n = tt
-all-at (x ∷ ns) h zero = h .0
-all-at (x ∷ ns) h (suc n) = all-at ns (h .1) n
-
-node-type-fits : (types : List LanguageType) → ((n : ℕ) → Fits (type-of types n)) → (x : Node) → TokenFits x → Fits (node-type types x)
+-- Solved: every round that changes something adds to the weight of all types together, which is at most `type-height` a node.
+node-type-fits : (types : List LanguageType) → ((n : ℕ) → Fits (type-of types n)) → (count : ℕ) (x : Node) → NodeInRange most-tokens count x
+    → Fits (node-type types x)
 unfolding node-type
-node-type-fits types f epsilon-node t = epsilon-fits
-node-type-fits types f bottom-node t = bottom-fits
-node-type-fits types f (token-node k) t = token-fits k t
-node-type-fits types f (sequence-node l r) t = sequence-fits (f l) (f r)
-node-type-fits types f (alternative-node l r) t = alternative-fits (f l) (f r)
-node-type-fits types f (fixed-point-node b) t = f b
-node-type-fits types f (variable-node b guarded) t = f b
+node-type-fits types f count epsilon-node t = epsilon-fits
+node-type-fits types f count bottom-node t = bottom-fits
+node-type-fits types f count (token-node k) t = token-fits k t
+node-type-fits types f count (sequence-node l r) t = sequence-fits (f l) (f r)
+node-type-fits types f count (alternative-node l r) t = alternative-fits (f l) (f r)
+node-type-fits types f count (fixed-point-node b) t = f b
+node-type-fits types f count (variable-node b guarded) t = f b
 
 same-type-equal : (a b : LanguageType) → same-type a b ≡ true → a ≡ b
 unfolding same-type
@@ -156,7 +141,7 @@ record Rising (ns : List Node) (types : List LanguageType) : Type 0 where
   rises : AllBelow types (next-types ns types)
   fits : (n : ℕ) → Fits (type-of types n)
 
-module _ (ns : List Node) (tokens-fit : All TokenFits ns) where
+module _ (ns : List Node) (count : ℕ) (in-range : (n : ℕ) → NodeInRange most-tokens count (node-at ns n)) where
   rising-first : Rising ns (replicate (length ns) bottom-type)
   rising-first = record {
     as-many = length-replicate (length ns) bottom-type;
@@ -169,7 +154,7 @@ module _ (ns : List Node) (tokens-fit : All TokenFits ns) where
   rising-next types r = record {
     as-many = length-map ns (node-type types);
     rises = next-rises ns types (next-types ns types) (r .rises);
-    fits = λ n. rw (type-of-next ns types n) (node-type-fits types (r .fits) (node-at ns n) (all-at ns tokens-fit n));
+    fits = λ n. rw (type-of-next ns types n) (node-type-fits types (r .fits) count (node-at ns n) (in-range n));
   }
 
   rising-weight : (types : List LanguageType) → Rising ns types → same-types types (next-types ns types) ≡ false
@@ -187,13 +172,13 @@ module _ (ns : List Node) (tokens-fit : All TokenFits ns) where
 
   -- What is left until all types are the greatest that fit.
   abbrev left-over : List LanguageType → ℕ
-  left-over types = 49 * length ns - sum weight types
+  left-over types = type-height * length ns - sum weight types
 
   rising-falls : (types : List LanguageType) → Rising ns types → same-types types (next-types ns types) ≡ false
       → left-over (next-types ns types) < left-over types
   rising-falls types r changed =
       let next = rising-next types r in
-      let most = subst (λ n. sum weight (next-types ns types) ≤ 49 * n) (next .as-many) (weights-most (next-types ns types)) in
+      let most = subst (λ n. sum weight (next-types ns types) ≤ type-height * n) (next .as-many) (weights-most (next-types ns types)) in
       omega (arith, most, rising-weight types r changed)
 
   pub types-fit : (n : ℕ) → Fits (type-of (types-of ns) n)
@@ -207,33 +192,15 @@ module _ (ns : List Node) (tokens-fit : All TokenFits ns) where
       (settled same-types (next-types ns) (Rising ns) left-over rising-next rising-falls (type-rounds ns)
       (replicate (length ns) bottom-type) rising-first (omega arith) .1)
 
-all-append : (xs ys : List Node) → All TokenFits xs → All TokenFits ys → All TokenFits (xs ++ ys)
-all-append [] ys h k = k
-all-append (x ∷ xs) ys h k = (h .0, all-append xs ys (h .1) k)
-
 module _ (tokens : ℕ) (within : tokens ≤ most-tokens) where
-  closed-fits : (g : Expression) (opened p : ℕ) (binders : List Binder) → Closed tokens opened g → All TokenFits (nodes-from g p binders)
-  unfolding nodes-from
-  closed-fits epsilon opened p binders c = (tt, tt)
-  closed-fits bottom opened p binders c = (tt, tt)
-  closed-fits (token k) opened p binders c = (omega arith, tt)
-  closed-fits (sequence g h) opened p binders c = (
-    tt,
-    all-append (nodes-from g (suc p) binders) _
-        (closed-fits g opened (suc p) binders (c .0)) (closed-fits h opened (suc p + size g) _ (c .1)),
-  )
-  closed-fits (alternative g h) opened p binders c = (
-    tt,
-    all-append (nodes-from g (suc p) binders) _
-        (closed-fits g opened (suc p) binders (c .0)) (closed-fits h opened (suc p + size g) _ (c .1)),
-  )
-  closed-fits (fixed-point g) opened p binders c = (tt, closed-fits g (suc opened) (suc p) _ c)
-  closed-fits (variable n) opened p binders c = (tt, tt)
+  expression-in-range : (e : Expression) → Closed tokens 0 e → (n : ℕ) → NodeInRange most-tokens (size e) (node-at (nodes e) n)
+  expression-in-range e c n = in-range-more tokens most-tokens (size e) (size e) (node-at (nodes e) n) within (omega arith)
+      (node-in-range tokens (size e) (nodes e) (nodes-in-range tokens e c) n)
 
   pub least-solves : (e : Expression) → Closed tokens 0 e → Solves (nodes e) (least-types e)
-  unfolding nodes least-types
-  least-solves e c = types-solve (nodes e) (closed-fits e 0 0 [] c)
+  unfolding least-types
+  least-solves e c = types-solve (nodes e) (size e) (expression-in-range e c)
 
   pub least-fits : (e : Expression) → Closed tokens 0 e → (n : ℕ) → Fits (type-of (least-types e) n)
-  unfolding nodes least-types
-  least-fits e c n = types-fit (nodes e) (closed-fits e 0 0 [] c) n
+  unfolding least-types
+  least-fits e c n = types-fit (nodes e) (size e) (expression-in-range e c) n

@@ -2,11 +2,12 @@
 -- whole expression": all nodes start with ⊥'s type, and the equations are applied to all of them until nothing changes.
 use mathlib.Core.Bool.{Bool, true, false, _&&_, Bool·beq}
 use mathlib.Core.List.{List, [], _∷_, map}
-use Prim.Native.Nat.{ℕ, _*_}
+use Prim.Native.Nat.{ℕ, _+_, _*_}
 use lib.ListN.{getD, length, replicate}
 use lib.Dec.{eqb}
 use Rattle.stage0_laws.specs.Lists.{settle}
 use Rattle.stage1_sheet.specs.Expression.{Expression}
+use Rattle.stage1_sheet.specs.Limits.{most-tokens}
 use Rattle.stage2_types.specs.Types.{LanguageType, epsilon-type, bottom-type, token-type, sequence-type, alternative-type}
 use Rattle.stage2_types.specs.Nodes.{Node, epsilon-node, bottom-node, token-node, sequence-node, alternative-node, fixed-point-node, variable-node, nodes}
 
@@ -37,10 +38,13 @@ same-types [] (b ∷ ys) = false
 same-types (a ∷ xs) [] = false
 same-types (a ∷ xs) (b ∷ ys) = same-type a b && same-types xs ys
 
--- A sheet has at most 24 tokens, so that a node's type can grow 49 times: once to nullable, and by each token in each set. So
--- this many rounds are enough.
+-- How often a node's type can grow: once to nullable, and by each token of a sheet in each set.
+abbrev pub type-height : ℕ
+type-height = 1 + 2 * most-tokens
+
+-- So this many rounds are enough.
 unfoldable pub type-rounds : List Node → ℕ
-type-rounds ns = 49 * length ns
+type-rounds ns = type-height * length ns
 
 unfoldable pub types-of : List Node → List LanguageType
 types-of ns = settle same-types (next-types ns) (type-rounds ns) (replicate (length ns) bottom-type)

@@ -3,6 +3,7 @@
 pub mod Denotation
 pub mod Types
 pub mod Nodes
+pub mod NodeRanges
 pub mod LeastTypes
 pub mod Questions
 pub mod Computing

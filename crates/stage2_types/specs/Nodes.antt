@@ -1,7 +1,7 @@
 -- An expression's nodes in sheet order, each with the nodes that it goes by. A node is its place in this list.
 use mathlib.Core.Bool.{Bool, true, false}
 use mathlib.Core.List.{List, [], _∷_, _++_, map}
-use Prim.Native.Nat.{ℕ, zero, suc, _+_}
+use Prim.Native.Nat.{ℕ, suc, _+_}
 use lib.ListN.{getD}
 use Rattle.stage1_sheet.specs.Expression.{Expression, epsilon, bottom, token, sequence, alternative, fixed-point, variable, size}
 
@@ -49,3 +49,7 @@ nodes-from (variable n) p open-ones = variable-of (getD open-ones n no-binder) �
 -- The nodes of a sheet's expression; the start is node 0.
 unfoldable pub nodes : Expression → List Node
 nodes e = nodes-from e 0 []
+
+-- Past the end of the list there is a node that has no productions and no words, as ⊥ has none.
+abbrev pub node-at : List Node → ℕ → Node
+node-at ns n = getD ns n bottom-node

@@ -4,24 +4,24 @@ use mathlib.Core.Path.{_≡_, refl, sym, ap, ap₂, subst, _∙_}
 use mathlib.Core.Bool.{Bool, true, false, not, _&&_, true≢false}
 use mathlib.Core.List.{List, [], _∷_}
 use mathlib.Core.Option.{Option, none, some}
-use mathlib.Core.Logic.{_↔_}
+use mathlib.Core.Logic.{_↔_, ⊎-elim}
 use Prim.Native.Nat.{ℕ, zero, suc, _+_, _<_}
 use native.Mathlib.Omega.{arith}
 use native.Mathlib.Nat.{add-zero}
 use lib.Bits.{bitAnd}
 use lib.Dec.{eqb}
-use lib.ListN.{length}
+use lib.ListN.{length, List·getD-eq-default}
 use borrow.Author.Tests.{eq-eqb, eqb-true, not-true}
 use Rattle.stage0_laws.specs.Truth.{and-true-first, and-true-second}
 use Rattle.stage0_laws.specs.Lists.{or-else}
+use Rattle.stage0_laws.specs.Order.{lt-or-le}
 use Rattle.stage1_sheet.specs.Expression.{Expression}
 use Rattle.stage2_types.specs.Types.{LanguageType, Separable, Apart}
-use Rattle.stage2_types.specs.Nodes.{Node, epsilon-node, bottom-node, token-node, sequence-node, alternative-node, fixed-point-node, variable-node, nodes}
+use Rattle.stage2_types.specs.Nodes.{Node, epsilon-node, bottom-node, token-node, sequence-node, alternative-node, fixed-point-node, variable-node, nodes, node-at}
 use Rattle.stage2_types.specs.LeastTypes.{type-of, least-types}
 use Rattle.stage2_types.specs.Questions.{Fault, separable, apart, unless, node-fault, first-fault, type-fault}
 use Rattle.stage2_types.specs.TypeLaws.{separable-falls, apart-falls, AllBelow}
-use Rattle.stage2_types.specs.LeastTypeLaws.{node-at}
-use Rattle.stage2_types.specs.EachFrom.{EachFrom}
+use Rattle.stage2_types.specs.EachFrom.{EachFrom, each-member}
 
 -- The tests.
 pub separable-iff : (a b : LanguageType) → (separable a b ≡ true) ↔ Separable a b
@@ -78,6 +78,17 @@ no-fault-iff types (x ∷ ns) p = go (node-fault types x p) refl (no-fault-iff t
         → (or-else o (first-fault types ns (suc p)) ≡ none) ↔ (Passes types p x × EachFrom (Passes types) (suc p) ns)
     go none e i = (λ f. (e, i .0 f), λ h. i .1 (h .1))
     go (some f) e i = (λ k. let z : _≡_ {A = ℕ} 0 1 = cc in absurd (omega arith), λ h. sym e ∙ h .0)
+
+-- The parts of each alternative are apart.
+abbrev pub AlternativesApart : List Node → List LanguageType → Type 0
+AlternativesApart ns types = (n l r : ℕ) → node-at ns n ≡ alternative-node l r → Apart (type-of types l) (type-of types r)
+
+pub passes-apart : (ns : List Node) (types : List LanguageType) → EachFrom (Passes types) 0 ns → AlternativesApart ns types
+unfolding node-fault
+passes-apart ns types h n l r e = ⊎-elim
+    (λ k. apart-iff (type-of types l) (type-of types r) .0 (unless-iff (apart (type-of types l) (type-of types r)) 10 n .0
+    (rw e at (each-member (Passes types) bottom-node ns h n k))))
+    (λ k. let z : _≡_ {A = ℕ} 0 1 = cc (List·getD-eq-default ns bottom-node {n = n} k, e) in absurd (omega arith)) (lt-or-le n (length ns))
 
 -- A fault names the node that fails.
 unless-node : (passes : Bool) (number p : ℕ) (f : Fault) → unless passes number p ≡ some f → f .node ≡ p

@@ -1,6 +1,6 @@
 -- Questions 8 to 10: "For each expression node in sheet order: is the variable guarded (Figure 2's two contexts)? No: 8.
 -- Is the sequence separable? No: 9. Are the alternatives apart? No: 10." The answer is the first node that fails.
-use mathlib.Core.Bool.{Bool, true, false, not, _&&_, cond}
+use mathlib.Core.Bool.{Bool, not, _&&_, cond}
 use mathlib.Core.List.{List, [], _∷_}
 use mathlib.Core.Option.{Option, none, some}
 use Prim.Native.Nat.{ℕ, suc}

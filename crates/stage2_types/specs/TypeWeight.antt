@@ -1,4 +1,4 @@
--- How much a type holds: a flag and the members of two sets of at most 24 tokens, so at most 49. A type that grows weighs more.
+-- How much a type holds: a flag and the members of two sets of at most 24 tokens, so at most `type-height`. A type that grows weighs more.
 -- This counts for what the rounds of the least types need, and is no part of a type's meaning.
 use mathlib.Core.Path.{_≡_, refl, ap₂, subst}
 use mathlib.Core.Bool.{Bool}
@@ -13,7 +13,7 @@ use Rattle.stage0_laws.specs.BitLaws.{∈-zero, ∈-one, ∈-cases, ∈-cond, b
 use Rattle.stage0_laws.specs.Lists.{sum}
 use Rattle.stage1_sheet.specs.Limits.{most-tokens}
 use Rattle.stage2_types.specs.Types.{LanguageType, if-null, epsilon-type, bottom-type, token-type, sequence-type, alternative-type}
-use Rattle.stage2_types.specs.LeastTypes.{type-of}
+use Rattle.stage2_types.specs.LeastTypes.{type-of, type-height}
 use Rattle.stage2_types.specs.SetOrder.{flag, flag-rises, flag-most, flag-implies, count, count-most, count-rises, count-full}
 use Rattle.stage2_types.specs.TypeLaws.{_⊑_, ⊑-antisym, AllBelow}
 
@@ -71,7 +71,7 @@ flast-small {a} f = only-small (a .flast) (f .flast-fits)
 pub weight : LanguageType → ℕ
 weight a = flag (a .null) + (count most-tokens (a .first) + count most-tokens (a .flast))
 
-weight-most : (a : LanguageType) → weight a ≤ 49
+weight-most : (a : LanguageType) → weight a ≤ type-height
 unfolding weight
 weight-most a = omega (arith, flag-most (a .null), count-most most-tokens (a .first), count-most most-tokens (a .flast))
 
@@ -100,7 +100,7 @@ weight-full {a} {b} p f h =
     })
 
 -- The same for the types of all nodes together.
-pub weights-most : (types : List LanguageType) → sum weight types ≤ 49 * length types
+pub weights-most : (types : List LanguageType) → sum weight types ≤ type-height * length types
 weights-most [] = omega arith
 weights-most (a ∷ types) = omega (arith, weight-most a, weights-most types)
 

@@ -11,11 +11,11 @@ use Rattle.stage1_sheet.specs.Expression.{Expression, size}
 use Rattle.stage1_sheet.specs.Sheet.{Sheet}
 use Rattle.stage1_sheet.specs.WellFormed.{Closed, WithinLimits}
 use Rattle.stage2_types.specs.Types.{LanguageType, bottom-type, _⊢_∶_, HasType}
-use Rattle.stage2_types.specs.Nodes.{Node, bottom-node, nodes}
+use Rattle.stage2_types.specs.Nodes.{Node, bottom-node, nodes, node-at}
 use Rattle.stage2_types.specs.LeastTypes.{type-of, least-types}
 use Rattle.stage2_types.specs.Questions.{type-fault}
 use Rattle.stage2_types.specs.TypeLaws.{_⊑_}
-use Rattle.stage2_types.specs.LeastTypeLaws.{Solves, node-at, types-long, least-below, least-solves}
+use Rattle.stage2_types.specs.LeastTypeLaws.{Solves, types-long, least-below, least-solves}
 use Rattle.stage2_types.specs.EachFrom.{EachFrom, each-member, member-each, each-map}
 use Rattle.stage2_types.specs.QuestionLaws.{Passes, passes-falls, no-fault-iff}
 use Rattle.stage2_types.specs.TypedAt.{TypedAt, typed-derivation, Listed, annotated}
@@ -48,11 +48,17 @@ module _ (e : Expression) {a : LanguageType} (d : [] ⊢ e ∶ a) where
   unfolding given
   least-type-below = subst (λ b. type-of (least-types e) 0 ⊑ b) ((annotated d) .own given 0 given-listed) (least-below e given given-solves 0)
 
+  -- A derivation's types: a solution at which every node passes.
+  pub typed-solution : (types : List LanguageType) × Solves (nodes e) types × EachFrom (Passes types) 0 (nodes e)
+  typed-solution = (given, given-solves, each-map (Holds given) (Passes given) (λ n x h. h .passes) 0 (nodes e) given-holds)
+
+  pub least-passes : EachFrom (Passes (least-types e)) 0 (nodes e)
+  least-passes = each-map (Holds given) (Passes (least-types e))
+      (λ n x h. passes-falls (least-types e) given (least-below e given given-solves) n x (h .passes)) 0 (nodes e) given-holds
+
   pub typed-no-fault : type-fault e ≡ none
   unfolding type-fault
-  typed-no-fault = no-fault-iff (least-types e) (nodes e) 0 .1
-      (each-map (Holds given) (Passes (least-types e))
-      (λ n x h. passes-falls (least-types e) given (least-below e given given-solves) n x (h .passes)) 0 (nodes e) given-holds)
+  typed-no-fault = no-fault-iff (least-types e) (nodes e) 0 .1 least-passes
 
 each-both : (types : List LanguageType) (p : ℕ) (ns : List Node) → EachFrom (Solved types) p ns
     → EachFrom (Passes types) p ns → EachFrom (Holds types) p ns

@@ -8,24 +8,18 @@ use native.Mathlib.Omega.{arith}
 use lib.Pow.{shl-exact}
 use borrow.Author.Tests.{ne-eqb}
 use Rattle.stage2_types.specs.Types.{LanguageType, epsilon-type, bottom-type, token-type, sequence-type, alternative-type}
-use Rattle.stage2_types.specs.Nodes.{variable-node}
 use Rattle.stage2_types_columns.specs.Held.{node-of}
-use Rattle.stage2_types_columns.specs.Within.{NodeWithin}
+use Rattle.stage1_sheet.specs.Limits.{most-tokens}
+use Rattle.stage2_types.specs.NodeRanges.{NodeInRange}
 use Rattle.stage2_types_checker.specs.TypeBy.{type-by}
 
 shl-one-32 : (i : ℕ) → i < 32 → (1 * 2 ^ i) % 2 ^ 32 ≡ 2 ^ i
 shl-one-32 i h = shl-exact 1 i 32 (omega arith) (omega arith) ∙ omega arith
 
 module _ (tag link i : ℕ) (guarded : Bool) where
-  -- A tag that none of the tests takes is a variable's.
-  pub other-node : (tag ≡ 0 → ⊥) → (tag ≡ 1 → ⊥) → (tag ≡ 2 → ⊥) → (tag ≡ 3 → ⊥) → (tag ≡ 4 → ⊥) → (tag ≡ 5 → ⊥)
-      → node-of tag link guarded i ≡ variable-node link guarded
-  unfolding node-of
-  other-node a b c d e f = rw (ne-eqb tag 0 a, ne-eqb tag 1 b, ne-eqb tag 2 c, ne-eqb tag 3 d, ne-eqb tag 4 e, ne-eqb tag 5 f)
-
   -- ---- what the node goes by is in the columns
 
-  module _ (within : NodeWithin 64 (node-of tag link guarded i)) where
+  module _ (within : NodeInRange most-tokens 64 (node-of tag link guarded i)) where
     pub token-small : tag ≡ 2 → link < 32
     unfolding node-of
     token-small e = let h : link < 24 = rw e at within in omega arith
@@ -39,7 +33,8 @@ module _ (tag link i : ℕ) (guarded : Bool) where
     unfolding node-of
     body-small e = let h : suc i < 64 = rw e at within in omega arith
 
-    pub binder-small : node-of tag link guarded i ≡ variable-node link guarded → link < 64
+    pub binder-small : tag ≡ 6 → link < 64
+    unfolding node-of
     binder-small e = rw e at within
 
   -- ---- the equation
@@ -72,6 +67,13 @@ module _ (tag link i : ℕ) (guarded : Bool) where
     unfolding type-by node-of
     type-body e h = rw e (h ∙ ap f (add-one i))
 
-    pub type-other : node-of tag link guarded i ≡ variable-node link guarded → t ≡ f link → t ≡ type-by f (node-of tag link guarded i)
-    unfolding type-by
-    type-other e h = rw e h
+    pub type-variable : tag ≡ 6 → t ≡ f link → t ≡ type-by f (node-of tag link guarded i)
+    unfolding type-by node-of
+    type-variable e h = rw e h
+
+    -- A number that is no tag has the type of ⊥.
+    pub type-other : (tag ≡ 0 → ⊥) → (tag ≡ 1 → ⊥) → (tag ≡ 2 → ⊥) → (tag ≡ 3 → ⊥) → (tag ≡ 4 → ⊥) → (tag ≡ 5 → ⊥) → (tag ≡ 6 → ⊥)
+        → t ≡ record { null = false; first = 0; flast = 0 } → t ≡ type-by f (node-of tag link guarded i)
+    unfolding type-by node-of bottom-type
+    type-other p q r s u v w h =
+        rw (ne-eqb tag 0 p, ne-eqb tag 1 q, ne-eqb tag 2 r, ne-eqb tag 3 s, ne-eqb tag 4 u, ne-eqb tag 5 v, ne-eqb tag 6 w) h

@@ -1,20 +1,18 @@
 -- The tests on two types, and the question that a node is asked, from its tag and link: a law for each way through the code.
 use mathlib.Core.Path.{_≡_, refl, sym}
-use mathlib.Core.Bool.{Bool, true, false, not, _&&_, Bool·beq, and-false}
-use Prim.Native.Nat.{ℕ, zero, suc, _+_, _≤_, _<_}
+use mathlib.Core.Bool.{Bool, true, false, not, _&&_, Bool·beq, and-false, cond}
+use Prim.Native.Nat.{ℕ, suc, _+_}
 use native.Mathlib.Numerals.{add-one}
-use native.Mathlib.Omega.{arith}
 use lib.Bits.{bitAnd}
 use lib.Dec.{eqb}
 use borrow.Author.Tests.{ne-eqb, eq-eqb}
 use Rattle.stage2_types.specs.Types.{LanguageType}
-use Rattle.stage2_types.specs.Nodes.{variable-node}
+use Rattle.stage2_types.specs.Nodes.{epsilon-node, bottom-node, token-node, fixed-point-node}
 use Rattle.stage2_types.specs.LeastTypes.{same-type}
 use Rattle.stage2_types.specs.Questions.{separable, apart, unless}
 use Rattle.stage2_types_columns.specs.Held.{node-of}
 use Rattle.stage2_types_checker.specs.TypeBy.{fault-by}
 use Rattle.stage2_types_checker.specs.Found.{asked}
-use Rattle.stage2_types_checker.proofs.Equation.{other-node}
 
 -- ---- the tests on two types
 
@@ -49,30 +47,27 @@ module _ (a b : LanguageType) where
 
 -- ---- the question
 
-module _ (f : ℕ → LanguageType) (link i : ℕ) (guarded : Bool) where
-  -- Epsilon, bottom, a token and a fixed point are asked nothing.
-  pub asked-nothing : (tag : ℕ) → tag < 6 → (tag ≡ 3 → ⊥) → (tag ≡ 4 → ⊥) → asked 0 i ≡ fault-by f (node-of tag link guarded i) i
-  unfolding asked fault-by node-of
-  asked-nothing zero l a b = refl
-  asked-nothing (suc zero) l a b = refl
-  asked-nothing (suc (suc zero)) l a b = refl
-  asked-nothing (suc (suc (suc zero))) l a b = absurd (a refl)
-  asked-nothing (suc (suc (suc (suc zero)))) l a b = absurd (b refl)
-  asked-nothing (suc (suc (suc (suc (suc zero))))) l a b = refl
-  asked-nothing (suc (suc (suc (suc (suc (suc tag)))))) l a b = absurd (omega arith)
-
 module _ (f : ℕ → LanguageType) (tag link i : ℕ) (guarded : Bool) where
-  pub variable-of-tag : 6 ≤ tag → node-of tag link guarded i ≡ variable-node link guarded
-  variable-of-tag l = other-node tag link i guarded (λ e. omega arith) (λ e. omega arith) (λ e. omega arith) (λ e. omega arith) (λ e. omega arith)
-      (λ e. omega arith)
+  -- A sequence, an alternative and a variable are asked something, and nothing else is.
+  pub asked-nothing : (tag ≡ 3 → ⊥) → (tag ≡ 4 → ⊥) → (tag ≡ 6 → ⊥) → asked 0 i ≡ fault-by f (node-of tag link guarded i) i
+  unfolding asked fault-by node-of
+  asked-nothing a b c = rw (ne-eqb tag 3 a, ne-eqb tag 4 b, ne-eqb tag 6 c) (go (eqb tag 0) (eqb tag 1) (eqb tag 2) (eqb tag 5))
+    where
+      go : (p q r s : Bool) → asked 0 i
+          ≡ fault-by f (cond p epsilon-node (cond q bottom-node (cond r (token-node link) (cond s (fixed-point-node (suc i)) bottom-node)))) i
+      go true q r s = refl
+      go false true r s = refl
+      go false false true s = refl
+      go false false false true = refl
+      go false false false false = refl
 
-  pub variable-passes : 6 ≤ tag → guarded ≡ true → asked 0 i ≡ fault-by f (node-of tag link guarded i) i
-  unfolding asked fault-by unless
-  variable-passes l g = rw (variable-of-tag l, g)
+  pub variable-passes : tag ≡ 6 → guarded ≡ true → asked 0 i ≡ fault-by f (node-of tag link guarded i) i
+  unfolding asked fault-by unless node-of
+  variable-passes e g = rw (e, g)
 
-  pub variable-fails : 6 ≤ tag → guarded ≡ false → asked 8 i ≡ fault-by f (node-of tag link guarded i) i
-  unfolding asked fault-by unless
-  variable-fails l g = rw (variable-of-tag l, g)
+  pub variable-fails : tag ≡ 6 → guarded ≡ false → asked 8 i ≡ fault-by f (node-of tag link guarded i) i
+  unfolding asked fault-by unless node-of
+  variable-fails e g = rw (e, g)
 
   module _ {a b : LanguageType} (left : a ≡ f (i + 1)) (right : b ≡ f link) {r : Bool} where
     pub sequence-passes : tag ≡ 3 → r ≡ separable a b → r ≡ true → asked 0 i ≡ fault-by f (node-of tag link guarded i) i

@@ -19,13 +19,15 @@ use Rattle.stage0_laws.specs.Lists.{settle, or-else}
 use Rattle.stage0_laws.specs.Order.{compare-cases}
 use Rattle.stage2_types.specs.Types.{LanguageType, bottom-type}
 use Rattle.stage2_types.specs.Nodes.{Node, epsilon-node, bottom-node, token-node, sequence-node, alternative-node, fixed-point-node, variable-node}
-use Rattle.stage2_types.specs.LeastTypes.{node-type, next-types, same-type, same-types, type-rounds, types-of}
+use Rattle.stage2_types.specs.LeastTypes.{node-type, next-types, same-type, same-types, type-rounds, types-of, type-height}
 use Rattle.stage2_types.specs.Questions as questions
 use Rattle.stage2_types.specs.Questions.{first-fault}
 use Rattle.stage2_types_columns.specs.Tabulate.{tabulate, tabulate-length, tabulate-same, tabulate-map, tabulate-next, tabulate-end}
 use Rattle.stage2_types_columns.specs.Joining.{joined-here, joined-below, joined-low}
 use Rattle.stage2_types_columns.specs.Held.{node-of, held-node, held-nodes, held-type, held-types}
-use Rattle.stage2_types_columns.specs.Within.{NodeWithin, within-more, LinksFit}
+use Rattle.stage1_sheet.specs.Limits.{most-tokens}
+use Rattle.stage2_types.specs.NodeRanges.{NodeInRange, in-range-more}
+use Rattle.stage2_types_columns.specs.Within.{LinksFit}
 use Rattle.stage2_types_columns.specs.declared.NodeLinks.{NodeLinks}
 use Rattle.stage2_types_columns.specs.declared.TypeColumns.{TypeColumns}
 use Rattle.stage2_types_checker.specs.TypeBy.{type-by, fault-by, node-type-by, node-fault-by}
@@ -42,30 +44,32 @@ type-in c = held-type (c .null) (c .first) (c .flast)
 -- ---- a node that is read
 
 -- Which nodes a node goes by has nothing to do with whether it is guarded.
-within-guard : (n tag link i : ℕ) (g h : Bool) → NodeWithin n (node-of tag link g i) → NodeWithin n (node-of tag link h i)
+within-guard : (n tag link i : ℕ) (g h : Bool) → NodeInRange most-tokens n (node-of tag link g i)
+    → NodeInRange most-tokens n (node-of tag link h i)
 unfolding node-of
-within-guard n tag link i g h = go (eqb tag 0) (eqb tag 1) (eqb tag 2) (eqb tag 3) (eqb tag 4) (eqb tag 5)
+within-guard n tag link i g h = go (eqb tag 0) (eqb tag 1) (eqb tag 2) (eqb tag 3) (eqb tag 4) (eqb tag 5) (eqb tag 6)
   where
-    pick : Bool → Bool → Bool → Bool → Bool → Bool → Bool → Node
-    pick a b c d e f g =
+    pick : Bool → Bool → Bool → Bool → Bool → Bool → Bool → Bool → Node
+    pick a b c d e f v g =
         cond a epsilon-node (cond b bottom-node (cond c (token-node link) (cond d (sequence-node (suc i) link)
-        (cond e (alternative-node (suc i) link) (cond f (fixed-point-node (suc i)) (variable-node link g))))))
+        (cond e (alternative-node (suc i) link) (cond f (fixed-point-node (suc i)) (cond v (variable-node link g) bottom-node))))))
 
-    go : (a b c d e f : Bool) → NodeWithin n (pick a b c d e f g) → NodeWithin n (pick a b c d e f h)
-    go true b c d e f w = w
-    go false true c d e f w = w
-    go false false true d e f w = w
-    go false false false true e f w = w
-    go false false false false true f w = w
-    go false false false false false true w = w
-    go false false false false false false w = w
+    go : (a b c d e f v : Bool) → NodeInRange most-tokens n (pick a b c d e f v g) → NodeInRange most-tokens n (pick a b c d e f v h)
+    go true b c d e f v w = w
+    go false true c d e f v w = w
+    go false false true d e f v w = w
+    go false false false true e f v w = w
+    go false false false false true f v w = w
+    go false false false false false true v w = w
+    go false false false false false false true w = w
+    go false false false false false false false w = w
 
 pub node-fits : (links : NodeLinks) → LinksFit links → (i : ℕ) → i < links .count → (guarded : Bool)
-    → NodeWithin 64 (node-of (getD (links .tag) i 0) (getD (links .link) i 0) guarded i)
+    → NodeInRange most-tokens 64 (node-of (getD (links .tag) i 0) (getD (links .link) i 0) guarded i)
 unfolding held-node
 node-fits links fit i l guarded =
     within-guard 64 (getD (links .tag) i 0) (getD (links .link) i 0) i (bit (links .guarded) i) guarded
-    (within-more (links .count) 64 (node-at links i) (fit .count-fits) (fit .all-within i l))
+    (in-range-more most-tokens most-tokens (links .count) 64 (node-at links i) (omega arith) (fit .count-fits) (fit .all-within i l))
 
 pub fault-read : (links : NodeLinks) (types : TypeColumns) (i number : ℕ) (guarded : Bool) → guarded ≡ bit (links .guarded) i
     → asked number i ≡ fault-by (type-in types) (node-of (getD (links .tag) i 0) (getD (links .link) i 0) guarded i) i
@@ -196,10 +200,10 @@ module _ (links : NodeLinks) where
   bottoms (suc n) i f h = ap₂ _∷_ (h i (omega arith)) (bottoms n (suc i) f (λ k l. h k (omega arith)))
 
   pub rounds-first : links .count ≤ 64
-      → settled links (49 * links .count) no-types ≡ types-of (held-nodes links)
+      → settled links (type-height * links .count) no-types ≡ types-of (held-nodes links)
   unfolding types-of type-rounds held-types held-nodes held-type bottom-type
   rounds-first fits = ap₂ (settle same-types (next-types (held-nodes links)))
-      (ap (λ (n : ℕ). 49 * n) (sym (tabulate-length (node-at links) 0 (links .count))))
+      (ap (λ (n : ℕ). type-height * n) (sym (tabulate-length (node-at links) 0 (links .count))))
       (bottoms (links .count) 0 (held-type 0 (replicate 64 0) (replicate 64 0))
       (λ k l. rw (bit-zero k, getD-replicate {A = ℕ} 64 k 0 0 (omega arith)))
       ∙ ap (λ (n : ℕ). replicate n bottom-type) (sym (tabulate-length (node-at links) 0 (links .count))))

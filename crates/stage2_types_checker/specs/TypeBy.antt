@@ -9,7 +9,8 @@ use Rattle.stage2_types.specs.Nodes.{Node, epsilon-node, bottom-node, token-nod
 use Rattle.stage2_types.specs.LeastTypes.{type-of, node-type}
 use Rattle.stage2_types.specs.Questions.{Fault, separable, apart, unless, node-fault}
 use Rattle.stage2_types_columns.specs.Tabulate.{tabulate, tabulate-at}
-use Rattle.stage2_types_columns.specs.Within.{NodeWithin}
+use Rattle.stage1_sheet.specs.Limits.{most-tokens}
+use Rattle.stage2_types.specs.NodeRanges.{NodeInRange}
 
 unfoldable pub type-by : (ℕ → LanguageType) → Node → LanguageType
 type-by f epsilon-node = epsilon-type
@@ -33,7 +34,7 @@ module _ (f : ℕ → LanguageType) (n : ℕ) where
   pub type-of-listed : (k : ℕ) → k < n → type-of (tabulate f 0 n) k ≡ f k
   type-of-listed k l = tabulate-at f bottom-type 0 n k l ∙ ap f (omega arith)
 
-  pub node-type-by : (x : Node) → NodeWithin n x → node-type (tabulate f 0 n) x ≡ type-by f x
+  pub node-type-by : (x : Node) → NodeInRange most-tokens n x → node-type (tabulate f 0 n) x ≡ type-by f x
   unfolding node-type type-by
   node-type-by epsilon-node w = refl
   node-type-by bottom-node w = refl
@@ -43,7 +44,7 @@ module _ (f : ℕ → LanguageType) (n : ℕ) where
   node-type-by (fixed-point-node b) w = type-of-listed b w
   node-type-by (variable-node v guarded) w = type-of-listed v w
 
-  pub node-fault-by : (x : Node) (p : ℕ) → NodeWithin n x → node-fault (tabulate f 0 n) x p ≡ fault-by f x p
+  pub node-fault-by : (x : Node) (p : ℕ) → NodeInRange most-tokens n x → node-fault (tabulate f 0 n) x p ≡ fault-by f x p
   unfolding node-fault fault-by
   node-fault-by epsilon-node p w = refl
   node-fault-by bottom-node p w = refl

@@ -13,10 +13,15 @@ ghost use Rattle.stage2_types.specs.LeastTypes.{next-types, same-type, same-typ
 ghost use Rattle.stage2_types.specs.Questions.{separable, apart, first-fault};
 ghost use Rattle.stage2_types_columns.specs.Held.{node-of, held-nodes, held-type, held-types};
 ghost use Rattle.stage2_types_columns.specs.Linked.{SheetExpression};
-ghost use Rattle.stage2_types_columns.specs.Within.{NodeWithin, LinksFit};
+ghost use Rattle.stage1_sheet.specs.Limits.{most-tokens};
+ghost use Rattle.stage2_types.specs.NodeRanges.{NodeInRange};
+ghost use Rattle.stage2_types_columns.specs.Within.{LinksFit};
 ghost use Rattle.stage2_types_checker.specs.TypeBy.{type-by, fault-by};
 ghost use Rattle.stage2_types_checker.specs.Found.{language-type, fault-of, asked};
 ghost use Rattle.stage2_types_checker.specs.Checking.{CheckedOf};
+
+// How often a node's type can grow: once to nullable, and by each of 24 tokens in each of two sets.
+const TYPE_HEIGHT: usize = 49;
 
 // The type of one node.
 pub struct NodeType {
@@ -147,7 +152,7 @@ fn node_type<'a>(
     link: u8,
     i: usize,
 ) -> NodeType
-    requires { ⌜ ((guarded : Bool) → NodeWithin 64 (node-of tag link guarded i)) ⌝ }
+    requires { ⌜ ((guarded : Bool) → NodeInRange most-tokens 64 (node-of tag link guarded i)) ⌝ }
     ensures { λ r. ⌜
         (
         (guarded : Bool)
@@ -179,7 +184,10 @@ fn node_type<'a>(
     if tag == 5 {
         return type_at(null, first, flast, i + 1);
     }
-    type_at(null, first, flast, to)
+    if tag == 6 {
+        return type_at(null, first, flast, to);
+    }
+    without_flast(false, 0)
 }
 
 // All equations at once.
@@ -235,7 +243,7 @@ pub fn least_types(links: NodeLinks) -> TypeColumns
         first: [0; 64],
         flast: [0; 64],
     };
-    let mut rounds = 49 * count;
+    let mut rounds = TYPE_HEIGHT * count;
     while 0 < rounds {
         let next = next_types(links, types);
         let same = same_types(count, types, next);
@@ -258,7 +266,7 @@ fn node_fault<'a>(
     guarded: bool,
     i: usize,
 ) -> u8
-    requires { ⌜ NodeWithin 64 (node-of tag link guarded i) ⌝ }
+    requires { ⌜ NodeInRange most-tokens 64 (node-of tag link guarded i) ⌝ }
     ensures { λ r. ⌜
         asked r i
         ≡ fault-by (held-type null (now (first .entry)) (now (flast .entry))) (node-of tag link guarded i) i
@@ -281,13 +289,13 @@ fn node_fault<'a>(
         }
         return 10;
     }
-    if tag < 6 {
-        return 0;
+    if tag == 6 {
+        if guarded {
+            return 0;
+        }
+        return 8;
     }
-    if guarded {
-        return 0;
-    }
-    8
+    0
 }
 
 // The first node, in sheet order, whose question fails.

@@ -11,7 +11,8 @@ use Rattle.stage2_types_columns.specs.Tabulate.{tabulate}
 use Rattle.stage2_types_columns.specs.declared.NodeLinks.{NodeLinks}
 use Rattle.stage2_types_columns.specs.declared.TypeColumns.{TypeColumns}
 
--- Node i from its tag, its link and whether it is in the set of guarded variables.
+-- Node i from its tag, its link and whether it is in the set of guarded variables. A number that is no tag is a node that has no
+-- productions and no words, as ⊥ has none.
 unfoldable pub node-of : ℕ → ℕ → Bool → ℕ → Node
 node-of tag link guarded i =
     cond (eqb tag 0) epsilon-node
@@ -19,7 +20,8 @@ node-of tag link guarded i =
     (cond (eqb tag 2) (token-node link)
     (cond (eqb tag 3) (sequence-node (suc i) link)
     (cond (eqb tag 4) (alternative-node (suc i) link)
-    (cond (eqb tag 5) (fixed-point-node (suc i)) (variable-node link guarded))))))
+    (cond (eqb tag 5) (fixed-point-node (suc i))
+    (cond (eqb tag 6) (variable-node link guarded) bottom-node))))))
 
 -- Node i of columns of tags and links, and a set.
 unfoldable pub held-node : List ℕ → List ℕ → ℕ → ℕ → Node

@@ -6,8 +6,7 @@ use native.Mathlib.Omega.{arith}
 use lib.ListN.{length}
 use Rattle.stage2_types.specs.Types.{LanguageType, bottom-type}
 use Rattle.stage2_types.specs.LeastTypes.{type-of}
-use Rattle.stage2_types.specs.LeastTypeLaws.{node-at}
-use Rattle.stage2_types.specs.Nodes.{Node, bottom-node}
+use Rattle.stage2_types.specs.Nodes.{Node, bottom-node, node-at}
 use Rattle.stage2_types_columns.specs.Tabulate.{tabulate-length, tabulate-at}
 use Rattle.stage2_types_columns.specs.Held.{held-node, held-nodes, held-type, held-types}
 use Rattle.stage2_types_columns.specs.declared.NodeLinks.{NodeLinks}

@@ -20,7 +20,8 @@ item-of tag number =
     (cond (eqb tag 2) (token-item number)
     (cond (eqb tag 3) sequence-item
     (cond (eqb tag 4) alternative-item
-    (cond (eqb tag 5) fixed-point-item (variable-item number))))))
+    (cond (eqb tag 5) fixed-point-item
+    (cond (eqb tag 6) (variable-item number) bottom-item))))))
 
 item-back : (i : ExpressionItem) → item-of (expression-tag i) (number-after i) ≡ i
 unfolding item-of expression-tag number-after

@@ -12,9 +12,9 @@ use Rattle.stage0_laws.specs.Lists.{settle}
 use Rattle.stage1_sheet.specs.Expression.{Expression, epsilon, bottom, token, sequence, alternative, fixed-point, variable, size}
 use Rattle.stage2_types.specs.Denotation.{Language, iterate, Environment, language-at, denotation}
 use Rattle.stage2_types.specs.Types.{LanguageType, _⊢_∶_}
-use Rattle.stage2_types.specs.Nodes.{Node, epsilon-node, bottom-node, token-node, sequence-node, alternative-node, fixed-point-node, variable-node, nodes}
+use Rattle.stage2_types.specs.Nodes.{Node, epsilon-node, bottom-node, token-node, sequence-node, alternative-node, fixed-point-node, variable-node, nodes, node-at}
 use Rattle.stage3_normal_form.specs.Derives.{derives-at, node-derives, next-derives, same-flags, derives}
-use Rattle.stage3_normal_form.specs.Places.{node-at, Placed, Everywhere, everywhere-all}
+use Rattle.stage3_normal_form.specs.Places.{Placed, Everywhere, everywhere-all}
 use Rattle.stage3_normal_form.specs.NodeLanguages.{language-of, languages-past, PartsDenote, whole-site, node-language, language-equation}
 use Rattle.stage0_laws.specs.Settling.{settled}
 

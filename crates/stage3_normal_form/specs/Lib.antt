@@ -4,6 +4,7 @@ pub mod Productions
 pub mod Derives
 pub mod NormalForm
 pub mod Computing
+pub mod ProductionLaws
 pub mod Places
 pub mod Descent
 pub mod RowEquations
@@ -11,14 +12,13 @@ pub mod NodeLanguages
 pub mod Unfolding
 pub mod Pending
 pub mod DerivesExact
-pub mod DistinctHeads
-pub mod RowFacts
+pub mod KeptRows
+pub mod RowTypes
 pub mod NormalFormLaws
+pub mod NullExact
 pub mod Tails
 pub mod Examples
-pub mod TypesExact
 pub mod Expansion
-pub mod LinkRanges
 pub mod RightParts
 pub mod ProductionWalk
 pub mod ProductionWalkLaws

@@ -12,8 +12,8 @@ use Rattle.stage2_types.specs.Denotation.{Language, no-words, followed-by, eith
 use Rattle.stage2_types.specs.DenotationLaws.{Pointwise, pointwise-nil, pointwise-cons, fixed-point-unrolls}
 use Rattle.stage2_types.specs.Types.{LanguageType, bottom-type, Context, all-usable, Usable, here, there, _⊢_∶_, type-epsilon, type-bottom, type-token, type-variable, type-sequence, type-alternative, type-fixed-point}
 use Rattle.stage2_types.specs.Soundness.{Satisfies, SatisfiesHypothesis, satisfies-usable, sound}
-use Rattle.stage2_types.specs.Nodes.{Node, epsilon-node, bottom-node, token-node, sequence-node, alternative-node, fixed-point-node, variable-node, nodes}
-use Rattle.stage3_normal_form.specs.Places.{Segment, segment-left, segment-right, segment-all, node-at, Placed, nodes-placed, nodes-count, Everywhere, everywhere-all, usable-still, usable-again, none-usable}
+use Rattle.stage2_types.specs.Nodes.{Node, epsilon-node, bottom-node, token-node, sequence-node, alternative-node, fixed-point-node, variable-node, nodes, node-at}
+use Rattle.stage3_normal_form.specs.Places.{Segment, segment-left, segment-right, segment-all, Placed, nodes-placed, nodes-count, Everywhere, everywhere-all, usable-still, usable-again, none-usable}
 
 -- The languages of all nodes of g, in sheet order.
 unfoldable pub languages-from : Expression → Environment → List Language

@@ -1,116 +1,152 @@
--- The normal form of a typed expression fits a run: dropping the productions whose tail holds a node without words changes no
--- language, each row has at most one production a token, and its tails are good and have words. How a run goes is not said here.
-use mathlib.Core.Path.{_≡_, refl, sym, subst, _∙_}
-use mathlib.Core.Bool.{Bool, true, false}
-use mathlib.Core.List.{List, [], _∷_, List·Memᴰ, List·Memᴰ·head, List·Memᴰ·tail, List·Memᴰ·not-nil, List·Memᴰ·cases-cons}
+-- The normal form of a typed expression fits a run: each row unfolds its node's language in one step and has at most one production a
+-- token, and its tails are good and have words. All of it by the equations of the rows that stay; how a run goes is not said here.
+use mathlib.Core.Path.{_≡_, refl, sym, ap, subst, _∙_}
+use mathlib.Core.Bool.{Bool, true, false, cond, true≢false}
+use mathlib.Core.List.{List, [], _∷_, _++_, List·Memᴰ·not-nil, List·Memᴰ·eq-of-singleton, List·Memᴰ·append-cases, Memᴰ·of-map}
 use mathlib.Core.Logic.{_↔_, ⊎-elim}
-use Prim.Native.Nat.{ℕ}
-use lib.Dec.{T}
-use lib.ListN.{length, length-map, List·getD-map}
-use Rattle.stage0_laws.specs.Truth.{and-both, and-first, and-second, holds-true, true-holds}
-use Rattle.stage1_sheet.specs.Expression.{Expression, size}
-use Rattle.stage2_types.specs.Denotation.{Language, Denotes}
-use Rattle.stage2_types.specs.Types.{LanguageType, _⊢_∶_}
-use Rattle.stage3_normal_form.specs.Productions.{Production, Row, no-productions, row-of, rows}
+use Prim.Native.Nat.{ℕ, suc, _+_, _≤_}
+use lib.ListN.{getD, List·getD-eq-default}
+use Rattle.stage0_laws.specs.BitLaws.{∈-disjoint}
+use Rattle.stage1_sheet.specs.Expression.{Expression, fixed-point, size}
+use Rattle.stage2_types.specs.Denotation.{Language, followed-by, either, Environment, denotation, Denotes}
+use Rattle.stage2_types.specs.Types.{LanguageType, bottom-type, Separable, Context, Usable, there, _⊢_∶_, type-epsilon, type-bottom, type-token, type-variable, type-sequence, type-alternative, type-fixed-point}
+use Rattle.stage2_types.specs.Soundness.{Satisfies}
+use Rattle.stage2_types.specs.Nodes.{Node, nodes, node-at}
+use Rattle.stage3_normal_form.specs.Productions.{Production, Row, no-productions, ended-by, row-of, node-row}
+use Rattle.stage3_normal_form.specs.ProductionLaws.{distinct-same}
 use Rattle.stage3_normal_form.specs.Derives.{derives-at, derives}
-use Rattle.stage3_normal_form.specs.NormalForm.{all-derive, kept, kept-row, normal-form}
-use Rattle.stage3_normal_form.specs.RowEquations.{rows-length}
-use Rattle.stage3_normal_form.specs.NodeLanguages.{language-of, start-language}
+use Rattle.stage3_normal_form.specs.NormalForm.{normal-form}
+use Rattle.stage3_normal_form.specs.KeptRows.{staying-row, normal-form-solves, normal-form-length}
+use Rattle.stage3_normal_form.specs.RowTypes.{normal-form-distinct}
+use Rattle.stage3_normal_form.specs.NodeLanguages.{language-of, languages-past, start-language, node-language, Site, at-left, at-right, at-first, at-second, at-body, site-sound, site-equation, at-every-node}
 use Rattle.stage3_normal_form.specs.DerivesExact.{HasWord, derives-exact}
-use Rattle.stage3_normal_form.specs.Unfolding.{_of_, concatenation, ByRow, by-epsilon, by-production, Unfolds, one-node}
-use Rattle.stage3_normal_form.specs.Pending.{HaveWords, words-of-each, Fits}
-use Rattle.stage3_normal_form.specs.RowFacts.{row-fits, rows-unfold, rows-distinct}
-use Rattle.stage3_normal_form.specs.DistinctHeads.{DistinctHeads, distinct-same}
+use Rattle.stage3_normal_form.specs.Unfolding.{token-row, sequence-row, alternative-row, _of_, concatenation, Unfolds, one-node, epsilon-unfolds, bottom-unfolds, token-unfolds, sequence-unfolds, alternative-unfolds, production-word}
+use Rattle.stage3_normal_form.specs.Pending.{Good, HaveWords, good-append, good-one, have-words-append, Fits}
 
--- A production is kept iff it was there and every node of its tail derives.
-module _ (flags : List Bool) where
-  kept-step : (q r : Production) (l : List Production) (b : Bool) → all-derive flags (r .tail) ≡ b
-      → (q of (record { empty = false; productions = kept flags l }) ↔ (List·Memᴰ q l × T (all-derive flags (q .tail))))
-      → List·Memᴰ q (elim b [ true ↦ r ∷ kept flags l | false ↦ kept flags l ]) ↔ (List·Memᴰ q (r ∷ l) × T (all-derive flags (q .tail)))
-  kept-step q r l true e f = (
-    (λ m. ⊎-elim (λ p. (List·Memᴰ·head p, subst (λ (z : Production). T (all-derive flags (z .tail))) (sym p) (subst T (sym e) tt)))
-        (λ k. (List·Memᴰ·tail (f .0 k .0), f .0 k .1)) (List·Memᴰ·cases-cons m)),
-    λ x. ⊎-elim (λ p. List·Memᴰ·head p) (λ k. List·Memᴰ·tail (f .1 (k, x .1))) (List·Memᴰ·cases-cons (x .0)),
-  )
-  kept-step q r l false e f = (
-    (λ m. (List·Memᴰ·tail (f .0 m .0), f .0 m .1)),
-    λ x. ⊎-elim (λ p. absurd (subst T e (subst (λ (z : Production). T (all-derive flags (z .tail))) p (x .1)))) (λ k. f .1 (k, x .1))
-        (List·Memᴰ·cases-cons (x .0)),
-  )
+module _ (N : ℕ → Language) where
+  -- The row P of a node with the language L.
+  pub record RowFits (L : Language) (P : Row) : Type 0 where
+    pub unfolds : Unfolds N L P
+    pub tail-words : (q : Production) → q of P → HaveWords N (q .tail)
+    pub tail-good : (q : Production) → q of P → Good N (q .tail)
 
-  pub kept-exact : (q : Production) (l : List Production) → List·Memᴰ q (kept flags l) ↔ (List·Memᴰ q l × T (all-derive flags (q .tail)))
-  unfolding kept
-  kept-exact q [] = (λ m. absurd (List·Memᴰ·not-nil m), λ x. absurd (List·Memᴰ·not-nil (x .0)))
-  kept-exact q (r ∷ l) = kept-step q r l (all-derive flags (r .tail)) refl (kept-exact q l)
+  without-productions : (L : Language) (empty : Bool) → Unfolds N L (record { empty = empty; productions = [] })
+      → RowFits L (record { empty = empty; productions = [] })
+  without-productions L empty u =
+      record { unfolds = u; tail-words = λ q m. absurd (List·Memᴰ·not-nil m); tail-good = λ q m. absurd (List·Memᴰ·not-nil m) }
 
-pub normal-form-row : (e : Expression) (n : ℕ) → row-of (normal-form e) n ≡ kept-row (derives e) (row-of (rows e) n)
-unfolding normal-form kept-row kept
-normal-form-row e n = List·getD-map (kept-row (derives e)) (rows e) n no-productions
+  token-fits : (t : ℕ) (L : Language) → ((w : List ℕ) → L w ↔ (w ≡ t ∷ [])) → RowFits L (token-row t)
+  token-fits t L f = record {
+    unfolds = token-unfolds N t L f;
+    tail-words = λ q m. subst (λ (z : Production). HaveWords N (z .tail)) (sym (List·Memᴰ·eq-of-singleton m)) tt;
+    tail-good = λ q m. subst (λ (z : Production). Good N (z .tail)) (sym (List·Memᴰ·eq-of-singleton m)) tt;
+  }
 
-pub normal-form-length : (e : Expression) → length (normal-form e) ≡ size e
-unfolding normal-form
-normal-form-length e = length-map (rows e) (kept-row (derives e)) ∙ rows-length e
+  alternative-fits : (L L₁ L₂ : Language) (P Q : Row) → ((w : List ℕ) → L w ↔ either L₁ L₂ w) → RowFits L₁ P → RowFits L₂ Q
+      → RowFits L (alternative-row P Q)
+  alternative-fits L L₁ L₂ P Q f x y = record {
+    unfolds = alternative-unfolds N L L₁ L₂ P Q f (x .unfolds) (y .unfolds);
+    tail-words = λ q m. ⊎-elim (x .tail-words q) (y .tail-words q) (List·Memᴰ·append-cases (P .productions) m);
+    tail-good = λ q m. ⊎-elim (x .tail-good q) (y .tail-good q) (List·Memᴰ·append-cases (P .productions) m);
+  }
 
--- A production of the normal form is one of the row, and every node of its tail derives a token sequence.
-pub kept-production : (e : Expression) (n : ℕ) (q : Production) → q of row-of (normal-form e) n
-    → (q of row-of (rows e) n) × T (all-derive (derives e) (q .tail))
-unfolding kept-row
-kept-production e n q m = kept-exact (derives e) q ((row-of (rows e) n) .productions) .0 (rw (normal-form-row e n) at m)
+  -- The right node comes at the end of each tail: separable types keep it apart from what may follow the left part's words.
+  sequence-fits : (L L₁ : Language) (n : ℕ) (P : Row) (a b : LanguageType) → ((w : List ℕ) → L w ↔ followed-by L₁ (N n) w)
+      → RowFits L₁ P → HasWord (N n) → Satisfies L₁ a → Satisfies (N n) b → Separable a b → RowFits L (sequence-row n P)
+  unfolding ended-by
+  sequence-fits L L₁ n P a b f x i s s' k = record {
+    unfolds = sequence-unfolds N L L₁ n P f (λ h. true≢false (sym (s .null-holds h) ∙ k .not-null)) (x .unfolds);
+    tail-words = λ q m. let o = Memᴰ·of-map (ended-by n) (P .productions) m in
+        subst (λ (z : Production). HaveWords N (z .tail)) (o .2)
+        (have-words-append N (o .0 .tail) (n ∷ []) (x .tail-words (o .0) (o .1)) (i, tt));
+    tail-good = λ q m. let o = Memᴰ·of-map (ended-by n) (P .productions) m in
+        subst (λ (z : Production). Good N (z .tail)) (o .2) (longer (o .0) (o .1));
+  }
+    where
+      longer : (q : Production) → q of P → Good N (q .tail ++ (n ∷ []))
+      longer q m = good-append N (q .tail) (n ∷ []) (x .tail-good q m) (x .tail-words q m)
+          (λ c f g. ∈-disjoint (a .flast) (b .first) c (k .disjoint)
+          (s .flast-holds (q .head) (f .0) c (f .1) (production-word N (x .unfolds) q (f .0) m (f .2))
+          (production-word N (x .unfolds) q (f .0 ++ (c ∷ f .1)) m (f .3)))
+          (s' .first-holds c (g .0) (one-node N n (c ∷ g .0) .0 (g .1)))) (good-one N n)
 
-module _ (N : ℕ → Language) (flags : List Bool) (exact : (n : ℕ) → (derives-at flags n ≡ true) ↔ HasWord (N n)) where
-  all-derive-exact : (β : List ℕ) → T (all-derive flags β) ↔ HaveWords N β
-  unfolding all-derive
-  all-derive-exact [] = (λ t. tt, λ h. tt)
-  all-derive-exact (n ∷ β) = let r = all-derive-exact β in (
-    (λ t. (
-      exact n .0 (holds-true (derives-at flags n) (and-first (derives-at flags n) (all-derive flags β) t)),
-      r .0 (and-second (derives-at flags n) (all-derive flags β) t),
-    )),
-    λ h. and-both (derives-at flags n) (all-derive flags β) (true-holds (derives-at flags n) (exact n .1 (h .0))) (r .1 (h .1)),
-  )
+  -- A right part without words leaves the sequence none, and its row none.
+  dead-fits : (L L₁ : Language) (n : ℕ) → ((w : List ℕ) → L w ↔ followed-by L₁ (N n) w) → (HasWord (N n) → ⊥) → RowFits L no-productions
+  dead-fits L L₁ n f i = without-productions L false
+      (bottom-unfolds N L (λ w. (λ h. let y = f w .0 h in i (y .1, y .4), λ z. absurd z)))
 
-  -- No word comes from a production that goes.
-  to-kept : (P : Row) {w : List ℕ} → ByRow N P w → ByRow N (kept-row flags P) w
-  unfolding kept-row
-  to-kept P (by-epsilon t) = by-epsilon t
-  to-kept P (by-production {q = q} {w = w} m c) =
-      by-production (kept-exact flags q (P .productions) .1 (m, all-derive-exact (q .tail) .1 (words-of-each N (q .tail) w c))) c
+  same-fits : (L M : Language) (P : Row) → ((w : List ℕ) → L w ↔ M w) → RowFits M P → RowFits L P
+  same-fits L M P f x = record {
+    unfolds = λ w. (λ h. x .unfolds w .0 (f w .0 h), λ h. f w .1 (x .unfolds w .1 h));
+    tail-words = x .tail-words;
+    tail-good = x .tail-good;
+  }
 
-  of-kept : (P : Row) {w : List ℕ} → ByRow N (kept-row flags P) w → ByRow N P w
-  unfolding kept-row
-  of-kept P (by-epsilon t) = by-epsilon t
-  of-kept P (by-production {q = q} m c) = by-production (kept-exact flags q (P .productions) .0 m .0) c
+-- Over the nodes of a whole expression, whose rows solve the equations.
+module _ (N : ℕ → Language) (table : ℕ → Node) (flags : List Bool) (exact : (n : ℕ) → (derives-at flags n ≡ true) ↔ HasWord (N n))
+    (rs : List Row) (solves : (n : ℕ) → row-of rs n ≡ staying-row flags rs (table n)) where
+  abbrev FitsAt : ℕ → Type 0
+  FitsAt n = RowFits N (N n) (row-of rs n)
 
-  kept-unfolds : (L : Language) (P : Row) → Unfolds N L P → Unfolds N L (kept-row flags P)
-  kept-unfolds L P u w = (λ x. to-kept P (u w .0 x), λ v. u w .1 (of-kept P v))
+  -- A node's language and row, by the node's kind.
+  by-kind : {x : Node} {p : ℕ} → table p ≡ x → ((w : List ℕ) → N p w ↔ node-language N (table p) w)
+      → (((w : List ℕ) → N p w ↔ node-language N x w) → RowFits N (N p) (staying-row flags rs x)) → FitsAt p
+  by-kind {x} {p} e f k = subst (RowFits N (N p)) (sym (solves p ∙ ap (staying-row flags rs) e)) (k (rw e at f))
 
--- At most one production a token, still.
-distinct-kept : (flags : List Bool) (l : List Production) → DistinctHeads l → DistinctHeads (kept flags l)
-unfolding kept
-distinct-kept flags [] d = tt
-distinct-kept flags (q ∷ l) d = go (all-derive flags (q .tail)) (distinct-kept flags l (d .1))
+  sequence-kind : (p l r : ℕ) (a b : LanguageType) → FitsAt l → Satisfies (N l) a → Satisfies (N r) b → Separable a b
+      → ((w : List ℕ) → N p w ↔ followed-by (N l) (N r) w) → (flag : Bool) → derives-at flags r ≡ flag
+      → RowFits N (N p) (cond flag (sequence-row r (row-of rs l)) no-productions)
+  sequence-kind p l r a b x s s' q f true e = sequence-fits N (N p) (N l) r (row-of rs l) a b f x (exact r .0 e) s s' q
+  sequence-kind p l r a b x s s' q f false e = dead-fits N (N p) (N l) r f (λ h. true≢false (sym (exact r .1 h) ∙ e))
+
+  node-fits : {Γ : Context} {g : Expression} {a : LanguageType} → Γ ⊢ g ∶ a → (γ : Environment) (p : ℕ) (fs : List ℕ)
+      → Site N table Γ g γ p fs → ((n : ℕ) (b : LanguageType) → Usable Γ n b → FitsAt (getD fs n 0)) → FitsAt p
+  unfolding node-row
+  node-fits type-epsilon γ p fs s k = by-kind (s .placed) (site-equation N table type-epsilon γ p fs s)
+      (λ f. without-productions N (N p) true (epsilon-unfolds N (N p) f))
+  node-fits type-bottom γ p fs s k = by-kind (s .placed) (site-equation N table type-bottom γ p fs s)
+      (λ f. without-productions N (N p) false (bottom-unfolds N (N p) f))
+  node-fits (type-token t) γ p fs s k = by-kind (s .placed) (site-equation N table (type-token t) γ p fs s) (token-fits N t (N p))
+  node-fits (type-variable {n = n} {a = a} u) γ p fs s k = by-kind (s .placed .1) (site-equation N table (type-variable u) γ p fs s)
+      (λ f. same-fits N (N p) (N (getD fs n 0)) (row-of rs (getD fs n 0)) f (k n a u))
+  node-fits (type-sequence {g = g} {a = a} {b = b} d e q) γ p fs s k =
+      by-kind (s .placed .0) (site-equation N table (type-sequence d e q) γ p fs s)
+      (λ f. sequence-kind p (suc p) (suc p + size g) a b (node-fits d γ (suc p) fs (at-left s) k)
+      (site-sound d (at-left s)) (site-sound e (at-right s)) q f (derives-at flags (suc p + size g)) refl)
+  node-fits (type-alternative {g = g} d e q) γ p fs s k =
+      let x : FitsAt (suc p) = node-fits d γ (suc p) fs (at-first s) k in
+      let y : FitsAt (suc p + size g) = node-fits e γ (suc p + size g) fs (at-second s) k in
+      by-kind (s .placed .0) (site-equation N table (type-alternative d e q) γ p fs s)
+      (λ f. alternative-fits N (N p) (N (suc p)) (N (suc p + size g)) (row-of rs (suc p)) (row-of rs (suc p + size g)) f x y)
+  node-fits (type-fixed-point {Γ = Γ} {g = g} {a = a} d) γ p fs s k =
+      let x : FitsAt (suc p) = node-fits d (denotation (fixed-point g) γ ∷ γ) (suc p) (p ∷ fs) (at-body d s) (inner k) in
+      by-kind (s .placed .0) (site-equation N table (type-fixed-point d) γ p fs s)
+      (λ f. same-fits N (N p) (N (suc p)) (row-of rs (suc p)) f x)
+    where
+      inner : ((n : ℕ) (b : LanguageType) → Usable Γ n b → FitsAt (getD fs n 0))
+          → (n : ℕ) (b : LanguageType) → Usable (record { usable = false; type = a } ∷ Γ) n b → FitsAt (getD (p ∷ fs) n 0)
+      inner k n b (there {n = i} u) = k i b u
+
+-- At every node of a typed expression.
+row-fits : {e : Expression} {a : LanguageType} → [] ⊢ e ∶ a → (n : ℕ)
+    → RowFits (language-of e) (language-of e n) (row-of (normal-form e) n)
+row-fits {e} d n = at-every-node d (λ b i. RowFits (language-of e) (language-of e i) (row-of (normal-form e) i))
+    (λ Γ g b x γ p fs s k. node-fits (language-of e) (node-at (nodes e)) (derives e) (derives-exact d) (normal-form e) (normal-form-solves d)
+    x γ p fs s k)
+    (λ i h. (bottom-type, past i h)) n .1
   where
-    go : (b : Bool) → DistinctHeads (kept flags l) → DistinctHeads (elim b [ true ↦ q ∷ kept flags l | false ↦ kept flags l ])
-    go true x = ((λ r k e. d .0 r (kept-exact flags r l .0 k .0) e), x)
-    go false x = x
-
-pub normal-form-distinct : {e : Expression} {a : LanguageType} → [] ⊢ e ∶ a → (n : ℕ)
-    → DistinctHeads ((row-of (normal-form e) n) .productions)
-unfolding kept-row
-normal-form-distinct {e} d n = rw (normal-form-row e n) (distinct-kept (derives e) ((row-of (rows e) n) .productions) (rows-distinct d n))
+    past : (n : ℕ) → size e ≤ n → RowFits (language-of e) (language-of e n) (row-of (normal-form e) n)
+    past n h = rw (languages-past e n h, List·getD-eq-default (normal-form e) no-productions {n = n} (rw (normal-form-length e) h))
+        (without-productions (language-of e) (λ w. ⊥) false (bottom-unfolds (language-of e) (λ w. ⊥) (λ w. (λ z. z, λ z. z))))
 
 -- The languages and the normal form of a typed expression fit one another.
 pub normal-form-fits : {e : Expression} {a : LanguageType} → [] ⊢ e ∶ a → Fits (language-of e) (row-of (normal-form e))
 normal-form-fits {e} d = record {
-  unfolds = λ n. rw (normal-form-row e n)
-      (kept-unfolds (language-of e) (derives e) (derives-exact d) (language-of e n) (row-of (rows e) n) (rows-unfold d n));
+  unfolds = λ n. (row-fits d n) .unfolds;
   one-each = λ n. distinct-same ((row-of (normal-form e) n) .productions) (normal-form-distinct d n);
-  tail-words = words;
-  tail-good = λ n q m. (row-fits d n .1) .tail-good q (kept-production e n q m .0) (words n q m);
+  tail-words = λ n. (row-fits d n) .tail-words;
+  tail-good = λ n. (row-fits d n) .tail-good;
 }
-  where
-    words : (n : ℕ) (q : Production) → q of row-of (normal-form e) n → HaveWords (language-of e) (q .tail)
-    words n q m = all-derive-exact (language-of e) (derives e) (derives-exact d) (q .tail) .0 (kept-production e n q m .1)
 
 -- A run starts with the start alone, which stands for what the expression denotes.
 pub start-words : (e : Expression) (w : List ℕ) → concatenation (language-of e) (0 ∷ []) w ↔ Denotes e w

@@ -122,10 +122,10 @@ AllNullable M [] = Unit
 AllNullable M (n ∷ β) = ((M n) .empty ≡ true) × AllNullable M β
 
 module _ (N : ℕ → Language) (M : ℕ → Row) (fits : Fits N M) where
-  production-of : (n t : ℕ) {x : List ℕ} (w : List ℕ) → x ≡ t ∷ w → ByRow N (M n) x
+  production-by-row : (n t : ℕ) {x : List ℕ} (w : List ℕ) → x ≡ t ∷ w → ByRow N (M n) x
       → (q : Production) × (q of M n) × (q .head ≡ t) × concatenation N (q .tail) w
-  production-of n t w e (by-epsilon s) = absurd (nil≢cons e)
-  production-of n t w e (by-production {q = q} m c) =
+  production-by-row n t w e (by-epsilon s) = absurd (nil≢cons e)
+  production-by-row n t w e (by-production {q = q} m c) =
       (q, m, head-eq-of-cons-eq e, subst (concatenation N (q .tail)) (tail-eq-of-cons-eq e) c)
 
   follows-tail : (n : ℕ) (q : Production) → q of M n → (c : ℕ) → Follows (concatenation N (q .tail)) c → Follows (N n) c
@@ -155,7 +155,7 @@ module _ (N : ℕ → Language) (M : ℕ → Row) (fits : Fits N M) where
       to : (u v : List ℕ) → q .head ∷ w ≡ u ++ v → N n u → concatenation N β v → concatenation N (q .tail ++ β) w
       to [] v e p r = absurd (g .0 (q .head) ([], begins .0, p, begins .1) (w, subst (concatenation N β) (sym e) r))
       to (d ∷ u) v e p r =
-          let x = production-of n d u refl ((fits .unfolds n (d ∷ u)) .0 p) in
+          let x = production-by-row n d u refl ((fits .unfolds n (d ∷ u)) .0 p) in
           let same : x .0 ≡ q = fits .one-each n (x .0) q (x .1) m (x .2 ∙ sym (head-eq-of-cons-eq e)) in
           subst (concatenation N (q .tail ++ β)) (sym (tail-eq-of-cons-eq e))
           (concatenation-append N (q .tail) β u v (subst (λ (z : Production). concatenation N (z .tail) u) same (x .3)) r)
@@ -174,7 +174,7 @@ module _ (N : ℕ → Language) (M : ℕ → Row) (fits : Fits N M) where
 
   lacking : (n t : ℕ) (β : List ℕ) → Lacks (M n) t → (w : List ℕ) → concatenation N (n ∷ β) (t ∷ w) → N n [] × concatenation N β (t ∷ w)
   lacking n t β l w h =
-      ⊎-elim (λ x. let y = production-of n t (x .0) refl ((fits .unfolds n (t ∷ x .0)) .0 (x .1)) in absurd (l (y .0) (y .1) (y .2)))
+      ⊎-elim (λ x. let y = production-by-row n t (x .0) refl ((fits .unfolds n (t ∷ x .0)) .0 (x .1)) in absurd (l (y .0) (y .1) (y .2)))
       (λ x. x)
       (begins-where t w (h .0) (h .1) (N n) (concatenation N β) (h .2) (h .3) (h .4))
 

@@ -7,11 +7,11 @@ use mathlib.Core.Logic.{⊎-elim}
 use Prim.Native.Nat.{ℕ, zero, suc, _+_, _≤_, _<_}
 use native.Mathlib.Omega.{arith}
 use native.Mathlib.Nat.{add-zero}
-use lib.ListN.{getD, length, length-append, List·getD-map}
+use lib.ListN.{getD, length, List·getD-map}
 use Rattle.stage0_laws.specs.Order.{lt-or-le}
 use Rattle.stage1_sheet.specs.Expression.{Expression, epsilon, bottom, token, sequence, alternative, fixed-point, variable, size}
 use Rattle.stage2_types.specs.Types.{LanguageType, Context, all-usable, Usable, here, there}
-use Rattle.stage2_types.specs.Nodes.{Node, epsilon-node, bottom-node, token-node, sequence-node, alternative-node, fixed-point-node, variable-node, Binder, no-binder, guard, nodes-from, nodes}
+use Rattle.stage2_types.specs.Nodes.{Node, epsilon-node, bottom-node, token-node, sequence-node, alternative-node, fixed-point-node, variable-node, Binder, no-binder, guard, nodes-from, nodes, node-at}
 use Rattle.stage2_types.specs.NodeLaws.{nodes-length}
 
 -- A table holds the list from p on.
@@ -42,10 +42,6 @@ list-path d [] [] e f = refl
 list-path d [] (y ∷ m) e f = absurd (omega arith)
 list-path d (x ∷ l) [] e f = absurd (omega arith)
 list-path d (x ∷ l) (y ∷ m) e f = ap₂ _∷_ (f 0) (list-path d l m (omega arith) (λ n. f (suc n)))
-
--- Past the end of the list there is a node that has no productions and no words, as ⊥ has none.
-abbrev pub node-at : List Node → ℕ → Node
-node-at ns n = getD ns n bottom-node
 
 -- The nodes of g stand in the table from p on, where the open fixed points are the nodes fs, the innermost first.
 abbrev pub Placed : (ℕ → Node) → Expression → ℕ → List ℕ → Type 0

@@ -1,17 +1,16 @@
 -- A node's production for a token, found by a walk over the nodes that FIRST guides; no row is stored. That the walk answers as the
 -- normal form's row does is proved elsewhere, and how code holds nodes and sets is not said here.
-use mathlib.Core.Bool.{Bool, true, false, cond}
-use mathlib.Core.List.{List, [], _∷_}
+use mathlib.Core.Bool.{Bool, cond}
+use mathlib.Core.List.{List, _∷_}
 use mathlib.Core.Option.{Option, none, some}
 use Prim.Native.Nat.{ℕ, zero, suc}
 use lib.Dec.{eqb}
 use Rattle.stage0_laws.specs.Bits.{bit}
 use Rattle.stage1_sheet.specs.Expression.{Expression}
-use Rattle.stage2_types.specs.Nodes.{Node, epsilon-node, bottom-node, token-node, sequence-node, alternative-node, fixed-point-node, variable-node, nodes}
+use Rattle.stage2_types.specs.Nodes.{Node, epsilon-node, bottom-node, token-node, sequence-node, alternative-node, fixed-point-node, variable-node, nodes, node-at}
 use Rattle.stage2_types.specs.LeastTypes.{type-of, least-types}
 use Rattle.stage3_normal_form.specs.Productions.{Production}
 use Rattle.stage3_normal_form.specs.Derives.{derives, derives-at}
-use Rattle.stage3_normal_form.specs.Places.{node-at}
 
 -- The nodes with their links, the nodes' FIRST sets, which nodes derive a token sequence, and a token.
 module _ (table : ℕ → Node) (first : ℕ → ℕ) (derive : ℕ → Bool) (t : ℕ) where
@@ -30,11 +29,6 @@ module _ (table : ℕ → Node) (first : ℕ → ℕ) (derive : ℕ → Bool) (t
   unfoldable pub walk : ℕ → ℕ → List ℕ → Option (List ℕ)
   walk zero n rights = none
   walk (suc k) n rights = walk-step (walk k) (table n) rights
-
--- The production of a list that begins with t.
-unfoldable pub beginning-with : ℕ → List Production → Option Production
-beginning-with t [] = none
-beginning-with t (p ∷ ps) = elim (eqb (p .head) t) [ true ↦ some p | false ↦ beginning-with t ps ]
 
 -- A tail found by a walk for t, as a production.
 abbrev pub with-head : ℕ → Option (List ℕ) → Option Production

@@ -2,7 +2,9 @@
 -- Which productions stay, and under which number a node is written, is said elsewhere.
 use mathlib.Core.Bool.{Bool, true, false, _||_}
 use mathlib.Core.List.{List, [], _∷_, _++_, map}
+use mathlib.Core.Option.{Option, none, some}
 use Prim.Native.Nat.{ℕ, zero, suc}
+use lib.Dec.{eqb}
 use lib.ListN.{getD, length, replicate}
 use Rattle.stage1_sheet.specs.Expression.{Expression}
 use Rattle.stage2_types.specs.Nodes.{Node, epsilon-node, bottom-node, token-node, sequence-node, alternative-node, fixed-point-node, variable-node, nodes}
@@ -15,6 +17,16 @@ pub record Production : Type 0 where
 -- "A tail is at most as long as the number of sequence nodes, so at most 31."
 abbrev pub most-tail : ℕ
 most-tail = 31
+
+-- "a long enough stack (1 + 30 × the text's length entries)": a take replaces one pending nonterminal at least by a tail, so that this
+-- many more are pending at most.
+abbrev pub most-growth : ℕ
+most-growth = 30
+
+-- The production of a list that begins with a symbol. A row of an accepted sheet's normal form has at most one.
+unfoldable pub production-of : ℕ → List Production → Option Production
+production-of t [] = none
+production-of t (p ∷ ps) = elim (eqb (p .head) t) [ true ↦ some p | false ↦ production-of t ps ]
 
 -- A nonterminal's productions: whether ε is one of them, and the others.
 pub record Row : Type 0 where

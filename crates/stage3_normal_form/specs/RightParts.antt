@@ -6,13 +6,13 @@ use Prim.Native.Nat.{ℕ, zero, suc, _+_}
 use native.Mathlib.Omega.{arith}
 use lib.ListN.{length, length-append}
 use Rattle.stage0_laws.specs.Lists.{All}
+use Rattle.stage0_laws.specs.Members.{all-append}
 use Rattle.stage1_sheet.specs.Expression.{Expression, epsilon, bottom, token, sequence, alternative, fixed-point, variable, size}
 use Rattle.stage1_sheet.specs.ListLaws.{flatMap-append}
-use Rattle.stage2_types.specs.Nodes.{Node, epsilon-node, bottom-node, token-node, sequence-node, alternative-node, fixed-point-node, variable-node, Binder, guard, nodes-from, nodes}
+use Rattle.stage2_types.specs.Nodes.{Node, epsilon-node, bottom-node, token-node, sequence-node, alternative-node, fixed-point-node, variable-node, Binder, guard, nodes-from, nodes, node-at}
 use Rattle.stage3_normal_form.specs.Productions.{Production, row-of, ended-by, rows}
 use Rattle.stage3_normal_form.specs.NormalForm.{normal-form}
-use Rattle.stage3_normal_form.specs.NormalFormLaws.{kept-production}
-use Rattle.stage3_normal_form.specs.Places.{node-at}
+use Rattle.stage3_normal_form.specs.KeptRows.{kept-production}
 use Rattle.stage3_normal_form.specs.Unfolding.{_of_}
 use Rattle.stage3_normal_form.specs.Tails.{sequence-count, every-production}
 
@@ -66,14 +66,10 @@ part-of (x ∷ ns) zero l r e =
     Memᴰ·append-left (right-parts ns) (subst (λ (y : Node). List·Memᴰ r (right-part y)) (sym e) (List·Memᴰ·head refl))
 part-of (x ∷ ns) (suc n) l r e = Memᴰ·append-right (right-part x) (part-of ns n l r e)
 
-with-last : (P : ℕ → Type 0) (l : List ℕ) (n : ℕ) → All P l → P n → All P (l ++ (n ∷ []))
-with-last P [] n h x = (x, tt)
-with-last P (m ∷ l) n h x = (h .0, with-last P l n (h .1) x)
-
 -- Every member of every tail is a right part.
 pub tails-right : (e : Expression) (n : ℕ) (q : Production) → q of row-of (normal-form e) n
     → All (λ r. List·Memᴰ r (right-parts (nodes e))) (q .tail)
 tails-right e n q m = unfold rows in
     every-production (nodes e) (λ q. All (λ r. List·Memᴰ r (right-parts (nodes e))) (q .tail)) (λ n t h. tt)
-    (λ n l r h q x. unfold ended-by in with-last (λ r. List·Memᴰ r (right-parts (nodes e))) (q .tail) r x (part-of (nodes e) n l r h))
+    (λ n l r h q x. unfold ended-by in all-append (λ r. List·Memᴰ r (right-parts (nodes e))) (q .tail) (r ∷ []) x (part-of (nodes e) n l r h, tt))
     (length (nodes e)) n q (kept-production e n q m .0)

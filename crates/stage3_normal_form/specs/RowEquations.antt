@@ -8,9 +8,9 @@ use native.Mathlib.Omega.{arith}
 use lib.ListN.{length, replicate, length-map, length-replicate, List·getD-map, List·getD-eq-default}
 use Rattle.stage1_sheet.specs.Expression.{Expression, size}
 use Rattle.stage2_types.specs.Types.{LanguageType, Context, _⊢_∶_, type-epsilon, type-bottom, type-token, type-variable, type-sequence, type-alternative, type-fixed-point}
-use Rattle.stage2_types.specs.Nodes.{Node, bottom-node, sequence-node, nodes}
+use Rattle.stage2_types.specs.Nodes.{Node, bottom-node, sequence-node, nodes, node-at}
 use Rattle.stage3_normal_form.specs.Productions.{Row, no-productions, row-of, node-row, next-rows, rows-after, rows}
-use Rattle.stage3_normal_form.specs.Places.{node-at, Placed, nodes-placed, nodes-count, everywhere-all, none-usable, list-path}
+use Rattle.stage3_normal_form.specs.Places.{Placed, nodes-placed, nodes-count, everywhere-all, none-usable, list-path}
 use Rattle.stage3_normal_form.specs.Descent.{head-weight, weight-size, weight-parts, VariablesKeep, keep-in-body, bounded}
 
 -- A round's row of a node is what the node's equation gives from the rows before it.

@@ -1,5 +1,5 @@
 -- Tails: their members are nodes of the expression, and at a typed one a tail is no longer than the number of sequence nodes, so at
--- most 31. Heads are tokens of the sheet.
+-- most `most-tail`. Heads are tokens of the sheet.
 use mathlib.Core.Path.{_≡_, refl, sym, ap, subst, _∙_}
 use mathlib.Core.List.{List, [], _∷_, _++_, List·Memᴰ·not-nil, List·Memᴰ·eq-of-singleton, List·Memᴰ·append-cases, Memᴰ·of-map}
 use mathlib.Core.Option.{Option}
@@ -8,33 +8,25 @@ use Prim.Native.Nat.{ℕ, zero, suc, _+_, _≤_, _<_}
 use native.Mathlib.Omega.{arith}
 use lib.ListN.{length, length-append, replicate, List·getD-eq-default}
 use Rattle.stage0_laws.specs.Lists.{All}
+use Rattle.stage0_laws.specs.Members.{all-append}
 use Rattle.stage1_sheet.specs.Expression.{Expression, epsilon, bottom, token, sequence, alternative, fixed-point, variable, size}
 use Rattle.stage1_sheet.specs.Limits.{most-expression-nodes}
 use Rattle.stage1_sheet.specs.WellFormed.{Closed}
 use Rattle.stage2_types.specs.Types.{LanguageType, Context, _⊢_∶_, type-epsilon, type-bottom, type-token, type-variable, type-sequence, type-alternative, type-fixed-point}
-use Rattle.stage2_types.specs.Nodes.{Node, epsilon-node, bottom-node, token-node, sequence-node, alternative-node, fixed-point-node, variable-node, nodes}
-use Rattle.stage3_normal_form.specs.Productions.{Production, most-tail, Row, no-productions, ended-by, row-of, node-row, rows-after, rows}
+use Rattle.stage2_types.specs.NodeRanges.{NodeInRange, node-in-range, nodes-in-range}
+use Rattle.stage2_types.specs.Nodes.{Node, epsilon-node, bottom-node, token-node, sequence-node, alternative-node, fixed-point-node, variable-node, nodes, node-at}
+use Rattle.stage3_normal_form.specs.Productions.{Production, most-tail, most-growth, Row, no-productions, ended-by, row-of, node-row, rows-after, rows}
 use Rattle.stage3_normal_form.specs.NormalForm.{normal-form}
-use Rattle.stage3_normal_form.specs.Places.{node-at, nodes-count, Placed, nodes-placed, Everywhere, everywhere-all, none-usable}
+use Rattle.stage3_normal_form.specs.Places.{Placed, nodes-placed, everywhere-all, none-usable}
 use Rattle.stage3_normal_form.specs.Descent.{weight, head-weight, weight-parts, VariablesKeep, keep-in-body, bounded}
 use Rattle.stage3_normal_form.specs.RowEquations.{next-at, row-solves, rows-length}
 use Rattle.stage3_normal_form.specs.Unfolding.{_of_}
 use Rattle.stage3_normal_form.specs.Pending.{TokenStep, GrowsBy, step-grows}
-use Rattle.stage3_normal_form.specs.NormalFormLaws.{kept-production}
+use Rattle.stage3_normal_form.specs.KeptRows.{kept-production}
 
 -- The sequence nodes of an expression.
 abbrev pub sequence-count : Expression → ℕ
 sequence-count = weight 0
-
-size-positive : (g : Expression) → 1 ≤ size g
-unfolding size
-size-positive epsilon = omega arith
-size-positive bottom = omega arith
-size-positive (token k) = omega arith
-size-positive (sequence g h) = omega arith
-size-positive (alternative g h) = omega arith
-size-positive (fixed-point g) = omega arith
-size-positive (variable n) = omega arith
 
 -- Each sequence node has two parts of its own.
 pub sequence-count-bound : (g : Expression) → sequence-count g + sequence-count g + 1 ≤ size g
@@ -98,10 +90,7 @@ pub tails-at-most : {e : Expression} {a : LanguageType} → [] ⊢ e ∶ a → s
 tails-at-most {e} d h n q m =
     let a = tails-short d n q (kept-production e n q m .0) in let b = sequence-count-bound e in omega arith
 
--- So a take adds at most 30 pending nodes, and there are never more than 1 + 30 for each taken token.
-abbrev pub most-growth : ℕ
-most-growth = 30
-
+-- So a take adds at most `most-growth` pending nodes.
 pub pending-grows : {e : Expression} {a : LanguageType} → [] ⊢ e ∶ a → size e ≤ most-expression-nodes
     → {t : ℕ} {β : List ℕ} {o : Option (List ℕ)} → TokenStep (row-of (normal-form e)) t β o → GrowsBy most-growth β o
 pending-grows {e} d h = step-grows most-growth (row-of (normal-form e)) (tails-at-most d h)
@@ -134,48 +123,6 @@ module _ (ns : List Node) (Q : Production → Type 0)
   every-production (suc k) n q m =
       next-productions (rows-after k ns) (every-production k) n (node-at ns n) refl q (rw (next-at ns (rows-after k ns) n) at m)
 
--- Each token is below the token count, and each right part is a node.
-abbrev InRange : ℕ → ℕ → Node → Type 0
-InRange tokens count epsilon-node = Unit
-InRange tokens count bottom-node = Unit
-InRange tokens count (token-node t) = t < tokens
-InRange tokens count (sequence-node l r) = r < count
-InRange tokens count (alternative-node l r) = Unit
-InRange tokens count (fixed-point-node b) = Unit
-InRange tokens count (variable-node f guarded) = Unit
-
-module _ (table : ℕ → Node) (tokens count : ℕ) where
-  abbrev InRangeAt : ℕ → Type 0
-  InRangeAt n = InRange tokens count (table n)
-
-  in-range : (g : Expression) (opened p : ℕ) (fs : List ℕ) → Placed table g p fs → Closed tokens opened g → p + size g ≤ count
-      → Everywhere InRangeAt g p
-  unfolding size
-  in-range epsilon opened p fs t c h = rw t tt
-  in-range bottom opened p fs t c h = rw t tt
-  in-range (token k) opened p fs t c h = rw t c
-  in-range (sequence g k) opened p fs t c h = (
-    rw (t .0) (let a = size-positive k in omega arith),
-    in-range g opened (suc p) fs (t .1) (c .0) (omega arith),
-    in-range k opened (suc p + size g) fs (t .2) (c .1) (omega arith),
-  )
-  in-range (alternative g k) opened p fs t c h = (
-    rw (t .0) tt,
-    in-range g opened (suc p) fs (t .1) (c .0) (omega arith),
-    in-range k opened (suc p + size g) fs (t .2) (c .1) (omega arith),
-  )
-  in-range (fixed-point g) opened p fs t c h = (rw (t .0) tt, in-range g (suc opened) (suc p) (p ∷ fs) (t .1) c (omega arith))
-  in-range (variable n) opened p fs t c h = rw (t .1) tt
-
-nodes-in-range : (e : Expression) (tokens : ℕ) → Closed tokens 0 e → (n : ℕ) → InRange tokens (size e) (node-at (nodes e) n)
-nodes-in-range e tokens c = everywhere-all (λ n. InRange tokens (size e) (node-at (nodes e) n)) e
-    (in-range (node-at (nodes e)) tokens (size e) e 0 0 [] (nodes-placed e) c (omega arith))
-    (λ n h. rw (List·getD-eq-default (nodes e) bottom-node {n = n} (rw (nodes-count e) h)) tt)
-
-all-end : (P : ℕ → Type 0) (l : List ℕ) (n : ℕ) → All P l → P n → All P (l ++ (n ∷ []))
-all-end P [] n h x = (x, tt)
-all-end P (m ∷ l) n h x = (h .0, all-end P l n (h .1) x)
-
 -- A production's head is a token of the sheet, and its tail's members are nodes.
 pub record ProductionInRange (tokens count : ℕ) (q : Production) : Type 0 where
   pub head-below : q .head < tokens
@@ -186,15 +133,21 @@ pub productions-in-range : (e : Expression) (tokens : ℕ) → Closed tokens 0 e
 unfolding rows
 productions-in-range e tokens c = every-production (nodes e) (ProductionInRange tokens (size e)) by-token by-sequence (length (nodes e))
   where
+    in-range : (n : ℕ) → NodeInRange tokens (size e) (node-at (nodes e) n)
+    in-range = node-in-range tokens (size e) (nodes e) (nodes-in-range tokens e c)
+
+    right : (n l r : ℕ) → node-at (nodes e) n ≡ sequence-node l r → r < size e
+    right n l r h = let x : (l < size e) × (r < size e) = rw h at (in-range n) in x .1
+
     by-token : (n t : ℕ) → node-at (nodes e) n ≡ token-node t → ProductionInRange tokens (size e) (record { head = t; tail = [] })
-    by-token n t h = record { head-below = rw h at (nodes-in-range e tokens c n); tail-below = tt }
+    by-token n t h = record { head-below = rw h at (in-range n); tail-below = tt }
 
     by-sequence : (n l r : ℕ) → node-at (nodes e) n ≡ sequence-node l r → (q : Production) → ProductionInRange tokens (size e) q
         → ProductionInRange tokens (size e) (ended-by r q)
     by-sequence n l r h q x = unfold ended-by in
         record {
           head-below = x .head-below;
-          tail-below = all-end (λ i. i < size e) (q .tail) r (x .tail-below) (rw h at (nodes-in-range e tokens c n));
+          tail-below = all-append (λ i. i < size e) (q .tail) (r ∷ []) (x .tail-below) ((right n l r h), tt);
         }
 
 pub normal-form-in-range : (e : Expression) (tokens : ℕ) → Closed tokens 0 e

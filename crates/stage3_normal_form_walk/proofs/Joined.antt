@@ -10,21 +10,18 @@ use borrow.Author.Tests.{lt-ltb}
 use Rattle.stage0_laws.specs.Bits.{bit}
 use Rattle.stage1_sheet.specs.Expression.{Expression, size}
 use Rattle.stage2_types.specs.Types.{_⊢_∶_}
-use Rattle.stage2_types.specs.Nodes.{Node, epsilon-node, bottom-node, token-node, sequence-node, alternative-node, fixed-point-node, variable-node, nodes}
+use Rattle.stage2_types.specs.NodeRanges.{NodeInRange, node-in-range, nodes-in-range}
+use Rattle.stage2_types.specs.Nodes.{Node, epsilon-node, bottom-node, token-node, sequence-node, alternative-node, fixed-point-node, variable-node, nodes, node-at}
 use Rattle.stage2_types.specs.LeastTypes.{type-of, next-types, least-types}
 use Rattle.stage2_types.specs.LeastTypeLaws.{least-solves}
 use Rattle.stage2_types.specs.Typing.{no-fault-typed}
 use Rattle.stage2_types_columns.specs.Held.{held-node}
-use Rattle.stage3_normal_form.specs.Productions.{Production, row-of}
+use Rattle.stage3_normal_form.specs.Productions.{Production, row-of, production-of, most-tail}
 use Rattle.stage3_normal_form.specs.Derives.{derives-at, derives}
 use Rattle.stage3_normal_form.specs.NormalForm.{normal-form}
-use Rattle.stage3_normal_form.specs.Places.{node-at}
 use Rattle.stage3_normal_form.specs.ProductionWalk.{walk-step, walk, walk-of, with-head}
 use Rattle.stage3_normal_form.specs.ProductionWalkLaws.{walk-finds, walk-short, first-has-not}
-use Rattle.stage3_normal_form.specs.LinkRanges.{LinksBelow, links-below}
-use Rattle.stage5_image.specs.Fusion.{production-of}
 use Rattle.stage3_normal_form_walk.specs.Columns.{ColumnsOf, tail-held, production-held}
-use Rattle.stage3_normal_form_walk.specs.ColumnLaws.{beginning-is-production}
 use Rattle.stage3_normal_form_walk.specs.ColumnWalk.{walked, column-node, column-first, column-walk}
 use Rattle.stage3_normal_form_walk.specs.declared.Tail.{Tail}
 use Rattle.stage3_normal_form_walk.specs.declared.Walked.{Walked}
@@ -51,7 +48,7 @@ module _ (tag link first : List ℕ) (productive : ℕ) (e : Expression) (c : Co
 
   -- One step, if the walks from the nodes that it may lead to are the same.
   step-same : (k : ℕ) → ((n : ℕ) (rights : List ℕ) → n < size e → walks k n rights ≡ walk-of e t k n rights)
-      → (x : Node) → LinksBelow (size e) x → (rights : List ℕ)
+      → (x : Node) → NodeInRange (c .tokens) (size e) x → (rights : List ℕ)
       → column-step (walks k) x rights ≡ own-step (walk-of e t k) x rights
   unfolding walk-step
   step-same k h epsilon-node b rights = refl
@@ -68,7 +65,7 @@ module _ (tag link first : List ℕ) (productive : ℕ) (e : Expression) (c : Co
   unfolding walk
   walk-same zero n rights l = refl
   walk-same (suc k) n rights l = ap (λ x. column-step (walks k) x rights) (node-same n l)
-      ∙ step-same k (walk-same k) (node-at (nodes e) n) (links-below e n) rights
+      ∙ step-same k (walk-same k) (node-at (nodes e) n) (node-in-range (c .tokens) (size e) (nodes e) (nodes-in-range (c .tokens) e (c .closed)) n) rights
 
   typed : [] ⊢ e ∶ type-of (least-types e) 0
   typed = no-fault-typed (c .tokens) (c .tokens-most) e (c .closed) (c .no-fault)
@@ -81,14 +78,12 @@ module _ (tag link first : List ℕ) (productive : ℕ) (e : Expression) (c : Co
     Right o = o ≡ production-of t ((row-of (normal-form e) n) .productions)
 
     walk-right : Right (with-head t (walks 64 n []))
-    walk-right = ap (with-head t) (walk-same 64 n [] l) ∙ (walk-finds typed solves t n 64 (c .nodes-most)
-        ∙ beginning-is-production t ((row-of (normal-form e) n) .productions))
+    walk-right = ap (with-head t) (walk-same 64 n [] l) ∙ walk-finds typed solves t n 64 (c .nodes-most)
 
     -- No production, since the token is outside FIRST.
     pub right-outside : (r : Tail) → r .found ≡ false → bit (column-first first n) t ≡ false → Right (production-held t r)
     unfolding production-held tail-held
-    right-outside r f b = rw f (sym (first-has-not typed solves t n (ap (λ s. bit s t) (sym (first-same n l)) ∙ b))
-        ∙ beginning-is-production t ((row-of (normal-form e) n) .productions))
+    right-outside r f b = rw f (sym (first-has-not typed solves t n (ap (λ s. bit s t) (sym (first-same n l)) ∙ b)))
 
     -- No production, since the walk did not end at the token.
     pub right-none : (r : Tail) (w : Walked) → r .found ≡ false → w .found ≡ false → walked w ≡ walks 64 n []
@@ -97,7 +92,7 @@ module _ (tag link first : List ℕ) (productive : ℕ) (e : Expression) (c : Co
     right-none r w f g h =
         rw f (ap (with-head t) (ap (λ b. cond b (some (drop (w .start) (w .rights))) none) (sym g) ∙ h) ∙ walk-right)
 
-    -- The production that the walk found. Its tail has at most 31 members, so it fits.
+    -- The production that the walk found. Its tail is no longer than any tail, so it fits.
     pub right-found : (r : Tail) (w : Walked) → w .found ≡ true → length (w .rights) ≡ 64 → walked w ≡ walks 64 n []
         → (32 ≤ w .start → tail-held r ≡ some (drop (w .start) (w .rights))) → Right (production-held t r)
     unfolding production-held walked
@@ -106,8 +101,8 @@ module _ (tag link first : List ℕ) (productive : ℕ) (e : Expression) (c : Co
         found : some (drop (w .start) (w .rights)) ≡ walks 64 n []
         found = ap (λ b. cond b (some (drop (w .start) (w .rights))) none) (sym g) ∙ h
 
-        short : length (drop (w .start) (w .rights)) ≤ 31
-        short = walk-short typed solves (c .nodes-most) t n 64 (c .nodes-most) (drop (w .start) (w .rights))
+        short : length (drop (w .start) (w .rights)) ≤ most-tail
+        short = walk-short typed solves t (c .nodes-most) n 64 (c .nodes-most) (drop (w .start) (w .rights))
             (sym (walk-same 64 n [] l) ∙ sym found)
 
         fits : 32 ≤ w .start

@@ -1,7 +1,7 @@
 -- Laws of the rounds that find the productive nodes: a node's equation for each way through the code, the set that one round
 -- makes, and the rounds until nothing changes.
 use mathlib.Core.Path.{_≡_, refl, sym, ap, ap₂, _∙_}
-use mathlib.Core.Bool.{Bool, true, false, _&&_, _||_, not, cond, true≢false}
+use mathlib.Core.Bool.{Bool, true, false, _&&_, _||_, cond, true≢false}
 use mathlib.Core.List.{List, [], _∷_}
 use mathlib.Core.Logic.{_⊎_, inl, inr, ⊎-elim}
 use Prim.Native.Nat.{ℕ, zero, suc, _+_, _^_, _≤_, _<_}
@@ -17,12 +17,12 @@ use Rattle.stage0_laws.specs.BitLaws.{bit-or, bit-one, bit-zero, bit-ext-all}
 use Rattle.stage0_laws.specs.Lists.{settle}
 use Rattle.stage0_laws.specs.Order.{lt-or-le}
 use Rattle.stage1_sheet.specs.Expression.{Expression}
-use Rattle.stage2_types.specs.Nodes.{Node, bottom-node, nodes}
+use Rattle.stage2_types.specs.Nodes.{Node, bottom-node, nodes, node-at}
 use Rattle.stage2_types_columns.specs.Tabulate.{tabulate-length, tabulate-at}
 use Rattle.stage2_types_columns.specs.Held.{node-of, held-node, held-nodes}
 use Rattle.stage2_types_columns.specs.declared.NodeLinks.{NodeLinks}
 use Rattle.stage3_normal_form.specs.Derives.{derives-at, node-derives, next-derives, same-flags, derives}
-use Rattle.stage3_normal_form.specs.Places.{node-at, list-path}
+use Rattle.stage3_normal_form.specs.Places.{list-path}
 use Rattle.stage3_normal_form.specs.DerivesExact.{same-flags-path, next-derives-at}
 use Rattle.stage3_normal_form_walk.specs.Columns.{SetOf}
 
@@ -62,11 +62,20 @@ module _ (flags : List Bool) (guarded : Bool) (link n : ℕ) where
     unfolding node-of node-derives
     by-fixed-point tag e = rw e left-flag
 
-    pub by-variable : (tag : ℕ) → (tag ≡ 0 → ⊥) → (tag ≡ 1 → ⊥) → (tag ≡ 2 → ⊥) → (tag ≡ 3 → ⊥) → (tag ≡ 4 → ⊥) → (tag ≡ 5 → ⊥)
-        → right ≡ equation tag
+    pub by-variable : (tag : ℕ) → tag ≡ 6 → right ≡ equation tag
     unfolding node-of node-derives
-    by-variable tag a b c d f g =
-        rw (ne-eqb tag 0 a, ne-eqb tag 1 b, ne-eqb tag 2 c, ne-eqb tag 3 d, ne-eqb tag 4 f, ne-eqb tag 5 g) right-flag
+    by-variable tag e = rw e right-flag
+
+  -- A number that is no tag derives nothing.
+  pub by-other : (tag : ℕ) → (tag ≡ 0 → ⊥) → (tag ≡ 2 → ⊥) → (tag ≡ 3 → ⊥) → (tag ≡ 4 → ⊥) → (tag ≡ 5 → ⊥) → (tag ≡ 6 → ⊥)
+      → false ≡ equation tag
+  unfolding node-of node-derives
+  by-other tag a b c d f g =
+      rw (ne-eqb tag 0 a, ne-eqb tag 2 b, ne-eqb tag 3 c, ne-eqb tag 4 d, ne-eqb tag 5 f, ne-eqb tag 6 g) (go (eqb tag 1))
+    where
+      go : (x : Bool) → false ≡ node-derives flags (cond x bottom-node bottom-node)
+      go true = refl
+      go false = refl
 
 -- The nodes below n that a round has found are those whose equation holds.
 abbrev pub FoundBelow : (ℕ → Bool) → ℕ → ℕ → Type 0

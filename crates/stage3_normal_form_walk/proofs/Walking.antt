@@ -3,6 +3,7 @@
 use mathlib.Core.Path.{_≡_, refl, sym, ap, ap₂, _∙_}
 use mathlib.Core.Bool.{Bool, true, false, not, cond}
 use mathlib.Core.List.{List, [], _∷_, _++_}
+use mathlib.Core.Logic.{⊎-elim}
 use mathlib.Core.Option.{Option, none, some}
 use Prim.Native.Nat.{ℕ, zero, suc, _+_, _-_, _≤_, _<_}
 use native.Mathlib.Omega.{arith}
@@ -13,6 +14,7 @@ use lib.Seq.{drop-cons, getD-set-same, drop-set-lt, take-all, take-suc-set, getD
 use borrow.Author.Tests.{ne-eqb, eqb-true, lt-ltb, le-ltb}
 use Rattle.stage0_laws.specs.Bits.{bit}
 use Rattle.stage0_laws.specs.BitLaws.{bit-zero}
+use Rattle.stage0_laws.specs.Order.{lt-or-le}
 use Rattle.stage2_types.specs.Nodes.{bottom-node}
 use Rattle.stage2_types_columns.specs.Held.{node-of, held-node}
 use Rattle.stage3_normal_form.specs.ProductionWalk.{walk-step, walk}
@@ -51,9 +53,13 @@ module _ (link n : ℕ) (first : List ℕ) (t tag : ℕ) where
   unfolding next-node
   next-body e = rw e
 
-  pub next-own : (tag ≡ 4 → ⊥) → (tag ≡ 5 → ⊥) → link ≡ next-node tag link n first t
+  pub next-own : tag ≡ 6 → link ≡ next-node tag link n first t
   unfolding next-node
-  next-own a b = rw (ne-eqb tag 4 a, ne-eqb tag 5 b)
+  next-own e = rw e
+
+  pub next-none : (tag ≡ 4 → ⊥) → (tag ≡ 5 → ⊥) → (tag ≡ 6 → ⊥) → 64 ≡ next-node tag link n first t
+  unfolding next-node
+  next-none a b c = rw (ne-eqb tag 4 a, ne-eqb tag 5 b, ne-eqb tag 6 c)
 
 module _ (tag link : List ℕ) (guarded : ℕ) (first : List ℕ) (productive t : ℕ) where
   abbrev walks : ℕ → ℕ → List ℕ → Option (List ℕ)
@@ -87,6 +93,10 @@ module _ (tag link : List ℕ) (guarded : ℕ) (first : List ℕ) (productive t 
   unfolding walk-step column-node
   walk-past left n rights more h = one-step left n rights more ∙ rw (le-ltb n 64 h)
 
+  -- At 64 a walk finds nothing, with steps left or without.
+  no-more : (left : ℕ) (rights : List ℕ) → walks left 64 rights ≡ none
+  no-more left rights = ⊎-elim (λ l. walk-past left 64 rights l (omega arith)) (λ l. no-step left 64 rights l) (lt-or-le 0 left)
+
   module _ (left n : ℕ) (rights : List ℕ) (more : 0 < left) (here : n < 64) where
     pub walk-none : getD tag n 0 < 2 → walks left n rights ≡ none
     unfolding walk-step held-node node-of
@@ -115,7 +125,7 @@ module _ (tag link : List ℕ) (guarded : ℕ) (first : List ℕ) (productive t 
     pub walk-on : (getD tag n 0 < 2 → ⊥) → (getD tag n 0 ≡ 2 → ⊥) → (getD tag n 0 ≡ 3 → ⊥)
         → walks left n rights ≡ walks (left - 1) (next-node (getD tag n 0) (getD link n 0) n first t) rights
     unfolding walk-step held-node node-of next-node
-    walk-on a b c = one-here left n rights more here ∙ go (eqb (getD tag n 0) 4) refl (eqb (getD tag n 0) 5) refl
+    walk-on a b c = one-here left n rights more here ∙ go (eqb (getD tag n 0) 4) refl (eqb (getD tag n 0) 5) refl (eqb (getD tag n 0) 6) refl
       where
         go-on : ℕ → Option (List ℕ)
         go-on m = walks (left - 1) m rights
@@ -127,11 +137,12 @@ module _ (tag link : List ℕ) (guarded : ℕ) (first : List ℕ) (productive t 
         either true = refl
         either false = refl
 
-        go : (x : Bool) → eqb (getD tag n 0) 4 ≡ x → (y : Bool) → eqb (getD tag n 0) 5 ≡ y
+        go : (x : Bool) → eqb (getD tag n 0) 4 ≡ x → (y : Bool) → eqb (getD tag n 0) 5 ≡ y → (z : Bool) → eqb (getD tag n 0) 6 ≡ z
             → held-step (walks (left - 1)) n rights ≡ go-on to
-        go true e y f = rw (eqb-true (getD tag n 0) 4 e, add-one n) (either (bit (column-first first (suc n)) t))
-        go false e true f = rw (eqb-true (getD tag n 0) 5 f, add-one n)
-        go false e false f =
+        go true e y f z g = rw (eqb-true (getD tag n 0) 4 e, add-one n) (either (bit (column-first first (suc n)) t))
+        go false e true f z g = rw (eqb-true (getD tag n 0) 5 f, add-one n)
+        go false e false f true g = rw (eqb-true (getD tag n 0) 6 g)
+        go false e false f false g =
             rw (
               ne-eqb (getD tag n 0) 0 (λ z. a (omega arith)),
               ne-eqb (getD tag n 0) 1 (λ z. a (omega arith)),
@@ -139,7 +150,8 @@ module _ (tag link : List ℕ) (guarded : ℕ) (first : List ℕ) (productive t 
               ne-eqb (getD tag n 0) 3 c,
               e,
               f,
-            )
+              g,
+            ) (sym (no-more (left - 1) rights))
 
 -- A node remembered before the others.
 pub remembered : (rights : List ℕ) (start r : ℕ) → 0 < start → start ≤ length rights

@@ -1,34 +1,31 @@
 -- Columns that hold the nodes and the least types of an expression without fault are columns of it; what a result of the code says
 -- when it is a production, and when it is none.
-use mathlib.Core.Path.{_≡_, refl, sym, ap, subst, _∙_}
+use mathlib.Core.Path.{_≡_, sym, ap, subst, _∙_}
 use mathlib.Core.Bool.{true, false}
-use mathlib.Core.List.{List, [], _∷_}
+use mathlib.Core.List.{[]}
 use mathlib.Core.Option.{none, some}
 use Prim.Native.Nat.{ℕ, _≤_, _<_}
 use native.Mathlib.Omega.{arith}
 use native.Mathlib.Nat.{zero-add}
-use lib.Dec.{eqb}
 use lib.ListN.{getD, length, take}
 use Rattle.stage0_laws.specs.Lists.{All}
 use Rattle.stage1_sheet.specs.Expression.{Expression, size}
 use Rattle.stage1_sheet.specs.Limits.{most-tokens, most-expression-nodes}
 use Rattle.stage1_sheet.specs.WellFormed.{Closed}
 use Rattle.stage2_types.specs.Types.{LanguageType, bottom-type, _⊢_∶_}
-use Rattle.stage2_types.specs.Nodes.{bottom-node, nodes}
+use Rattle.stage2_types.specs.Nodes.{bottom-node, nodes, node-at}
 use Rattle.stage2_types.specs.LeastTypes.{type-of, least-types}
 use Rattle.stage2_types.specs.Questions.{type-fault}
 use Rattle.stage2_types_columns.specs.Tabulate.{tabulate-length, tabulate-at}
 use Rattle.stage2_types_columns.specs.Held.{held-node, held-nodes, held-type, held-types}
 use Rattle.stage2_types_columns.specs.declared.NodeLinks.{NodeLinks}
 use Rattle.stage2_types_columns.specs.declared.TypeColumns.{TypeColumns}
-use Rattle.stage3_normal_form.specs.Productions.{Production, row-of, most-tail}
+use Rattle.stage3_normal_form.specs.Productions.{Production, row-of, most-tail, production-of}
 use Rattle.stage3_normal_form.specs.Derives.{derives}
 use Rattle.stage3_normal_form.specs.NormalForm.{normal-form}
 use Rattle.stage3_normal_form.specs.Tails.{tails-at-most, normal-form-in-range}
-use Rattle.stage3_normal_form.specs.ProductionWalk.{beginning-with}
-use Rattle.stage3_normal_form.specs.ProductionWalkLaws.{Found, beginning-found}
-use Rattle.stage5_image.specs.Fusion.{production-of}
-use Rattle.stage3_normal_form.specs.Places.{node-at, nodes-count}
+use Rattle.stage3_normal_form.specs.ProductionLaws.{Found, production-found}
+use Rattle.stage3_normal_form.specs.Places.{nodes-count}
 use Rattle.stage3_normal_form_walk.specs.Columns.{SetOf, ColumnsOf, tail-held, production-held}
 use Rattle.stage3_normal_form_walk.specs.declared.Tail.{Tail}
 
@@ -67,12 +64,6 @@ module _ (links : NodeLinks) (types : TypeColumns) (e : Expression) (held : held
     productive-held = set;
   }
 
--- The walk's theory finds a production in a list as fusion does.
-pub beginning-is-production : (t : ℕ) (l : List Production) → beginning-with t l ≡ production-of t l
-unfolding beginning-with production-of
-beginning-is-production t [] = refl
-beginning-is-production t (p ∷ l) = ap (λ o. elim (eqb (p .head) t) [ true ↦ some p | false ↦ o ]) (beginning-is-production t l)
-
 pub held-none : (t : ℕ) (r : Tail) → r .found ≡ false → production-held t r ≡ none
 unfolding production-held tail-held
 held-none t r e = rw e
@@ -81,13 +72,11 @@ pub held-some : (t : ℕ) (r : Tail) → r .found ≡ true → production-held t
 unfolding production-held tail-held
 held-some t r e = rw e
 
--- A production of the normal form has members that are nodes, and at most 31 of them.
+-- A production of the normal form has members that are nodes, and at most `most-tail` of them.
 pub production-fits : {e : Expression} {a : LanguageType} → [] ⊢ e ∶ a → (tokens : ℕ) → Closed tokens 0 e → size e ≤ most-expression-nodes
     → (t n : ℕ) (p : Production) → production-of t ((row-of (normal-form e) n) .productions) ≡ some p
     → (length (p .tail) ≤ most-tail) × All (λ m. m < size e) (p .tail)
 production-fits {e} d tokens closed small t n p h =
     let f : Found t ((row-of (normal-form e) n) .productions) (some p) =
-    subst (Found t ((row-of (normal-form e) n) .productions))
-    (beginning-is-production t ((row-of (normal-form e) n) .productions) ∙ h)
-    (beginning-found t ((row-of (normal-form e) n) .productions)) in
+    subst (Found t ((row-of (normal-form e) n) .productions)) h (production-found t ((row-of (normal-form e) n) .productions)) in
     (tails-at-most d small n p (f .0), (normal-form-in-range e tokens closed n p (f .0)) .tail-below)

@@ -23,10 +23,10 @@ column-node tag link guarded n = cond (ltb n 64) (held-node tag link guarded n) 
 unfoldable pub column-first : List ℕ → ℕ → ℕ
 column-first first n = cond (ltb n 64) (getD first n 0) 0
 
--- The node after an alternative, a fixed point or a variable.
+-- The node after an alternative, a fixed point or a variable; after any other, 64.
 unfoldable pub next-node : ℕ → ℕ → ℕ → List ℕ → ℕ → ℕ
 next-node tag link n first t =
-    cond (eqb tag 4) (cond (bit (column-first first (n + 1)) t) (n + 1) link) (cond (eqb tag 5) (n + 1) link)
+    cond (eqb tag 4) (cond (bit (column-first first (n + 1)) t) (n + 1) link) (cond (eqb tag 5) (n + 1) (cond (eqb tag 6) link 64))
 
 -- The walk over columns, in so many steps.
 abbrev pub column-walk : List ℕ → List ℕ → ℕ → List ℕ → ℕ → ℕ → ℕ → ℕ → List ℕ → Option (List ℕ)

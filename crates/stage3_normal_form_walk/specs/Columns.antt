@@ -10,13 +10,12 @@ use Rattle.stage0_laws.specs.Bits.{bit}
 use Rattle.stage1_sheet.specs.Expression.{Expression, size}
 use Rattle.stage1_sheet.specs.Limits.{most-tokens, most-expression-nodes}
 use Rattle.stage1_sheet.specs.WellFormed.{Closed}
-use Rattle.stage2_types.specs.Nodes.{nodes}
+use Rattle.stage2_types.specs.Nodes.{nodes, node-at}
 use Rattle.stage2_types.specs.LeastTypes.{type-of, least-types}
 use Rattle.stage2_types.specs.Questions.{type-fault}
 use Rattle.stage2_types_columns.specs.Held.{held-node}
 use Rattle.stage3_normal_form.specs.Productions.{Production}
 use Rattle.stage3_normal_form.specs.Derives.{derives-at, derives}
-use Rattle.stage3_normal_form.specs.Places.{node-at}
 use Rattle.stage3_normal_form.specs.ProductionWalk.{with-head}
 use Rattle.stage3_normal_form_walk.specs.declared.Tail.{Tail}
 

@@ -12,10 +12,9 @@ ghost use Rattle.stage0_laws.specs.Bits.{bit};
 ghost use Rattle.stage1_sheet.specs.Expression.{Expression, size};
 ghost use Rattle.stage2_types.specs.Nodes.{nodes};
 ghost use Rattle.stage2_types_columns.specs.Held.{node-of, held-nodes};
-ghost use Rattle.stage3_normal_form.specs.Productions.{row-of};
+ghost use Rattle.stage3_normal_form.specs.Productions.{row-of, production-of};
 ghost use Rattle.stage3_normal_form.specs.Derives.{derives, node-derives, next-derives};
 ghost use Rattle.stage3_normal_form.specs.NormalForm.{normal-form};
-ghost use Rattle.stage5_image.specs.Fusion.{production-of};
 ghost use Rattle.stage3_normal_form_walk.specs.Columns.{SetOf, ColumnsOf, tail-held, production-held};
 ghost use Rattle.stage3_normal_form_walk.specs.ColumnWalk.{walked, column-first, next-node, column-walk};
 
@@ -80,7 +79,10 @@ fn node_derives(tag: u8, link: u8, n: usize, set: u64) -> bool
     if tag == 5 {
         return left;
     }
-    right
+    if tag == 6 {
+        return right;
+    }
+    false
 }
 
 // One round: every node's equation, applied to the nodes that are known so far.
@@ -165,7 +167,7 @@ fn begins(first: &[u32; 64], n: usize, token: u8) -> bool
 }
 
 // The node after an alternative, a fixed point or a variable: an alternative leads into the left part if that can begin with
-// the token.
+// the token. After any other there is none, and 64 is none.
 fn next_node(tag: u8, link: u8, n: usize, first: &[u32; 64], token: u8) -> usize
     requires { ⌜ n < 64 ⌝ }
     ensures { λ r. ⌜ r ≡ next-node tag link n (now (first .entry)) token ⌝ }
@@ -179,7 +181,10 @@ fn next_node(tag: u8, link: u8, n: usize, first: &[u32; 64], token: u8) -> usize
     if tag == 5 {
         return n + 1;
     }
-    link as usize
+    if tag == 6 {
+        return link as usize;
+    }
+    64
 }
 
 // The walk for a token from a node. A sequence remembers its right node and leads into its left part; one whose right node

@@ -1,5 +1,6 @@
 -- One name that opens every definition of this stage and of the stages below it, for theorems that compute.
-use Rattle.stage5_image.specs.Fusion.{production-of, by-rule, fused-from, fused-row, fused}
+use Rattle.stage5_image.specs.Fusion.{by-rule, fused-from, fused-row, fused}
+use Rattle.stage3_normal_form.specs.Productions.{production-of}
 use Rattle.stage5_image.specs.Numbering.{is-met, meet, meet-all, tail-members, meet-rows, reached, number-of, renumbered, renumbered-row, numbered}
 use Rattle.stage5_image.specs.Image.{skips-rule, image-of, flag, flag-numbers, position-numbers, production-numbers, row-numbers, image-numbers, image-bytes}
 use Rattle.stage5_image.specs.ImageReading.{image-field, read-flag, read-list, read-position, read-production, read-row, image-end, read-image}

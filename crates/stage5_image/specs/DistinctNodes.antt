@@ -12,7 +12,7 @@ use lib.ListN.{getD, length, take, take-append-drop, drop}
 use lib.Seq.{take-suc, length-take-le}
 use borrow.Author.Tests.{eq-eqb}
 use Rattle.stage0_laws.specs.Truth.{true-holds}
-use Rattle.stage5_image.specs.Members.{member-at}
+use Rattle.stage0_laws.specs.Members.{member-at}
 use Rattle.stage5_image.specs.Numbering.{is-met, number-of}
 use Rattle.stage5_image.specs.MetNodes.{Met, Once, met-last, number-left, number-below}
 

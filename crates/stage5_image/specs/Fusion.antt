@@ -1,17 +1,10 @@
 -- "Next, fusion replaces each token by every rule that returns it; a token without rules loses its productions."
 -- Figure 6 of 000 without its lexing: which rule matches is the machine's to find.
-use mathlib.Core.Bool.{Bool, true, false}
 use mathlib.Core.List.{List, [], _∷_, map}
 use mathlib.Core.Option.{Option, none, some}
 use Prim.Native.Nat.{ℕ, zero, suc}
-use lib.Dec.{eqb}
 use Rattle.stage1_sheet.specs.Sheet.{Rule}
-use Rattle.stage3_normal_form.specs.Productions.{Production, Row}
-
--- The production that begins with a symbol. A row of an accepted sheet's normal form has at most one.
-unfoldable pub production-of : ℕ → List Production → Option Production
-production-of t [] = none
-production-of t (p ∷ ps) = elim (eqb (p .head) t) [ true ↦ some p | false ↦ production-of t ps ]
+use Rattle.stage3_normal_form.specs.Productions.{Production, Row, production-of}
 
 -- A token's production as the production of rule r, before the others.
 unfoldable pub by-rule : ℕ → Option Production → List Production → List Production

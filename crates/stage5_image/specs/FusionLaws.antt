@@ -1,43 +1,20 @@
 -- Laws of fusion: which production a rule has, that rules rise, and where each fused production comes from.
 -- Nothing here speaks of numbering or of an image.
 use mathlib.Core.Path.{_≡_, refl, sym, ap, subst, _∙_}
-use mathlib.Core.Bool.{Bool, true, false}
-use mathlib.Core.List.{List, [], _∷_, List·Memᴰ, List·Memᴰ·head, List·Memᴰ·tail, List·Memᴰ·not-nil, List·Memᴰ·cases-cons}
+use mathlib.Core.List.{List, [], _∷_, List·Memᴰ, List·Memᴰ·not-nil, List·Memᴰ·cases-cons}
 use mathlib.Core.Logic.{⊎-elim}
 use mathlib.Core.Option.{Option, none, some}
 use Prim.Native.Nat.{ℕ, zero, suc, _+_, _≤_, _<_}
 use native.Mathlib.Omega.{arith}
-use lib.Dec.{eqb, eqb→eq}
 use lib.ListN.{length}
 use borrow.Author.Tests.{eq-eqb, ne-eqb}
-use Rattle.stage0_laws.specs.Truth.{true-holds}
 use Rattle.stage1_sheet.specs.Sheet.{Rule}
-use Rattle.stage3_normal_form.specs.Productions.{Production}
+use Rattle.stage3_normal_form.specs.Productions.{Production, production-of}
+use Rattle.stage3_normal_form.specs.ProductionLaws.{Found, production-found}
 use Rattle.stage4_lexer.specs.Words.{RuleAt, first-rule, later-rule}
-use Rattle.stage5_image.specs.Fusion.{production-of, by-rule, fused-from}
+use Rattle.stage5_image.specs.Fusion.{by-rule, fused-from}
 use Rattle.stage5_image.specs.ImageRanges.{Rising}
 use Rattle.stage5_image.specs.Unfolding.{Returns}
-
--- ---- the production that begins with a symbol
-
--- What the search for a production tells: one that begins with the symbol, or that none does.
-abbrev pub Found : ℕ → List Production → Option Production → Type 0
-Found t ps none = (p : Production) → List·Memᴰ p ps → p .head ≡ t → ⊥
-Found t ps (some p) = List·Memᴰ p ps × (p .head ≡ t)
-
-pub production-found : (t : ℕ) (ps : List Production) → Found t ps (production-of t ps)
-unfolding production-of
-production-found t [] = λ p m e. List·Memᴰ·not-nil m
-production-found t (q ∷ ps) = go (production-of t ps) (production-found t ps) (eqb (q .head) t) refl
-  where
-    later : (o : Option Production) → (q .head ≡ t → ⊥) → Found t ps o → Found t (q ∷ ps) o
-    later none other f = λ p m e. ⊎-elim (λ same. other (ap (λ (z : Production). z .head) (sym same) ∙ e)) (λ k. f p k e)
-        (List·Memᴰ·cases-cons m)
-    later (some p) other f = (List·Memᴰ·tail (f .0), f .1)
-
-    go : (o : Option Production) → Found t ps o → (b : Bool) → eqb (q .head) t ≡ b → Found t (q ∷ ps) (elim b [ true ↦ some q | false ↦ o ])
-    go o f true e = (List·Memᴰ·head refl, eqb→eq (q .head) t (true-holds (eqb (q .head) t) e))
-    go o f false e = later o (λ same. let z = sym e ∙ eq-eqb (q .head) t same in let x : _≡_ {A = ℕ} 0 1 = cc in omega arith) f
 
 -- ---- a rule's production
 

@@ -15,7 +15,8 @@ use Rattle.stage1_sheet.specs.Field.{got}
 use Rattle.stage2_types.specs.Types.{LanguageType, _⊢_∶_}
 use Rattle.stage3_normal_form.specs.Productions.{Production, row-of}
 use Rattle.stage3_normal_form.specs.NormalForm.{normal-form}
-use Rattle.stage3_normal_form.specs.NormalFormLaws.{normal-form-length, normal-form-fits}
+use Rattle.stage3_normal_form.specs.NormalFormLaws.{normal-form-fits}
+use Rattle.stage3_normal_form.specs.KeptRows.{normal-form-length}
 use Rattle.stage3_normal_form.specs.Expansion.{normalization-sound}
 use Rattle.stage3_normal_form.specs.Tails.{sequence-count-bound, normal-form-in-range, tails-at-most}
 use Rattle.stage4_lexer.specs.Positions.{Position, positions, empty-match}
@@ -24,7 +25,7 @@ use Rattle.stage5_image.specs.Image.{image-of, image-bytes, skips-rule}
 use Rattle.stage5_image.specs.ImageRanges.{PositionInRange, InRange}
 use Rattle.stage5_image.specs.ImageReading.{read-image}
 use Rattle.stage5_image.specs.ImageRoundTrip.{read-back}
-use Rattle.stage5_image.specs.Members.{all-member}
+use Rattle.stage0_laws.specs.Members.{all-member}
 use Rattle.stage5_image.specs.NumberingLaws.{TailsInside, of-tail-members}
 use Rattle.stage5_image.specs.RowRanges.{TailsShort, rows-in-range, some-image-rows, image-row-count}
 use Rattle.stage5_image.specs.Unfolding.{StartUnfolds, DenotedRules}

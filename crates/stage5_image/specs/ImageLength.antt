@@ -33,7 +33,7 @@ use Rattle.stage5_image.specs.Image.{Image, image-of, flag, flag-numbers
 use Rattle.stage5_image.specs.ImageLaws.{normal-form-inside, normal-form-some, image-in-range}
 use Rattle.stage5_image.specs.ImageNumbers.{all-numbers, flag-number, one-position-numbers, one-production-numbers, one-row-numbers, flags-are, positions-are, productions-are, rows-are}
 use Rattle.stage5_image.specs.ImageRanges.{PositionInRange, ProductionInRange, RowInRange, InRange}
-use Rattle.stage5_image.specs.Members.{all-member, of-flatMap}
+use Rattle.stage0_laws.specs.Members.{all-member, of-flatMap}
 use Rattle.stage5_image.specs.Numbering.{reached}
 use Rattle.stage5_image.specs.NumberingLaws.{row-by-row, numbered-count}
 use Rattle.stage5_image.specs.Simulation.{reached-fused, fused-member}

@@ -13,7 +13,6 @@ pub mod FusionLaws
 pub mod MetNodes
 pub mod DistinctNodes
 pub mod NumberingLaws
-pub mod Members
 pub mod Simulation
 pub mod UnfoldingLaws
 pub mod ImageNumbers

@@ -10,10 +10,11 @@ use lib.Dec.{eqb}
 use lib.ListN.{getD, length, length-map, List·getD-map}
 use Rattle.stage0_laws.specs.Lists.{All}
 use Rattle.stage1_sheet.specs.Sheet.{Rule}
-use Rattle.stage3_normal_form.specs.Productions.{Production, Row, no-productions, row-of}
-use Rattle.stage5_image.specs.Fusion.{production-of, by-rule, fused-from, fused-row, fused}
-use Rattle.stage5_image.specs.FusionLaws.{Found, production-found, as-rule, rule-production, FusedOf, fused-of}
-use Rattle.stage5_image.specs.Members.{all-of}
+use Rattle.stage3_normal_form.specs.Productions.{Production, Row, no-productions, row-of, production-of}
+use Rattle.stage5_image.specs.Fusion.{by-rule, fused-from, fused-row, fused}
+use Rattle.stage5_image.specs.FusionLaws.{as-rule, rule-production, FusedOf, fused-of}
+use Rattle.stage3_normal_form.specs.ProductionLaws.{Found, production-found}
+use Rattle.stage0_laws.specs.Members.{all-of}
 use Rattle.stage5_image.specs.Numbering.{reached, number-of, renumbered, renumbered-row, numbered}
 use Rattle.stage5_image.specs.MetNodes.{Met, number-below as node-number}
 use Rattle.stage5_image.specs.NumberingLaws.{TailsInside, Reached, reached-is, row-at-number, tail-member, of-tail-members, numbered-count}

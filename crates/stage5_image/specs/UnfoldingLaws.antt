@@ -10,11 +10,11 @@ use native.Mathlib.Omega.{arith}
 use lib.ListN.{length}
 use Rattle.stage0_laws.specs.Lists.{All}
 use Rattle.stage1_sheet.specs.Sheet.{Rule}
-use Rattle.stage3_normal_form.specs.Productions.{Production, Row, row-of}
+use Rattle.stage3_normal_form.specs.Productions.{Production, Row, row-of, production-of}
 use Rattle.stage3_normal_form.specs.Expansion.{Expands, complete, expand-empty, expand-token}
-use Rattle.stage5_image.specs.Fusion.{production-of, fused}
-use Rattle.stage5_image.specs.FusionLaws.{Found, production-found}
-use Rattle.stage5_image.specs.Members.{all-append}
+use Rattle.stage5_image.specs.Fusion.{fused}
+use Rattle.stage3_normal_form.specs.ProductionLaws.{Found, production-found}
+use Rattle.stage0_laws.specs.Members.{all-append}
 use Rattle.stage5_image.specs.Numbering.{numbered}
 use Rattle.stage5_image.specs.NumberingLaws.{TailsInside}
 use Rattle.stage5_image.specs.Simulation.{Simulates, tail-of, tail-numbers, TailKnown, image-simulates}

@@ -15,7 +15,7 @@ use Rattle.stage0_laws.specs.Truth.{true-holds}
 use Rattle.stage3_normal_form_walk.proofs.Walking.{not-true, not-false}
 use Rattle.stage3_normal_form_walk.specs.Columns.{tail-held}
 use Rattle.stage3_normal_form_walk.specs.declared.Tail.{Tail}
-use Rattle.stage5_image.specs.Members.{all-at}
+use Rattle.stage0_laws.specs.Members.{all-at}
 use Rattle.stage5_image.specs.Numbering.{is-met, meet, meet-all, number-of}
 use Rattle.stage5_image.specs.MetNodes.{met-last, first-met, meet-all-order, number-below, number-left, number-last}
 use Rattle.stage5_image.specs.NumberingLaws.{meet-all-append}

@@ -9,15 +9,14 @@ use lib.Seq.{getD-take}
 use Rattle.stage0_laws.specs.Lists.{All}
 use Rattle.stage1_sheet.specs.Expression.{Expression, size}
 use Rattle.stage1_sheet.specs.Sheet.{Rule}
-use Rattle.stage3_normal_form.specs.Productions.{Production, row-of}
+use Rattle.stage3_normal_form.specs.Productions.{Production, row-of, production-of}
 use Rattle.stage3_normal_form.specs.NormalForm.{normal-form}
 use Rattle.stage3_normal_form.specs.ProductionWalk.{with-head}
 use Rattle.stage3_normal_form.specs.Tails.{normal-form-in-range}
 use Rattle.stage3_normal_form_walk.specs.Columns.{tail-held, production-held}
 use Rattle.stage3_normal_form_walk.specs.declared.Tail.{Tail}
-use Rattle.stage5_image.specs.Fusion.{production-of}
-use Rattle.stage5_image.specs.FusionLaws.{Found, production-found}
-use Rattle.stage5_image.specs.Members.{all-of, all-member}
+use Rattle.stage3_normal_form.specs.ProductionLaws.{Found, production-found}
+use Rattle.stage0_laws.specs.Members.{all-of, all-member}
 use Rattle.stage5_image.specs.Simulation.{tail-of}
 use Rattle.stage5_image_numbering.specs.Grammar.{GrammarOf, members-of}
 use Rattle.stage5_image_numbering.specs.RuleTails.{action-tail, rule-tail}

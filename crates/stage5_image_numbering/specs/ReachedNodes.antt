@@ -9,10 +9,10 @@ use Rattle.stage1_sheet.specs.Expression.{Expression, size}
 use Rattle.stage1_sheet.specs.Sheet.{Rule}
 use Rattle.stage3_normal_form.specs.Productions.{Production, Row, row-of}
 use Rattle.stage3_normal_form.specs.NormalForm.{normal-form}
-use Rattle.stage3_normal_form.specs.NormalFormLaws.{normal-form-length}
+use Rattle.stage3_normal_form.specs.KeptRows.{normal-form-length}
 use Rattle.stage5_image.specs.Fusion.{fused}
 use Rattle.stage5_image.specs.ImageLaws.{normal-form-inside, normal-form-some}
-use Rattle.stage5_image.specs.Members.{member-at, of-flatMap}
+use Rattle.stage0_laws.specs.Members.{member-at, of-flatMap}
 use Rattle.stage5_image.specs.MetNodes.{first-met-member}
 use Rattle.stage5_image.specs.Numbering.{reached}
 use Rattle.stage5_image.specs.NumberingLaws.{row-by-row, Reached, TailsInside, tail-member}

@@ -9,8 +9,8 @@ use lib.ListN.{getD, length, drop, drop-of-length-le}
 use lib.Seq.{drop-cons}
 use Rattle.stage1_sheet.specs.Regex.{empty}
 use Rattle.stage1_sheet.specs.Sheet.{Rule}
-use Rattle.stage3_normal_form.specs.Productions.{Production}
-use Rattle.stage5_image.specs.Fusion.{production-of, by-rule, fused-from}
+use Rattle.stage3_normal_form.specs.Productions.{Production, production-of}
+use Rattle.stage5_image.specs.Fusion.{by-rule, fused-from}
 use Rattle.stage5_image.specs.ImageNumbers.{all-numbers}
 use Rattle.stage5_image.specs.Numbering.{tail-members}
 use Rattle.stage5_image.specs.NumberingLaws.{getD-map-inside}

@@ -16,8 +16,7 @@ use Rattle.stage0_laws.specs.Bits.{bit}
 use Rattle.stage0_laws.specs.BitLaws.{and-test, shl-one}
 use Rattle.stage0_laws.specs.Order.{compare-cases}
 use Rattle.stage1_sheet.specs.Field.{Reading, stop, got, between}
-use Rattle.stage3_normal_form.specs.Productions.{Production}
-use Rattle.stage5_image.specs.Fusion.{production-of}
+use Rattle.stage3_normal_form.specs.Productions.{Production, production-of}
 use Rattle.stage5_image.specs.ImageReading.{image-field, read-list, read-production}
 use Rattle.stage5_image_reader.specs.Answers.{ProductionHeld, ProductionAnswers}
 use Rattle.stage5_image_reader.specs.declared.ProductionRead.the-variants as production

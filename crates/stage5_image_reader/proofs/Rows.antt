@@ -9,8 +9,7 @@ use lib.ListN.{length, getD, length-append}
 use lib.Dec.{eqb}
 use Rattle.stage0_laws.specs.Order.{lt-or-le}
 use Rattle.stage1_sheet.specs.Field.{stop, got, between, read-many}
-use Rattle.stage3_normal_form.specs.Productions.{Production, Row, row-of, no-productions}
-use Rattle.stage5_image.specs.Fusion.{production-of}
+use Rattle.stage3_normal_form.specs.Productions.{Production, Row, row-of, no-productions, production-of}
 use Rattle.stage5_image.specs.ImageReading.{image-field, read-production, read-row}
 use Rattle.stage5_image_reader.specs.Answers.{with-flag}
 use Rattle.stage5_image_reader.specs.Tables.{FlagsOf, EntryIs, EntriesOf, RowHeld, RowsHeld, Room, SameBelow}

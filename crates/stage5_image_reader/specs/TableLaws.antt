@@ -7,8 +7,7 @@ use native.Mathlib.Omega.{arith}
 use lib.ListN.{length, getD, drop}
 use lib.Seq.{getD-take, getD-drop}
 use Rattle.stage0_laws.specs.Lists.{All}
-use Rattle.stage3_normal_form.specs.Productions.{Production, row-of}
-use Rattle.stage5_image.specs.Fusion.{production-of}
+use Rattle.stage3_normal_form.specs.Productions.{Production, row-of, production-of}
 use Rattle.stage5_image.specs.Image.{Image}
 use Rattle.stage5_image_reader.specs.Tables.{TailAt, EntryIs}
 use Rattle.stage5_image_reader.specs.Decoded.{Decoded}

@@ -9,11 +9,10 @@ use lib.Dec.{eqb}
 use lib.ListN.{length, getD, take, drop}
 use Rattle.stage0_laws.specs.Bits.{bit}
 use Rattle.stage0_laws.specs.Lists.{All}
-use Rattle.stage3_normal_form.specs.Productions.{Production, Row, row-of, no-productions}
+use Rattle.stage3_normal_form.specs.Productions.{Production, Row, row-of, no-productions, production-of}
 use Rattle.stage4_lexer.specs.Positions.{Position}
 use Rattle.stage4_lexer_columns.specs.Held.{held-positions}
 use Rattle.stage4_lexer_columns.specs.declared.PositionColumns.{PositionColumns}
-use Rattle.stage5_image.specs.Fusion.{production-of}
 
 -- ---- sets of flags
 

@@ -12,11 +12,9 @@ use Rattle.stage1_sheet.specs.Expression.{Expression, size}
 use Rattle.stage1_sheet.specs.Sheet.{Rule}
 use Rattle.stage2_types.specs.LeastTypeLaws.{least-solves}
 use Rattle.stage2_types.specs.Typing.{no-fault-typed}
-use Rattle.stage3_normal_form.specs.Productions.{Production, Row, row-of, rows as all-rows}
-use Rattle.stage3_normal_form.specs.Derives.{derives}
-use Rattle.stage3_normal_form.specs.NormalForm.{kept-row, normal-form}
-use Rattle.stage3_normal_form.specs.NormalFormLaws.{normal-form-row}
-use Rattle.stage3_normal_form.specs.TypesExact.{null-is-epsilon}
+use Rattle.stage3_normal_form.specs.Productions.{Production, row-of}
+use Rattle.stage3_normal_form.specs.NormalForm.{normal-form}
+use Rattle.stage3_normal_form.specs.NullExact.{null-is-epsilon}
 use Rattle.stage3_normal_form_walk.specs.Columns.{tail-held}
 use Rattle.stage3_normal_form_walk.specs.declared.Tail.{Tail}
 use Rattle.stage5_image.specs.Fusion.{fused-from, fused-row}
@@ -105,10 +103,6 @@ productions-emitted g number rules e h node r l m x =
 
 -- ---- the row
 
-kept-empty : (flags : List Bool) (row : Row) → (kept-row flags row) .empty ≡ row .empty
-unfolding kept-row
-kept-empty flags row = refl
-
 -- The ε flag of a node is in the set of nullable nodes.
 null-empty : (g : Grammar) (rules : List Rule) (e : Expression) → GrammarOf g rules e → (node : ℕ) → node < size e
     → bit (g .null) node ≡ (row-of (normal-form e) node) .empty
@@ -117,7 +111,6 @@ null-empty g rules e h node inside =
     h .null-held node inside
     ∙ null-is-epsilon (no-fault-typed (k .tokens) (k .tokens-most) e (k .closed) (k .no-fault)) (least-solves (k .tokens)
     (k .tokens-most) e (k .closed)) node
-    ∙ sym (ap (λ (r : Row). r .empty) (normal-form-row e node) ∙ kept-empty (derives e) (row-of (all-rows e) node))
 
 map-numbers : {A B : Type 0} (f : B → List ℕ) (m : A → B) (l : List A) → all-numbers f (map m l) ≡ all-numbers (λ a. f (m a)) l
 map-numbers f m [] = refl

@@ -15,7 +15,7 @@ use Rattle.stage1_sheet.specs.Sheet.{Rule, Sheet}
 use Rattle.stage1_sheet.specs.Spelling.{spell}
 use Rattle.stage3_normal_form.specs.Productions.{Production, Row, no-productions, row-of}
 use Rattle.stage3_normal_form.specs.NormalForm.{normal-form}
-use Rattle.stage3_normal_form.specs.NormalFormLaws.{normal-form-length}
+use Rattle.stage3_normal_form.specs.KeptRows.{normal-form-length}
 use Rattle.stage4_lexer.specs.Positions.{Position, positions}
 use Rattle.stage4_lexer_columns.specs.Held.{held-position, held-from, held-positions}
 use Rattle.stage4_lexer_columns.specs.declared.PositionColumns.{PositionColumns}

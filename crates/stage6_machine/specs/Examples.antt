@@ -8,7 +8,7 @@ use Rattle.stage1_sheet.specs.Expression.{Expression, epsilon, bottom, token, s
 use Rattle.stage1_sheet.specs.Sheet.{Rule, Sheet}
 use Rattle.stage5_image.specs.Image.{image-of}
 use Rattle.stage6_machine.specs.Answer.{Answer, answer}
-use Rattle.stage6_machine.specs.Run.{run-image}
+use Rattle.stage6_machine.specs.Run.{run-image, long-enough}
 use Rattle.stage6_machine.specs.Computing.{computing-machine}
 
 pub record Example : Type 0 where
@@ -48,7 +48,6 @@ examples =
     ∷ example letters (sequence (token 0) (sequence (token 1) (token 0))) (97 ∷ 98 ∷ []) (answer 16 2 2)
     ∷ []
 
--- A stack of 31 entries is enough for all of them.
-pub examples-answered : map (λ x. run-image (image-of (x .sheet)) 31 (x .text)) examples ≡ map (λ x. x .answered) examples
+pub examples-answered : map (λ x. run-image (image-of (x .sheet)) (long-enough (x .text)) (x .text)) examples ≡ map (λ x. x .answered) examples
 unfolding examples computing-machine
 examples-answered = refl

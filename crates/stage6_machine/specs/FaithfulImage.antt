@@ -15,13 +15,13 @@ use Rattle.stage1_sheet.specs.Sheet.{Rule, Sheet}
 use Rattle.stage1_sheet.specs.WellFormed.{WithinLimits}
 use Rattle.stage2_types.specs.Denotation.{Language, Denotes}
 use Rattle.stage2_types.specs.Types.{LanguageType, _⊢_∶_}
-use Rattle.stage3_normal_form.specs.Productions.{Row, row-of}
+use Rattle.stage3_normal_form.specs.Productions.{Row, row-of, most-growth}
 use Rattle.stage3_normal_form.specs.NormalForm.{normal-form}
 use Rattle.stage3_normal_form.specs.NodeLanguages.{language-of}
 use Rattle.stage3_normal_form.specs.Unfolding.{concatenation}
 use Rattle.stage3_normal_form.specs.Pending.{Ready, TokenStep, StepWords, step-words, end-exact, GrowsBy, ready-one}
 use Rattle.stage3_normal_form.specs.NormalFormLaws.{normal-form-fits, start-words}
-use Rattle.stage3_normal_form.specs.Tails.{pending-grows, most-growth}
+use Rattle.stage3_normal_form.specs.Tails.{pending-grows}
 use Rattle.stage4_lexer.specs.Words.{RuleAt, first-rule, later-rule}
 use Rattle.stage4_lexer.specs.Positions.{empty-match}
 use Rattle.stage4_lexer.specs.LongestMatchLaws.{Right, match-right}
@@ -32,7 +32,7 @@ use Rattle.stage5_image.specs.Simulation.{Simulates, image-simulates}
 use Rattle.stage5_image.specs.ImageLaws.{normal-form-inside, normal-form-some}
 use Rattle.stage5_image.specs.Image.{Image, image-of, skips-rule}
 use Rattle.stage5_image.specs.Unfolding.{Returns}
-use Rattle.stage6_machine.specs.Run.{take-rule, all-nullable}
+use Rattle.stage6_machine.specs.Turn.{take-rule, all-nullable}
 use Rattle.stage6_machine.specs.OwnAnswer.{Allowed, ActionOf}
 use Rattle.stage6_machine.specs.TakingLaws.{Taken, taken, nullable-same, numbers-of, AllKnown}
 use Rattle.stage6_machine.specs.RunAnswers.{TakenIs, Faithful}

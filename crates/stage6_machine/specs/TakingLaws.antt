@@ -10,14 +10,13 @@ use native.Mathlib.Omega.{arith}
 use Rattle.stage0_laws.specs.Lists.{All}
 use Rattle.stage0_laws.specs.Truth.{and-true-first, and-true-second}
 use Rattle.stage1_sheet.specs.Sheet.{Rule}
-use Rattle.stage3_normal_form.specs.Productions.{Production, Row, row-of}
+use Rattle.stage3_normal_form.specs.Productions.{Production, Row, row-of, production-of}
 use Rattle.stage3_normal_form.specs.Pending.{AllNullable, TokenStep, takes, drops, stops, none-left}
-use Rattle.stage5_image.specs.Fusion.{production-of}
-use Rattle.stage5_image.specs.FusionLaws.{Found, production-found}
-use Rattle.stage5_image.specs.Members.{all-append}
+use Rattle.stage3_normal_form.specs.ProductionLaws.{Found, production-found}
+use Rattle.stage0_laws.specs.Members.{all-append}
 use Rattle.stage5_image.specs.Simulation.{Simulates, tail-of, tail-numbers, TailKnown}
 use Rattle.stage5_image.specs.Unfolding.{Returns}
-use Rattle.stage6_machine.specs.Run.{take-rule, all-nullable}
+use Rattle.stage6_machine.specs.Turn.{take-rule, all-nullable}
 
 -- The nonterminals of the nodes pending after a take.
 abbrev pub numbers-of : (ℕ → ℕ) → Option (List ℕ) → Option (List ℕ)

@@ -47,15 +47,18 @@ image-kept sheet work buffer = go (compile sheet work (length buffer)) refl
         let fits = compiled-fits sheet work (length buffer) image e in
         omega (arith, length-append image (drop (length image) buffer), length-drop (length image) buffer)
 
+-- Said of any number of bytes: a list of 65,536 zeros is never to be written out.
+cleared-kept : (n : ℕ) (work : List ℕ) → n ≤ length work → length (replicate n 0 ++ drop n work) ≡ length work
+cleared-kept n work l =
+    omega (arith, length-append (replicate n 0) (drop n work), length-replicate {A = ℕ} n 0, length-drop n work)
+
 work-kept : (work : List ℕ) → length (work-after work) ≡ length work
 unfolding work-after
 work-kept work = go (ltb (length work) work-bytes) refl
   where
     go : (b : Bool) → ltb (length work) work-bytes ≡ b → length (cond b work (replicate work-bytes 0 ++ drop work-bytes work)) ≡ length work
     go true e = refl
-    go false e =
-        let l = ltb-false (length work) work-bytes e in
-        omega (arith, length-append (replicate work-bytes 0) (drop work-bytes work), length-replicate {A = ℕ} work-bytes 0, length-drop work-bytes work)
+    go false e = cleared-kept work-bytes work (ltb-false (length work) work-bytes e)
 
 stack-kept : (a : Answer) (stack : List ℕ) → length (stack-after a stack) ≡ length stack
 unfolding stack-after

@@ -13,6 +13,8 @@ use Rattle.stage5_image.specs.Compile as page
 use Rattle.stage5_image.specs.Compiles.{Acceptable}
 use Rattle.stage5_image.specs.CompileLaws.{acceptable-compiles, compiled-fits}
 use Rattle.stage5_image.specs.BufferLaws.{image-written}
+use Rattle.stage5_image.specs.ImageLength.{image-fits}
+use Rattle.stage4_lexer.specs.EmptyWord.{none-empty}
 use Rattle.stage5_image_compiler.specs.Answer.{case-of}
 use Rattle.stage5_image_compiler.specs.declared.Compiled.{Compiled}
 use Rattle.stage5_image_compiler.specs.declared.Compiled.the-variants.{Done, TooLong, Refused}
@@ -20,12 +22,13 @@ use Rattle.stage6_machine.specs.Answer.{Answer, answer}
 use Rattle.stage6_machine.specs.Run.{run, stack-after}
 use Rattle.stage7_demands.specs.Proofs.{demand-3}
 use Rattle.stage7_demands.specs.Demands.{Demand3}
-use Rattle.stage6_machine_runner.specs.Steps.{answer-of}
-use Rattle.stage6_machine_runner.specs.declared.RunAnswer.{RunAnswer}
+use Rattle.stage6_machine_turn.specs.Steps.{answer-held}
+use Rattle.stage6_machine_turn.specs.declared.RunAnswer.{RunAnswer}
 use Rattle.stage7_engine.specs.declared.TextRead.{TextRead}
 use Rattle.stage7_engine.specs.declared.TextRead.the-variants as read
 use Rattle.stage7_engine.specs.declared.Line.the-variants as printed
 use Rattle.stage7_engine.specs.Reading.{told, text-line, line-of}
+use Rattle.stage7_engine.specs.Program.{most-program-text, program-room, program-entries, program-line, OwnLine}
 use Rattle.stage7_engine.specs.Reading.{Told, sheet-refused, text-answered, answer-within, reading, stack-after-reading, OwnReading}
 
 -- The case of compiling's answer tells how compiling ended.
@@ -111,9 +114,38 @@ line-sheet r number place e = rw e
 
 module _ (r : TextRead) (a : RunAnswer) (e : r ≡ read.Text a) where
   pub line-accepted : a .number ≡ 0 → printed.Accepted (a .count) ≡ line-of (told r)
-  unfolding line-of text-line answer-of
+  unfolding line-of text-line answer-held
   line-accepted h = rw (e, eq-eqb (a .number) 0 h)
 
   pub line-refused : (a .number ≡ 0 → ⊥) → printed.Text (a .number) (a .place) ≡ line-of (told r)
-  unfolding line-of text-line answer-of
+  unfolding line-of text-line answer-held
   line-refused h = rw (e, ne-eqb (a .number) 0 h)
+
+-- ---- the program's line
+
+-- No condition on buffers is left: 65,536 bytes are room for every image, and the stack is long enough for 2,048 bytes.
+pub own-line : (sheet text : List ℕ) (t : Told) → OwnReading most-program-text sheet text page.work-bytes program-room program-entries t
+    → OwnLine sheet text (line-of t)
+own-line sheet text t o = record {
+  own-answer = λ s room a short.
+      let few = image-fits s ((a .well-formed) .limits) (none-empty (s .rules) .1 (a .no-empty-text)) ((a .has-type) .1) in
+      let fitting : Acceptable sheet program-room s = record {
+        well-formed = a .well-formed;
+        no-empty-text = a .no-empty-text;
+        has-type = a .has-type;
+        fits = omega (arith, few);
+      } in
+      let x = o .own-answer s fitting (omega arith) short (omega (arith, short)) (omega (arith, short)) in
+      (x .0, x .1, ap line-of (x .2));
+}
+
+-- What the engine told, and the line made of it, with buffers of the program's lengths.
+pub program-prints : (sheet text : List ℕ) (work image stack : ℕ) → work ≡ page.work-bytes → image ≡ program-room → stack ≡ program-entries
+    → (t : Told) → t ≡ reading most-program-text (compile sheet work image) text stack
+    → OwnReading most-program-text sheet text work image stack t
+    → (line-of t ≡ program-line sheet text) × OwnLine sheet text (line-of t)
+unfolding program-line
+program-prints sheet text work image stack w i s t e o =
+    let f : t ≡ reading most-program-text (compile sheet page.work-bytes program-room) text program-entries = rw (w, i, s) at e in
+    let p : OwnReading most-program-text sheet text page.work-bytes program-room program-entries t = rw (w, i, s) at o in
+    (ap line-of f, own-line sheet text t p)

@@ -12,7 +12,7 @@ use Rattle.stage5_image.specs.Compiles.{Acceptable}
 use Rattle.stage6_machine.specs.Answer.{Answer, answer}
 use Rattle.stage6_machine.specs.Run.{most-text-bytes, run, stack-after, long-enough}
 use Rattle.stage6_machine.specs.OwnAnswer.{OwnAnswer}
-use Rattle.stage6_machine_runner.specs.Steps.{answer-of}
+use Rattle.stage6_machine_turn.specs.Steps.{answer-held}
 use Rattle.stage7_engine.specs.declared.TextRead.{TextRead}
 use Rattle.stage7_engine.specs.declared.TextRead.the-variants as read
 use Rattle.stage7_engine.specs.declared.Line.{Line}
@@ -26,7 +26,7 @@ pub data Told : Type 0 where
 -- Document 01's numbers for each case of the code's answer.
 abbrev pub told : TextRead → Told
 told (read.Sheet number place) = sheet-refused number place
-told (read.Text a) = text-answered (answer-of a)
+told (read.Text a) = text-answered (answer-held a)
 
 -- A text over the limit is 12.
 unfoldable pub answer-within : ℕ → List ℕ → List ℕ → ℕ → Answer

@@ -1,10 +1,11 @@
 // The engine as one call: compiles a sheet and runs its image over a text. Its promise is the sheet's own answer.
 use stage5_image_compiler::Compiled;
-use stage6_machine_runner::RunAnswer;
+use stage6_machine_turn::RunAnswer;
 ghost use mathlib.Core.Path.{_≡_};
 ghost use lib.ListN.{length};
 ghost use Rattle.stage5_image.specs.Compile.{compile, image-after, work-after};
 ghost use Rattle.stage7_engine.specs.Reading.{told, reading, stack-after-reading, OwnReading, line-of};
+ghost use Rattle.stage7_engine.specs.Program.{program-line, OwnLine};
 
 // How reading a text by a sheet ends: the sheet was refused, with number and place; or the text's answer.
 pub enum TextRead {
@@ -71,4 +72,33 @@ pub fn line_for(read: TextRead) -> Line
             Line::Text(number, answer.place)
         }
     }
+}
+
+// The program's line with these buffers, whatever they hold. As arrays they have known lengths here.
+fn line_with(
+    sheet: &[u8],
+    text: &[u8],
+    work: &mut [u8; 65536],
+    image: &mut [u8; 65536],
+    stack: &mut [u8; 61441],
+) -> Line
+    ensures { λ r.
+        ⌜ (r ≡ program-line (now (sheet .entry)) (now (text .entry)))
+        × OwnLine (now (sheet .entry)) (now (text .entry)) r ⌝ }
+{
+    let read = read_text(sheet, text, 2048, work, image, stack);
+    line_for(read)
+}
+
+// The program's line for a sheet and a text: it lends a work area and an image buffer of 65,536 bytes, and a stack that is long
+// enough for a text of 2,048 bytes.
+pub fn program_line(sheet: &[u8], text: &[u8]) -> Line
+    ensures { λ r.
+        ⌜ (r ≡ program-line (now (sheet .entry)) (now (text .entry)))
+        × OwnLine (now (sheet .entry)) (now (text .entry)) r ⌝ }
+{
+    let mut work = [0u8; 65536];
+    let mut image = [0u8; 65536];
+    let mut stack = [0u8; 61441];
+    line_with(sheet, text, &mut work, &mut image, &mut stack)
 }

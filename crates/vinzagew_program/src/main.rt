@@ -38,22 +38,11 @@ fn print_line(line: Line) {
     }
 }
 
-// One byte more than is allowed tells that a file is too long. The stack is long enough for 2,048 bytes: 1 + 30 × 2,048 entries.
+// One byte more than is allowed tells that a file is too long.
 fn main() {
     let mut sheet = [0u8; 4097];
     let mut text = [0u8; 2049];
-    let mut work = [0u8; 65536];
-    let mut image = [0u8; 65536];
-    let mut stack = [0u8; 61441];
     let sheet_size = load(b"sheet", &mut sheet);
     let text_size = load(b"text", &mut text);
-    let read = stage7_engine::read_text(
-        &sheet[..sheet_size],
-        &text[..text_size],
-        2048,
-        &mut work,
-        &mut image,
-        &mut stack,
-    );
-    print_line(stage7_engine::line_for(read));
+    print_line(stage7_engine::program_line(&sheet[..sheet_size], &text[..text_size]));
 }

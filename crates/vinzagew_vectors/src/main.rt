@@ -1,15 +1,13 @@
 // Outside vectors through the engine: reads the files `compile`, `read`, `run` and `program`, a case a line, and prints a line for each.
 // The lent buffers are filled with a pattern first, and each line also says whether they ended as they must. Nothing is promised
 // here: what compiling and running do is in the contracts of the crates that are called.
-mod fields;
-mod show;
-
 use libc::STDOUT_FILENO;
 use stage5_image_compiler::Compiled;
 use stage7_engine::Line;
 use stage7_engine::TextRead;
-ghost use Prim.Native.Nat.{_≤_};
+ghost use Prim.Native.Nat.{_+_, _≤_, _<_};
 ghost use lib.ListN.{length};
+ghost use Rattle.io.specs.Counts.{Counts};
 
 const PATTERN: u8 = 165;
 
@@ -27,22 +25,204 @@ const STACK: usize = 1024;
 
 const MOST_TEXT: usize = 1048576;
 
-const MOST_PROGRAM_TEXT: usize = 2048;
+// The fields of a line: numbers in decimal and bytes in hexadecimal, each with a blank after it. A `-` stands for no bytes. Nothing
+// here judges a file that is written otherwise: its lines are other cases.
+
+// The value of a hexadecimal digit, or 16 where it is none.
+fn digit(c: u8) -> usize
+    ensures { λ r. ⌜ r ≤ 16 ⌝ }
+{
+    if c < b'0' {
+        return 16;
+    }
+    if c <= b'9' {
+        return (c - b'0') as usize;
+    }
+    if c < b'a' {
+        return 16;
+    }
+    if c <= b'f' {
+        return (c - b'a') as usize + 10;
+    }
+    16
+}
+
+// The number at a place, of five digits at most.
+fn decimal_field(text: &[u8], at: usize) -> usize {
+    let mut i = at;
+    let mut value: usize = 0;
+    while i < text.len() {
+        let d = digit(text[i]);
+        i += 1;
+        if 9 < d {
+            return value;
+        }
+        if 9999 < value {
+            return value;
+        }
+        value = value * 10 + d;
+    }
+    value
+}
+
+// The byte that two digits make at a place, or 256 where no two digits are there.
+fn byte_at(text: &[u8], at: usize) -> usize
+    ensures { λ r. ⌜ (r < 256 → at + 1 < length (now (text .entry))) ⌝ }
+{
+    if text.len() <= at {
+        return 256;
+    }
+    let next = at + 1;
+    if text.len() <= next {
+        return 256;
+    }
+    let high = digit(text[at]);
+    let low = digit(text[next]);
+    if high == 16 {
+        return 256;
+    }
+    if low == 16 {
+        return 256;
+    }
+    high * 16 + low
+}
+
+// Puts the bytes at a place into a buffer, and answers how many there are.
+fn bytes_field(text: &[u8], at: usize, buffer: &mut [u8]) -> usize
+    requires { ⌜ length (now text) ≤ 65536 ⌝ }
+    ensures { λ r. ⌜ Counts r (now (buffer .exit)) ⌝ }
+{
+    let mut i = at;
+    let mut count: usize = 0;
+    while count < buffer.len() {
+        let byte = byte_at(text, i);
+        if 255 < byte {
+            return count;
+        }
+        buffer[count] = byte as u8;
+        count += 1;
+        i += 2;
+    }
+    count
+}
+
+// The place after the next blank, or the end of the text.
+fn after_blank(text: &[u8], at: usize) -> usize {
+    let mut i = at;
+    while i < text.len() {
+        let c = text[i];
+        i += 1;
+        if c == b' ' {
+            return i;
+        }
+    }
+    i
+}
+
+// The place after the next line end, or the end of the text.
+fn next_line(text: &[u8], at: usize) -> usize
+    requires { ⌜ at < length (now text) ⌝ }
+    ensures { λ r. ⌜ (at < r) × (r ≤ length (now (text .entry))) ⌝ }
+{
+    let mut i = at;
+    while text[i] != b'\n' {
+        i += 1;
+        if text.len() <= i {
+            return i;
+        }
+    }
+    i + 1
+}
+
+// Printing what a case gave.
+fn show_word(bytes: &[u8]) {
+    io::write_all(STDOUT_FILENO, bytes);
+}
+
+// Three numbers with a blank between them.
+fn show_numbers(first: u64, second: u64, third: u64) {
+    io::print_decimal(STDOUT_FILENO, first);
+    io::write_all(STDOUT_FILENO, b" ");
+    io::print_decimal(STDOUT_FILENO, second);
+    io::write_all(STDOUT_FILENO, b" ");
+    io::print_decimal(STDOUT_FILENO, third);
+}
+
+// A word and two numbers, as a line.
+fn show_pair(bytes: &[u8], first: u64, second: u64) {
+    io::write_all(STDOUT_FILENO, bytes);
+    io::print_decimal(STDOUT_FILENO, first);
+    io::write_all(STDOUT_FILENO, b" ");
+    io::print_decimal(STDOUT_FILENO, second);
+    io::write_all(STDOUT_FILENO, b"\n");
+}
+
+// The end of a line: whether the lent buffers ended as they must.
+fn show_judgement(right: bool) {
+    if right {
+        io::write_all(STDOUT_FILENO, b" right\n");
+    } else {
+        io::write_all(STDOUT_FILENO, b" wrong\n");
+    }
+}
+
+fn hexadecimal_digit(value: u8) -> u8 {
+    if value < 10 {
+        return b'0' + value;
+    }
+    if value < 16 {
+        return b'a' + (value - 10);
+    }
+    b'?'
+}
+
+fn show_byte(value: u8) {
+    let digits = [hexadecimal_digit(value / 16), hexadecimal_digit(value % 16)];
+    io::write_all(STDOUT_FILENO, &digits);
+}
+
+// A blank, and then each of the first bytes as two digits.
+fn show_front(bytes: &[u8], count: usize) {
+    io::write_all(STDOUT_FILENO, b" ");
+    let mut i: usize = 0;
+    while i < count {
+        if bytes.len() <= i {
+            return;
+        }
+        show_byte(bytes[i]);
+        i += 1;
+    }
+}
+
+// Whether the bytes from one place to another are all there, and each is the given one.
+fn all_are(bytes: &[u8], from: usize, to: usize, value: u8) -> bool {
+    let mut i = from;
+    while i < to {
+        if bytes.len() <= i {
+            return false;
+        }
+        if bytes[i] != value {
+            return false;
+        }
+        i += 1;
+    }
+    true
+}
 
 // The work area ends as it must: its first 65,536 bytes zero and the others as they were, or all as they were after 1.
 fn work_right(number: u8, work: &[u8]) -> bool {
     if number == 1 {
-        return show::all_are(work, 0, WORK, PATTERN);
+        return all_are(work, 0, WORK, PATTERN);
     }
-    if show::all_are(work, 0, CLEARED, 0) {
-        return show::all_are(work, CLEARED, WORK, PATTERN);
+    if all_are(work, 0, CLEARED, 0) {
+        return all_are(work, CLEARED, WORK, PATTERN);
     }
     false
 }
 
 // The image buffer past what was written is as it was, and the work area ends as it must.
 fn buffers_right(number: u8, written: usize, work: &[u8], image: &[u8]) -> bool {
-    if show::all_are(image, written, IMAGE, PATTERN) {
+    if all_are(image, written, IMAGE, PATTERN) {
         return work_right(number, work);
     }
     false
@@ -52,17 +232,17 @@ fn buffers_right(number: u8, written: usize, work: &[u8], image: &[u8]) -> bool 
 fn show_compiled(made: Compiled, work: &[u8], image: &[u8]) {
     match made {
         Compiled::Refused(number, place) => {
-            show::numbers(number as u64, place as u64, 0);
-            show::judgement(buffers_right(number, 0, work, image));
+            show_numbers(number as u64, place as u64, 0);
+            show_judgement(buffers_right(number, 0, work, image));
         }
         Compiled::TooLong(needed) => {
-            show::numbers(11, 0, needed as u64);
-            show::judgement(buffers_right(11, 0, work, image));
+            show_numbers(11, 0, needed as u64);
+            show_judgement(buffers_right(11, 0, work, image));
         }
         Compiled::Done(size) => {
-            show::numbers(0, 0, size as u64);
-            show::front(image, size);
-            show::judgement(buffers_right(0, size, work, image));
+            show_numbers(0, 0, size as u64);
+            show_front(image, size);
+            show_judgement(buffers_right(0, size, work, image));
         }
     }
 }
@@ -98,11 +278,11 @@ fn compile_case(text: &[u8], at: usize)
     let mut sheet = [0u8; FIELD];
     let mut work = [PATTERN; WORK];
     let mut image = [PATTERN; IMAGE];
-    let image_at = fields::after_blank(text, at);
-    let sheet_at = fields::after_blank(text, image_at);
-    let work_size = fields::number(text, at);
-    let image_size = fields::number(text, image_at);
-    let sheet_size = fields::bytes(text, sheet_at, &mut sheet);
+    let image_at = after_blank(text, at);
+    let sheet_at = after_blank(text, image_at);
+    let work_size = decimal_field(text, at);
+    let image_size = decimal_field(text, image_at);
+    let sheet_size = bytes_field(text, sheet_at, &mut sheet);
     compile_with(
         &sheet[..sheet_size],
         work_size,
@@ -114,16 +294,16 @@ fn compile_case(text: &[u8], at: usize)
 
 // After 12 and 13 the lent part of the stack is as it was, and otherwise all zero; the rest is as it was.
 fn stack_right(number: u8, size: usize, stack: &[u8]) -> bool {
-    if !show::all_are(stack, size, STACK, PATTERN) {
+    if !all_are(stack, size, STACK, PATTERN) {
         return false;
     }
     if number == 12 {
-        return show::all_are(stack, 0, size, PATTERN);
+        return all_are(stack, 0, size, PATTERN);
     }
     if number == 13 {
-        return show::all_are(stack, 0, size, PATTERN);
+        return all_are(stack, 0, size, PATTERN);
     }
-    show::all_are(stack, 0, size, 0)
+    all_are(stack, 0, size, 0)
 }
 
 // Runs an image over a text with the front of the stack.
@@ -132,8 +312,8 @@ fn run_with(image: &[u8], input: &[u8], stack_size: usize, stack: &mut [u8]) {
         return;
     }
     let ran = stage6_machine_runner::run(image, input, &mut stack[..stack_size]);
-    show::numbers(ran.number as u64, ran.place as u64, ran.count as u64);
-    show::judgement(stack_right(ran.number, stack_size, stack));
+    show_numbers(ran.number as u64, ran.place as u64, ran.count as u64);
+    show_judgement(stack_right(ran.number, stack_size, stack));
 }
 
 // A case: the length of the stack, the image, and the text.
@@ -143,11 +323,11 @@ fn run_case(text: &[u8], at: usize)
     let mut image = [0u8; FIELD];
     let mut input = [0u8; FIELD];
     let mut stack = [PATTERN; STACK];
-    let image_at = fields::after_blank(text, at);
-    let input_at = fields::after_blank(text, image_at);
-    let stack_size = fields::number(text, at);
-    let image_size = fields::bytes(text, image_at, &mut image);
-    let input_size = fields::bytes(text, input_at, &mut input);
+    let image_at = after_blank(text, at);
+    let input_at = after_blank(text, image_at);
+    let stack_size = decimal_field(text, at);
+    let image_size = bytes_field(text, image_at, &mut image);
+    let input_size = bytes_field(text, input_at, &mut input);
     run_with(
         &image[..image_size],
         &input[..input_size],
@@ -181,7 +361,7 @@ fn read_with(
 }
 
 // A case: the sheet, and the text. There is as much room as the program lends.
-fn engine_case(text: &[u8], at: usize, limit: usize) -> TextRead
+fn read_case(text: &[u8], at: usize) -> TextRead
     requires { ⌜ length (now text) ≤ 65536 ⌝ }
 {
     let mut sheet = [0u8; FIELD];
@@ -189,13 +369,13 @@ fn engine_case(text: &[u8], at: usize, limit: usize) -> TextRead
     let mut work = [0u8; 65536];
     let mut image = [0u8; IMAGE];
     let mut stack = [0u8; 61441];
-    let input_at = fields::after_blank(text, at);
-    let sheet_size = fields::bytes(text, at, &mut sheet);
-    let input_size = fields::bytes(text, input_at, &mut input);
+    let input_at = after_blank(text, at);
+    let sheet_size = bytes_field(text, at, &mut sheet);
+    let input_size = bytes_field(text, input_at, &mut input);
     read_with(
         &sheet[..sheet_size],
         &input[..input_size],
-        limit,
+        MOST_TEXT,
         &mut work,
         &mut image,
         &mut stack,
@@ -204,26 +384,38 @@ fn engine_case(text: &[u8], at: usize, limit: usize) -> TextRead
 
 fn show_read(read: TextRead) {
     match read {
-        TextRead::Sheet(number, place) => show::numbers(number as u64, place as u64, 0),
+        TextRead::Sheet(number, place) => show_numbers(number as u64, place as u64, 0),
         TextRead::Text(answer) => {
-            show::numbers(
+            show_numbers(
                 answer.number as u64,
                 answer.place as u64,
                 answer.count as u64,
             )
         }
     }
-    show::word(b"\n");
+    show_word(b"\n");
+}
+
+// A case: the sheet, and the text, as the program would read them.
+fn program_case(text: &[u8], at: usize) -> Line
+    requires { ⌜ length (now text) ≤ 65536 ⌝ }
+{
+    let mut sheet = [0u8; FIELD];
+    let mut input = [0u8; FIELD];
+    let input_at = after_blank(text, at);
+    let sheet_size = bytes_field(text, at, &mut sheet);
+    let input_size = bytes_field(text, input_at, &mut input);
+    stage7_engine::program_line(&sheet[..sheet_size], &input[..input_size])
 }
 
 fn show_line(line: Line) {
     match line {
-        Line::Sheet(number, place) => show::pair(b"sheet ", number as u64, place as u64),
-        Line::Text(number, place) => show::pair(b"text ", number as u64, place as u64),
+        Line::Sheet(number, place) => show_pair(b"sheet ", number as u64, place as u64),
+        Line::Text(number, place) => show_pair(b"text ", number as u64, place as u64),
         Line::Accepted(count) => {
-            show::word(b"accepted ");
+            show_word(b"accepted ");
             io::print_decimal(STDOUT_FILENO, count as u64);
-            show::word(b"\n");
+            show_word(b"\n");
         }
     }
 }
@@ -241,13 +433,9 @@ fn show_case(kind: Kind, text: &[u8], at: usize)
 {
     match kind {
         Kind::Compile => compile_case(text, at),
-        Kind::Read => show_read(engine_case(text, at, MOST_TEXT)),
+        Kind::Read => show_read(read_case(text, at)),
         Kind::Run => run_case(text, at),
-        Kind::Program => show_line(stage7_engine::line_for(engine_case(
-            text,
-            at,
-            MOST_PROGRAM_TEXT,
-        ))),
+        Kind::Program => show_line(program_case(text, at)),
     }
 }
 
@@ -257,7 +445,7 @@ fn show_cases(kind: Kind, text: &[u8])
     let mut at: usize = 0;
     while at < text.len() {
         show_case(kind, text, at);
-        at = fields::next_line(text, at);
+        at = next_line(text, at);
     }
 }
 
@@ -266,7 +454,7 @@ fn show_file(kind: Kind, name: &[u8]) {
     let mut text = [0u8; 65536];
     let file = os::open_read(name);
     if file < 0 {
-        show::word(b"no file\n");
+        show_word(b"no file\n");
         return;
     }
     let size = io::read_full(file, &mut text);

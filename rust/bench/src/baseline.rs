@@ -141,8 +141,9 @@ fn walk(tables: &Tables, text: &[u8], stack: &mut [u8]) -> ([usize; 3], usize) {
                 }
             };
             let members = &tables.members[tables.tails[tail]..tables.tails[tail + 1]];
-            let Some(room) = stack.get_mut(height..height + members.len()) else {
-                return ([17, place, tokens], used);
+            let room = match stack.get_mut(height..height + members.len()) {
+                Some(room) => room,
+                None => return ([17, place, tokens], used),
             };
             room.copy_from_slice(members);
             height += members.len();
@@ -161,7 +162,7 @@ fn walk(tables: &Tables, text: &[u8], stack: &mut [u8]) -> ([usize; 3], usize) {
 mod tests {
     use super::*;
     use crate::grammars;
-    use vinzagew_reference::image_of;
+    use vinzagew_reference::{image_of, stack_length};
 
     /// The grammars are accepted, and the baseline and the reference agree on their texts, whole, cut
     /// off and damaged, on stacks long and short.
@@ -184,15 +185,15 @@ mod tests {
                 assert_eq!(found, expected, "{}", grammar.name);
                 found[0]
             };
-            assert_eq!(agree(&grammar.text, 1 + 30 * grammar.text.len()), 0);
+            assert_eq!(agree(&grammar.text, stack_length(grammar.text.len())), 0);
             for end in 0..300 {
                 let mut text = grammar.text[..end].to_vec();
-                agree(&text, 1 + 30 * end);
+                agree(&text, stack_length(end));
                 agree(&text, end % 7);
                 if let Some(byte) = text.get_mut(end * 7 / 11) {
                     *byte = *byte % 64 + 32;
                 }
-                agree(&text, 1 + 30 * end);
+                agree(&text, stack_length(end));
             }
         }
     }

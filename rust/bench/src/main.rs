@@ -10,13 +10,19 @@ mod baseline;
 mod grammars;
 
 use grammars::Grammar;
-use std::hint::black_box;
 use std::time::{Duration, Instant};
 use vinzagew::{
     compile_into, run_with, stack_length, IMAGE_BYTES, LIBRARY_LINKED, TEXT_LIMIT, WORK_BYTES,
 };
 
 const ROUNDS: usize = 9;
+
+/// The value, of which the compiler knows nothing: no call whose result goes through here is left out.
+/// The standard library's own is newer than the oldest Rust that this package works with.
+fn black_box<T: Copy>(value: T) -> T {
+    // SAFETY: the pointer is that of a local, and what is read from it may be copied.
+    unsafe { std::ptr::read_volatile(&value) }
+}
 
 fn main() {
     let mut work = vec![0; WORK_BYTES];

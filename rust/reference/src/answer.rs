@@ -20,8 +20,9 @@ pub fn answer(sheet: &Sheet, text: &[u8]) -> Ran {
             let denoted = denotes(&sheet.nodes, &tokens);
             return stop(if denoted { 0 } else { 16 });
         }
-        let Some((rule, length)) = longest_front(sheet, &text[place..]) else {
-            return stop(14);
+        let (rule, length) = match longest_front(sheet, &text[place..]) {
+            Some(found) => found,
+            None => return stop(14),
         };
         if let Some(token) = sheet.rules[rule].token {
             let mut longer = tokens.clone();
@@ -45,7 +46,7 @@ pub fn longest_front(sheet: &Sheet, rest: &[u8]) -> Option<(usize, usize)> {
         .enumerate()
     {
         if let Some(length) = length {
-            if longest.is_none_or(|(_, other)| length > other) {
+            if longest.map_or(true, |(_, other)| length > other) {
                 longest = Some((rule, length));
             }
         }

@@ -4,7 +4,7 @@ use crate::lexer::{positions, Position};
 use crate::normal_form::{normal_form, Production};
 use crate::number::{write, Field, Reader};
 use crate::sheet::{Sheet, RULE_LIMIT};
-use crate::Refusal;
+use crate::{Refusal, TAIL_LIMIT};
 
 /// An image in parts.
 #[derive(Clone, Debug, PartialEq, Eq)]
@@ -169,12 +169,12 @@ fn read_image(reader: &mut Reader) -> Result<Image, usize> {
             let Field { value, place } = reader.read()?;
             let rising = productions
                 .last()
-                .is_none_or(|(before, _)| (*before as u64) < value);
+                .map_or(true, |(before, _)| (*before as u64) < value);
             if value >= rules || !rising || skips[value as usize] {
                 return Err(place);
             }
             let mut tail = Vec::new();
-            for _ in 0..number(reader, 0, 31)? {
+            for _ in 0..number(reader, 0, TAIL_LIMIT as u64)? {
                 tail.push(number(reader, 0, row_count - 1)? as usize);
             }
             productions.push((value as usize, tail));

@@ -9,7 +9,7 @@
 //! what the expression denotes, with no image and no machine.
 //!
 //! ```
-//! use vinzagew_reference::{compile, run};
+//! use vinzagew_reference::{compile, run, stack_length};
 //!
 //! let sheet = [
 //!     1, 2, 3, 1, 2, 1, 48, 57, 4, 1, 48, 57, 2, 1, 47, 47, 0, 1, 32, 32, 3, 2, 0, 5, 4, 0, 3, 2, 1,
@@ -21,7 +21,7 @@
 //! assert_eq!((compiled.number, compiled.place, compiled.length), (0, 0, 48));
 //!
 //! let text = b"12 /7";
-//! let mut stack = vec![0; 1 + 30 * text.len()];
+//! let mut stack = vec![0; stack_length(text.len())];
 //! let ran = run(&image[..48], text, &mut stack);
 //! assert_eq!((ran.number, ran.place, ran.tokens), (0, 5, 3));
 //! ```
@@ -52,6 +52,14 @@ pub const SHEET_LIMIT: usize = 4_096;
 
 /// The most bytes that a text may have.
 pub const TEXT_LIMIT: usize = 1_048_576;
+
+/// The most members that a production's tail has.
+pub const TAIL_LIMIT: usize = 31;
+
+/// "A long enough stack" for a text of so many bytes.
+pub const fn stack_length(text_length: usize) -> usize {
+    1 + (TAIL_LIMIT - 1) * text_length
+}
 
 /// A refusal: the number of the question that was answered with no, and its place.
 #[derive(Clone, Copy, Debug, PartialEq, Eq)]

@@ -89,13 +89,15 @@ fn walk(image: &Image, text: &[u8], room: usize) -> Ran {
     // The first pending nonterminal comes last.
     let mut pending = vec![0];
     while place < text.len() {
-        let Some((rule, length)) = longest_match(image, &text[place..]) else {
-            return answer(14, place, tokens);
+        let (rule, length) = match longest_match(image, &text[place..]) {
+            Some(found) => found,
+            None => return answer(14, place, tokens),
         };
         if !image.skips[rule] {
             loop {
-                let Some(nonterminal) = pending.pop() else {
-                    return answer(15, place, tokens);
+                let nonterminal = match pending.pop() {
+                    Some(first) => first,
+                    None => return answer(15, place, tokens),
                 };
                 let row = &image.rows[nonterminal];
                 let production = row.productions.iter().find(|(own, _)| *own == rule);

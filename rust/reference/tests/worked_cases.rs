@@ -1,7 +1,7 @@
 //! The contract's worked cases.
 
 use vinzagew_reference::sheet::Sheet;
-use vinzagew_reference::{answer, compile, run, Compiled, Ran};
+use vinzagew_reference::{answer, compile, run, stack_length, Compiled, Ran};
 
 /// Sheet D's bytes before its expression.
 const RULES: [u8; 20] = [
@@ -29,7 +29,7 @@ fn compiled(sheet: &[u8]) -> (Compiled, Vec<u8>) {
 fn read(sheet: &[u8], text: &[u8]) -> (u64, usize, usize) {
     let (result, image) = compiled(sheet);
     assert_eq!(result.number, 0);
-    let ran = run(&image, text, &mut vec![0xa5; 1 + 30 * text.len()]);
+    let ran = run(&image, text, &mut vec![0xa5; stack_length(text.len())]);
     assert_eq!(answer(&Sheet::read(sheet).unwrap(), text), ran);
     (ran.number, ran.place, ran.tokens)
 }

@@ -180,11 +180,9 @@ impl<'a> Numbers<'a> {
             }
             Expression::Variable(variable) => {
                 let between = open.iter().rev().position(|(other, _)| *other == variable);
-                let Some(between) = between else {
-                    return Err(UnboundVariable {
-                        variable: variable.clone(),
-                    });
-                };
+                let between = between.ok_or_else(|| UnboundVariable {
+                    variable: variable.clone(),
+                })?;
                 self.binders[node] = open[open.len() - 1 - between].1;
                 self.push(6, kind(Field::Tag));
                 self.push(between as u64, kind(Field::Variable));

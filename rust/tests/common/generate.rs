@@ -2,6 +2,7 @@
 
 use super::random::Random;
 use vinzagew::builder::{Expression, Regex, Sheet, SheetBuilder, Token};
+use vinzagew::TAIL_LIMIT;
 use vinzagew_reference::image::{Image, Row};
 use vinzagew_reference::lexer::Position;
 use vinzagew_reference::number;
@@ -336,7 +337,7 @@ fn typed_sheet(random: &mut Random, slips: bool) -> Sheet {
 pub fn long_tailed_sheet(random: &mut Random) -> Sheet {
     let (builder, tokens) = rules(random);
     let mut chain = Expression::token(*random.pick(&tokens));
-    for _ in 0..random.range(1, 31) {
+    for _ in 0..random.range(1, TAIL_LIMIT) {
         chain = chain.then(*random.pick(&tokens));
     }
     builder.finish(chain).expect("there are no variables")
@@ -497,7 +498,7 @@ pub fn damage_field(random: &mut Random, image: &Image) -> Vec<u8> {
                 (u64::MAX >> (64 - image.positions.len())).wrapping_add(1),
             ],
             12 => [0, 32, 33],
-            14 => [0, 31, 32],
+            14 => [0, TAIL_LIMIT as u64, TAIL_LIMIT as u64 + 1],
             _ => [0, image.rows.len() as u64 - 1, image.rows.len() as u64],
         };
         numbers[place] = *random.pick(&ends);
@@ -627,7 +628,7 @@ pub fn readable_image(random: &mut Random) -> Image {
                 .into_iter()
                 .map(|rule| {
                     let length = match random.below(8) {
-                        0 => random.range(0, 31),
+                        0 => random.range(0, TAIL_LIMIT),
                         _ => random.below(3),
                     };
                     let tail = (0..length).map(|_| random.below(row_count)).collect();

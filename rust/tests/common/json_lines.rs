@@ -30,7 +30,7 @@ impl Object {
     /// The bytes of a key whose string has them in hexadecimal.
     pub fn bytes(&self, key: &str) -> Vec<u8> {
         let text = self.text(key);
-        assert!(text.len().is_multiple_of(2), "{key} has half a byte");
+        assert!(text.len() % 2 == 0, "{key} has half a byte");
         (0..text.len())
             .step_by(2)
             .map(|place| u8::from_str_radix(&text[place..place + 2], 16).expect("hexadecimal"))

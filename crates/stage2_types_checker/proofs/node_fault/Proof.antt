@@ -69,19 +69,19 @@ returns-4 c =
 
 returns-5 : tie.Need-returns-5
 returns-5 c =
-    let z = c .before .before .before in
-    asked-nothing (types z) (z .args .link) (z .args .i) (z .args .guarded) (z .args .tag) (c .if5 .taken) (c .before .before .if1 .left)
-    (c .before .if3 .left)
+    let z = c .before .before .before .before in
+    variable-passes (types z) (z .args .tag) (z .args .link) (z .args .i) (z .args .guarded) (c .before .if5 .taken) (c .if6 .taken)
 
 returns-6 : tie.Need-returns-6
 returns-6 c =
     let z = c .before .before .before .before in
-    variable-passes (types z) (z .args .tag) (z .args .link) (z .args .i) (z .args .guarded) (c .before .if5 .left) (c .if6 .taken)
+    variable-fails (types z) (z .args .tag) (z .args .link) (z .args .i) (z .args .guarded) (c .before .if5 .taken) (c .if6 .left)
 
 returns-7 : tie.Need-returns-7
 returns-7 c =
-    let z = c .before .before .before .before in
-    variable-fails (types z) (z .args .tag) (z .args .link) (z .args .i) (z .args .guarded) (c .before .if5 .left) (c .if6 .left)
+    let z = c .before .before .before in
+    asked-nothing (types z) (z .args .tag) (z .args .link) (z .args .i) (z .args .guarded) (c .before .before .if1 .left) (c .before .if3 .left)
+    (c .if5 .left)
 
 pub node-fault-spec : {M : Type 1} → statement M
 node-fault-spec =

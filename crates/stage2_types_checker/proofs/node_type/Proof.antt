@@ -1,15 +1,14 @@
 -- `stage2_types_checker::node_type` meets its contract: a law for each tag.
 use mathlib.Core.Path.{_≡_}
-use mathlib.Core.Bool.{Bool, true}
+use mathlib.Core.Bool.{true}
 use mathlib.Core.Logic.{_⊎_, inl, inr}
 use Prim.Native.Nat.{ℕ, _+_, _<_}
 use native.Mathlib.Omega.{arith}
 use borrow.Author.Needs.{needs}
 use Rattle.stage2_types.specs.Types.{LanguageType}
-use Rattle.stage2_types.specs.Nodes.{variable-node}
-use Rattle.stage2_types_columns.specs.Held.{node-of, held-type}
-use Rattle.stage2_types_checker.proofs.Equation.{other-node, token-small, parts-small, body-small, binder-small}
-use Rattle.stage2_types_checker.proofs.Equation.{type-epsilon, type-bottom, type-token, type-sequence, type-alternative, type-body, type-other}
+use Rattle.stage2_types_columns.specs.Held.{held-type}
+use Rattle.stage2_types_checker.proofs.Equation.{token-small, parts-small, body-small, binder-small}
+use Rattle.stage2_types_checker.proofs.Equation.{type-epsilon, type-bottom, type-token, type-sequence, type-alternative, type-body, type-variable, type-other}
 use Rattle.stage2_types_checker.proofs.node_type.Statement.{statement}
 use Rattle.stage2_types_checker.proofs.node_type.Tie as tie
 
@@ -26,15 +25,8 @@ body z = body-small (z .args .tag) (z .args .link) (z .args .i) true (z .pre tru
 token : (z : tie.Start) → z .args .tag ≡ 2 → z .args .link < 32
 token z = token-small (z .args .tag) (z .args .link) (z .args .i) true (z .pre true)
 
--- No test took the tag.
-other : (c : tie.Else6) (guarded : Bool)
-    → let a = c .before .before .before .before .before .before .args in
-    node-of (a .tag) (a .link) guarded (a .i) ≡ variable-node (a .link) guarded
-other c guarded =
-    let a = c .before .before .before .before .before .before .args in
-    other-node (a .tag) (a .link) (a .i) guarded (c .before .before .before .before .before .if1 .left)
-    (c .before .before .before .before .if2 .left) (c .before .before .before .if3 .left) (c .before .before .if4 .left)
-    (c .before .if5 .left) (c .if6 .left)
+binder : (z : tie.Start) → z .args .tag ≡ 6 → z .args .link < 64
+binder z = binder-small (z .args .tag) (z .args .link) (z .args .i) true (z .pre true)
 
 without-flast-requires : tie.Need-without-flast-requires
 without-flast-requires c κs = search needs
@@ -112,14 +104,24 @@ returns-6 c = λ g.
     type-body (z .args .tag) (z .args .link) (z .args .i) g (types z) (c .before .if6 .taken) (c .type-at5 .ensures)
 
 type-at-requires-6 : tie.Need-type-at-requires-6
-type-at-requires-6 c κs =
-    let z = c .before .before .before .before .before .before in
-    binder-small (z .args .tag) (z .args .link) (z .args .i) true (z .pre true) (other c true)
+type-at-requires-6 c κs = binder (c .before .before .before .before .before .before .before) (c .if7 .taken)
 
 returns-7 : tie.Need-returns-7
 returns-7 c = λ g.
-    let z = c .before .before .before .before .before .before .before in
-    type-other (z .args .tag) (z .args .link) (z .args .i) g (types z) (other (c .before) g) (c .type-at6 .ensures)
+    let z = c .before .before .before .before .before .before .before .before in
+    type-variable (z .args .tag) (z .args .link) (z .args .i) g (types z) (c .before .if7 .taken) (c .type-at6 .ensures)
+
+without-flast-requires-4 : tie.Need-without-flast-requires-4
+without-flast-requires-4 c κs = search needs
+
+-- No test took the tag.
+returns-8 : tie.Need-returns-8
+returns-8 c = λ g.
+    let b = c .before .before .before .before in
+    let z = b .before .before .before .before in
+    type-other (z .args .tag) (z .args .link) (z .args .i) g (types z) (b .before .before .before .if1 .left) (b .before .before .if2 .left)
+    (b .before .if3 .left) (b .if4 .left) (c .before .before .before .if5 .left) (c .before .before .if6 .left) (c .before .if7 .left)
+    (c .without-flast4 .ensures)
 
 pub node-type-spec : {M : Type 1} → statement M
 node-type-spec =
@@ -146,4 +148,6 @@ node-type-spec =
     type-at-requires-5
     returns-6
     type-at-requires-6
-    returns-7)
+    returns-7
+    without-flast-requires-4
+    returns-8)

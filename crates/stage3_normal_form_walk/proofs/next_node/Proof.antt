@@ -1,7 +1,7 @@
 -- `stage3_normal_form_walk::next_node` meets its contract.
 use native.Mathlib.Omega.{arith}
 use mathlib.Core.Path.{sym, _∙_}
-use Rattle.stage3_normal_form_walk.proofs.Walking.{next-left, next-right, next-body, next-own}
+use Rattle.stage3_normal_form_walk.proofs.Walking.{next-left, next-right, next-body, next-own, next-none}
 use Rattle.stage3_normal_form_walk.proofs.next_node.Statement.{statement}
 use Rattle.stage3_normal_form_walk.proofs.next_node.Tie as tie
 
@@ -27,8 +27,11 @@ returns-3 : tie.Need-returns-3
 returns-3 c = next-body _ _ _ _ _ (c .if3 .taken)
 
 returns-4 : tie.Need-returns-4
-returns-4 c = next-own _ _ _ _ _ (c .before .if1 .left) (c .if3 .left)
+returns-4 c = next-own _ _ _ _ _ (c .if4 .taken)
+
+returns-5 : tie.Need-returns-5
+returns-5 c = next-none _ _ _ _ _ (c .before .before .if1 .left) (c .before .if3 .left) (c .if4 .left)
 
 pub next-node-spec : {M : Type 1} → statement M
 next-node-spec =
-    tie.close (tie.spec add-begins begins-requires add-result returns returns-2 add-result-2 returns-3 returns-4)
+    tie.close (tie.spec add-begins begins-requires add-result returns returns-2 add-result-2 returns-3 returns-4 returns-5)

@@ -3,7 +3,6 @@
 use borrow.Author.Needs.{needs}
 use native.Mathlib.Omega.{arith}
 use mathlib.Core.Path.{_≡_, sym, _∙_}
-use Prim.Native.Nat.{_<_}
 use lib.ListN.{length}
 use Rattle.stage3_normal_form_walk.proofs.Walking.{not-true, not-false, Walking, walking-first, walking-right, walking-on}
 use Rattle.stage3_normal_form_walk.proofs.Walking.{ended-steps, ended-past, ended-bare, ended-dead, ended-token}

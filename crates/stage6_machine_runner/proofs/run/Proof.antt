@@ -5,7 +5,7 @@ use native.Mathlib.Omega.{arith}
 use lib.ListN.{length, replicate}
 use denote.Ref.{now}
 use Rattle.stage0_buffers.specs.Cleared.{cleared-all}
-use Rattle.stage6_machine_runner.specs.Steps.{answer-of}
+use Rattle.stage6_machine_turn.specs.Steps.{answer-held}
 use Rattle.stage6_machine_runner.proofs.Ending.{run-too-long, run-unreadable, run-readable}
 use Rattle.stage6_machine_runner.proofs.Ending.{stack-kept-12, stack-kept-13, stack-cleared}
 use borrow.Author.Needs.{needs}
@@ -16,9 +16,9 @@ answer-requires : tie.Need-answer-requires
 answer-requires c κs = search needs
 
 returns : tie.Need-returns
-unfolding answer-of
+unfolding answer-held
 returns c =
-    let e = ap answer-of (c .answer .ensures) in
+    let e = ap answer-held (c .answer .ensures) in
     (e ∙ run-too-long _ _ _ (c .before .if1 .taken), stack-kept-12 _ _ e)
 
 read-image-requires : tie.Need-read-image-requires
@@ -31,11 +31,11 @@ answer-requires-2 : tie.Need-answer-requires-2
 answer-requires-2 c κs = search needs
 
 returns-2 : tie.Need-returns-2
-unfolding answer-of
+unfolding answer-held
 returns-2 c =
     let known = c .before .before in
     let read = known .before .before in
-    let e = ap answer-of (c .answer2 .ensures) in
+    let e = ap answer-held (c .answer2 .ensures) in
     let refused = read .read-image .ensures .refusal (known .outcome .given .1) in
     (e ∙ run-unreadable _ _ _ (read .before .if1 .left) _ (refused .0), stack-kept-13 _ _ _ e)
 

@@ -11,7 +11,7 @@ use Rattle.stage5_image.specs.Compile.{compile, compiled}
 use Rattle.stage5_image.specs.CompileLaws.{compiled-fits}
 use Rattle.stage6_machine.specs.Answer.{Answer}
 use Rattle.stage6_machine.specs.Run.{run}
-use Rattle.stage6_machine_runner.specs.Steps.{answer-of}
+use Rattle.stage6_machine_turn.specs.Steps.{answer-held}
 use Rattle.stage7_demands.specs.Demands.{Demand1}
 use Rattle.stage7_demands.specs.Proofs.{demand-1}
 use Rattle.stage7_engine.specs.Reading.{text-answered, OwnReading}
@@ -51,7 +51,7 @@ same-length-2 c = search needs
 
 -- src/lib.rt:44:17
 returns : tie.Need-returns
-unfolding answer-of
+unfolding answer-held
 returns c =
     let z = c .before .before .before .before .before .before .before .before .before .before .before .before .before .before .before .before .args in
     let k = c .before .before .before .before .before .before .before .before .compile in
@@ -151,7 +151,7 @@ same-length-9 c = search needs
 
 -- src/lib.rt:23:1
 returns-4 : tie.Need-returns-4
-unfolding answer-of
+unfolding answer-held
 returns-4 c =
     let z = c .before .before .before .before .before .before .before .before .before .before .before .before .before .before .before .before .before .before .before .before .before .args in
     let k = c .before .before .before .before .before .before .before .before .before .before .before .before .before .compile in
@@ -162,9 +162,9 @@ returns-4 c =
     let w = written-image m (d .0) (now (z .image)) _ (d .1) (k .ensures .1) in
     let x : List ℕ = k .last .1 .1 .0 in
     let i : take (c .before .before .before .before .before .before .before .made2 .given .0 .0) x ≡ d .0 = ap (λ (n : ℕ). take n x) (d .2) ∙ w in
-    let e : answer-of (r .result) ≡ run (d .0) (now (z .text)) (length (now (z .stack))) =
+    let e : answer-held (r .result) ≡ run (d .0) (now (z .text)) (length (now (z .stack))) =
     r .ensures .0 ∙ ap (λ (l : List ℕ). run l (now (z .text)) (length (now (z .stack)))) i in
-    let t = told-run (z .limit) (now (z .text)) (now (z .stack)) (d .0) (answer-of (r .result)) (r .last .1 .1 .0) (d .1) (c .before .before .before .before .before .if1 .left) e (r .ensures .1) in
+    let t = told-run (z .limit) (now (z .text)) (now (z .stack)) (d .0) (answer-held (r .result)) (r .last .1 .1 .0) (d .1) (c .before .before .before .before .before .if1 .left) e (r .ensures .1) in
     let o = own-run (z .limit) (now (z .sheet)) (now (z .text)) (length (now (z .work))) (length (now (z .image))) (length (now (z .stack))) (d .0) bytes (d .1) in (
       t .0,
       k .ensures .1,

@@ -7,7 +7,7 @@ use mathlib.Core.List.{List}
 use Prim.Native.Nat.{ℕ}
 use Rattle.stage6_machine.specs.Answer.{Answer}
 use Rattle.stage6_machine.specs.Run.{run, stack-after}
-use Rattle.stage6_machine_runner.specs.Steps.{answer-of}
+use Rattle.stage6_machine_turn.specs.Steps.{answer-held}
 use Rattle.vinzagew.specs.Out.{run-numbers}
 use Rattle.vinzagew.proofs.Laws.{out-short, out-long, same-short, after-long}
 use Rattle.vinzagew.proofs.image_run.Statement.{statement}
@@ -54,7 +54,7 @@ same-length-2 c = search needs
 
 -- src/lib.rt:10:1
 returns-2 : tie.Need-returns-2
-unfolding answer-of run-numbers
+unfolding answer-held run-numbers
 returns-2 c =
     let z = c .before .before .before .before .before .before .before .before .before .before .args in
     let long = c .before .before .before .before .before .if1 .left in

@@ -16,17 +16,17 @@ slice-aggregate-run c = search (needs, length-take-le)
 run-requires : tie.Need-run-requires
 run-requires c κs = search needs
 
-cast-numbers : tie.Need-cast-numbers
-cast-numbers c = search needs
+cast-show-numbers : tie.Need-cast-show-numbers
+cast-show-numbers c = search needs
 
-numbers-requires : tie.Need-numbers-requires
-numbers-requires c κs = search needs
+show-numbers-requires : tie.Need-show-numbers-requires
+show-numbers-requires c κs = search needs
 
 stack-right-requires : tie.Need-stack-right-requires
 stack-right-requires c κs = search needs
 
-judgement-requires : tie.Need-judgement-requires
-judgement-requires c κs = search needs
+show-judgement-requires : tie.Need-show-judgement-requires
+show-judgement-requires c κs = search needs
 
 same-length : tie.Need-same-length
 same-length c = search needs
@@ -42,9 +42,9 @@ run-with-spec =
     slice-relend-prefix-run
     slice-aggregate-run
     run-requires
-    cast-numbers
-    numbers-requires
+    cast-show-numbers
+    show-numbers-requires
     stack-right-requires
-    judgement-requires
+    show-judgement-requires
     same-length
     returns-2)

@@ -1,0 +1,105 @@
+-- Lemma 3.2 of 000, at the least types of a typed expression: NULL is a row's ε flag. That the least types solve Figure 2's equations
+-- is taken as given here.
+use mathlib.Core.Path.{_≡_, refl, sym, _∙_}
+use mathlib.Core.Bool.{Bool, true, false, true≢false}
+use mathlib.Core.List.{List, []}
+use Prim.Native.Nat.{ℕ, zero, suc, _≤_}
+use lib.ListN.{length, replicate, List·getD-eq-default}
+use Rattle.stage0_laws.specs.Truth.{and-true-first}
+use Rattle.stage0_laws.specs.Settling.{settle-keeps}
+use Rattle.stage1_sheet.specs.Expression.{Expression, size}
+use Rattle.stage2_types.specs.Denotation.{Environment}
+use Rattle.stage2_types.specs.Types.{LanguageType, epsilon-type, bottom-type, token-type, sequence-type, alternative-type, Context, _⊢_∶_, type-epsilon, type-bottom, type-token, type-variable, type-sequence, type-alternative, type-fixed-point}
+use Rattle.stage2_types.specs.Nodes.{Node, epsilon-node, bottom-node, token-node, sequence-node, alternative-node, fixed-point-node, variable-node, nodes, node-at}
+use Rattle.stage2_types.specs.LeastTypes.{type-of, node-type, next-types, same-types, type-rounds, types-of, least-types}
+use Rattle.stage2_types.specs.LeastTypeLaws.{type-of-next}
+use Rattle.stage2_types.specs.QuestionLaws.{passes-apart}
+use Rattle.stage2_types.specs.Typing.{least-passes}
+use Rattle.stage3_normal_form.specs.Productions.{Row, row-of, node-row, rows}
+use Rattle.stage3_normal_form.specs.NormalForm.{normal-form}
+use Rattle.stage3_normal_form.specs.Places.{nodes-count}
+use Rattle.stage3_normal_form.specs.RowEquations.{row-solves}
+use Rattle.stage3_normal_form.specs.KeptRows.{normal-form-epsilon}
+use Rattle.stage3_normal_form.specs.RowTypes.{rows-within, or-either}
+use Rattle.stage3_normal_form.specs.NodeLanguages.{language-of, Site, at-left, site-sound, at-every-node}
+use Rattle.stage3_normal_form.specs.Unfolding.{null-exact}
+use Rattle.stage3_normal_form.specs.NormalFormLaws.{normal-form-fits}
+
+-- The left part of a sequence has no ε.
+abbrev LeftNotNull : List Row → Node → Type 0
+LeftNotNull rs epsilon-node = Unit
+LeftNotNull rs bottom-node = Unit
+LeftNotNull rs (token-node t) = Unit
+LeftNotNull rs (sequence-node l r) = (row-of rs l) .empty ≡ false
+LeftNotNull rs (alternative-node l r) = Unit
+LeftNotNull rs (fixed-point-node b) = Unit
+LeftNotNull rs (variable-node f guarded) = Unit
+
+not-true : (b : Bool) → (b ≡ true → ⊥) → b ≡ false
+not-true true h = absurd (h refl)
+not-true false h = refl
+
+left-not-null : {e : Expression} {a : LanguageType} → [] ⊢ e ∶ a → (n : ℕ) → LeftNotNull (rows e) (node-at (nodes e) n)
+left-not-null {e} d n = at-every-node d (λ b i. LeftNotNull (rows e) (node-at (nodes e) i)) (λ Γ g b x γ p fs s k. own x γ p fs s) past n .1
+  where
+    past : (i : ℕ) → size e ≤ i → (b : LanguageType) × LeftNotNull (rows e) (node-at (nodes e) i)
+    past i h = (bottom-type, rw (List·getD-eq-default (nodes e) bottom-node {n = i} (rw (nodes-count e) h)) tt)
+
+    own : {Γ : Context} {g : Expression} {b : LanguageType} → Γ ⊢ g ∶ b → (γ : Environment) (p : ℕ) (fs : List ℕ)
+        → Site (language-of e) (node-at (nodes e)) Γ g γ p fs → LeftNotNull (rows e) (node-at (nodes e) p)
+    own type-epsilon γ p fs s = rw (s .placed) tt
+    own type-bottom γ p fs s = rw (s .placed) tt
+    own (type-token t) γ p fs s = rw (s .placed) tt
+    own (type-variable u) γ p fs s = rw (s .placed .1) tt
+    own (type-sequence x y q) γ p fs s = rw (s .placed .0) (not-true ((row-of (rows e) (suc p)) .empty)
+        (λ h. true≢false (sym ((site-sound x (at-left s)) .null-holds
+        (null-exact (language-of e) ((normal-form-fits d) .unfolds (suc p)) .1 (normal-form-epsilon e (suc p) ∙ h))) ∙ q .not-null)))
+    own (type-alternative x y q) γ p fs s = rw (s .placed .0) tt
+    own (type-fixed-point x) γ p fs s = rw (s .placed .0) tt
+
+-- NULL promises no more than the row has.
+abbrev NullWithin : LanguageType → Row → Type 0
+NullWithin a P = a .null ≡ true → P .empty ≡ true
+
+-- One round of types, over rows that solve the equations.
+module _ (rs : List Row) (types : List LanguageType) (within : (n : ℕ) → NullWithin (type-of types n) (row-of rs n)) where
+  node-within : (x : Node) → LeftNotNull rs x → NullWithin (node-type types x) (node-row rs x)
+  unfolding node-type node-row epsilon-type bottom-type token-type sequence-type alternative-type
+  node-within epsilon-node s e = refl
+  node-within bottom-node s e = e
+  node-within (token-node t) s e = e
+  node-within (sequence-node l r) s e =
+      absurd (true≢false (sym (within l (and-true-first ((type-of types l) .null) ((type-of types r) .null) e)) ∙ s))
+  node-within (alternative-node l r) s e = or-either ((type-of types l) .null) ((type-of types r) .null)
+      ((row-of rs l) .empty) ((row-of rs r) .empty) (within l) (within r) e
+  node-within (fixed-point-node b) s e = within b e
+  node-within (variable-node f guarded) s e = within f e
+
+none-typed : (m n : ℕ) → type-of (replicate m bottom-type) n ≡ bottom-type
+none-typed zero n = refl
+none-typed (suc m) zero = refl
+none-typed (suc m) (suc n) = none-typed m n
+
+null-within : {e : Expression} {a : LanguageType} → [] ⊢ e ∶ a → (n : ℕ) → NullWithin (type-of (least-types e) n) (row-of (rows e) n)
+unfolding least-types types-of bottom-type
+null-within {e} d = settle-keeps same-types (next-types (nodes e)) Within step (type-rounds (nodes e))
+    (replicate (length (nodes e)) bottom-type) (λ n. rw (none-typed (length (nodes e)) n) (λ h. absurd (true≢false (sym h))))
+  where
+    Within : List LanguageType → Type 0
+    Within types = (n : ℕ) → NullWithin (type-of types n) (row-of (rows e) n)
+
+    step : (types : List LanguageType) → Within types → Within (next-types (nodes e) types)
+    step types w n = rw (type-of-next (nodes e) types n, row-solves d n)
+        (node-within (rows e) types w (node-at (nodes e) n) (left-not-null d n))
+
+same-truth : (a b : Bool) → (a ≡ true → b ≡ true) → (b ≡ true → a ≡ true) → a ≡ b
+same-truth true b f g = sym (f refl)
+same-truth false true f g = absurd (true≢false (sym (g refl)))
+same-truth false false f g = refl
+
+-- NULL is the ε flag, and so it is exact: it holds iff the empty word is in L(n).
+pub null-is-epsilon : {e : Expression} {a : LanguageType} → [] ⊢ e ∶ a → least-types e ≡ next-types (nodes e) (least-types e)
+    → (n : ℕ) → (type-of (least-types e) n) .null ≡ (row-of (normal-form e) n) .empty
+null-is-epsilon {e} d s n = same-truth ((type-of (least-types e) n) .null) ((row-of (normal-form e) n) .empty)
+    (λ h. normal-form-epsilon e n ∙ null-within d n h)
+    ((rows-within e (least-types e) s (passes-apart (nodes e) (least-types e) (least-passes e d)) n) .null-within)

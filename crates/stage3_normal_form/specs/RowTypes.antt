@@ -1,0 +1,93 @@
+-- What types say of the rows that stay: a nullable row's type is NULL, a production's head is in FIRST, and each token begins one
+-- production at most. Half of Lemma 3.6 of 000: that every token of FIRST begins one is not said, and is not true of rows that stay.
+use mathlib.Core.Path.{_≡_, refl, sym, subst}
+use mathlib.Core.Bool.{Bool, true, false, _||_, cond, true≢false}
+use mathlib.Core.List.{List, [], List·Memᴰ·not-nil, List·Memᴰ·eq-of-singleton, List·Memᴰ·append-cases, Memᴰ·of-map}
+use mathlib.Core.Logic.{_⊎_, ⊎-elim}
+use Prim.Native.Nat.{ℕ, _^_}
+use Rattle.stage0_laws.specs.Bits.{_∈_}
+use Rattle.stage0_laws.specs.BitLaws.{∈-left, ∈-right, ∈-self, ∈-disjoint}
+use Rattle.stage1_sheet.specs.Expression.{Expression}
+use Rattle.stage2_types.specs.Types.{LanguageType, if-null, epsilon-type, bottom-type, token-type, sequence-type, alternative-type, Apart, _⊢_∶_}
+use Rattle.stage2_types.specs.Nodes.{Node, epsilon-node, bottom-node, token-node, sequence-node, alternative-node, fixed-point-node, variable-node, nodes, node-at}
+use Rattle.stage2_types.specs.LeastTypes.{type-of, node-type}
+use Rattle.stage2_types.specs.LeastTypeLaws.{Solves, solved-at}
+use Rattle.stage2_types.specs.QuestionLaws.{AlternativesApart, passes-apart}
+use Rattle.stage2_types.specs.Typing.{typed-solution}
+use Rattle.stage3_normal_form.specs.Productions.{Production, Row, no-productions, ended-by, row-of, node-row}
+use Rattle.stage3_normal_form.specs.ProductionLaws.{DistinctHeads, distinct-append, distinct-ended}
+use Rattle.stage3_normal_form.specs.Derives.{derives-at, derives}
+use Rattle.stage3_normal_form.specs.NormalForm.{normal-form}
+use Rattle.stage3_normal_form.specs.KeptRows.{staying-row, every-row}
+use Rattle.stage3_normal_form.specs.Unfolding.{_of_}
+
+-- The row P of a node with the type a.
+pub record RowWithin (P : Row) (a : LanguageType) : Type 0 where
+  pub null-within : P .empty ≡ true → a .null ≡ true
+  pub heads-within : (q : Production) → q of P → q .head ∈ a .first
+  pub distinct : DistinctHeads (P .productions)
+
+bare-within : (empty : Bool) (a : LanguageType) → (empty ≡ true → a .null ≡ true) → RowWithin (record { empty = empty; productions = [] }) a
+bare-within empty a h = record { null-within = h; heads-within = λ q m. absurd (List·Memᴰ·not-nil m); distinct = tt }
+
+pub or-either : (a b c d : Bool) → (a ≡ true → c ≡ true) → (b ≡ true → d ≡ true) → (a || b) ≡ true → (c || d) ≡ true
+or-either true b c d f g e = subst (λ (x : Bool). (x || d) ≡ true) (sym (f refl)) refl
+or-either false b true d f g e = refl
+or-either false b false d f g e = g e
+
+-- Over types that solve Figure 2's equations, with the parts of each alternative apart.
+module _ (flags : List Bool) (types : List LanguageType) (rs : List Row) (w : (n : ℕ) → RowWithin (row-of rs n) (type-of types n)) where
+  sequence-within : (l r : ℕ) → RowWithin (node-row rs (sequence-node l r)) (node-type types (sequence-node l r))
+  unfolding node-type node-row sequence-type ended-by
+  sequence-within l r = record {
+    null-within = λ e. absurd (true≢false (sym e));
+    heads-within = λ q m. let o = Memᴰ·of-map (ended-by r) ((row-of rs l) .productions) m in
+        ∈-left ((type-of types l) .first) (if-null ((type-of types l) .null) ((type-of types r) .first)) (q .head)
+        (subst (λ (z : Production). z .head ∈ (type-of types l) .first) (o .2) ((w l) .heads-within (o .0) (o .1)));
+    distinct = distinct-ended r ((row-of rs l) .productions) ((w l) .distinct);
+  }
+
+  alternative-within : (l r : ℕ) → Apart (type-of types l) (type-of types r)
+      → RowWithin (node-row rs (alternative-node l r)) (node-type types (alternative-node l r))
+  unfolding node-type node-row alternative-type
+  alternative-within l r k = record {
+    null-within = or-either ((row-of rs l) .empty) ((row-of rs r) .empty) ((type-of types l) .null) ((type-of types r) .null)
+        ((w l) .null-within) ((w r) .null-within);
+    heads-within = λ q m. ⊎-elim (λ x. ∈-left ((type-of types l) .first) ((type-of types r) .first) (q .head) ((w l) .heads-within q x))
+        (λ x. ∈-right ((type-of types l) .first) ((type-of types r) .first) (q .head) ((w r) .heads-within q x))
+        (List·Memᴰ·append-cases ((row-of rs l) .productions) m);
+    distinct = distinct-append ((row-of rs l) .productions) ((row-of rs r) .productions) ((w l) .distinct) ((w r) .distinct)
+        (λ q p m n e. ∈-disjoint ((type-of types l) .first) ((type-of types r) .first) (q .head) (k .disjoint) ((w l) .heads-within q m)
+        (subst (λ (t : ℕ). t ∈ (type-of types r) .first) (sym e) ((w r) .heads-within p n)));
+  }
+
+  node-within : (x : Node) → ((l r : ℕ) → x ≡ alternative-node l r → Apart (type-of types l) (type-of types r))
+      → RowWithin (staying-row flags rs x) (node-type types x)
+  unfolding node-type node-row epsilon-type bottom-type token-type
+  node-within epsilon-node k = bare-within true epsilon-type (λ e. e)
+  node-within bottom-node k = bare-within false bottom-type (λ e. e)
+  node-within (token-node t) k = record {
+    null-within = λ e. e;
+    heads-within = λ q m. subst (λ (z : Production). z .head ∈ 2 ^ t) (sym (List·Memᴰ·eq-of-singleton m)) (∈-self t);
+    distinct = (λ r m e. List·Memᴰ·not-nil m, tt);
+  }
+  node-within (sequence-node l r) k = go (derives-at flags r)
+    where
+      go : (b : Bool) → RowWithin (cond b (node-row rs (sequence-node l r)) no-productions) (node-type types (sequence-node l r))
+      go true = sequence-within l r
+      go false = bare-within false (node-type types (sequence-node l r)) (λ e. absurd (true≢false (sym e)))
+  node-within (alternative-node l r) k = alternative-within l r (k l r refl)
+  node-within (fixed-point-node b) k = w b
+  node-within (variable-node f guarded) k = w f
+
+pub rows-within : (e : Expression) (types : List LanguageType) → Solves (nodes e) types → AlternativesApart (nodes e) types
+    → (n : ℕ) → RowWithin (row-of (normal-form e) n) (type-of types n)
+rows-within e types s k = every-row e (λ n P. RowWithin P (type-of types n))
+    (λ n. bare-within false (type-of types n) (λ h. absurd (true≢false (sym h))))
+    (λ rs w n. rw (solved-at (nodes e) types s n) (node-within (derives e) types rs w (node-at (nodes e) n) (k n)))
+
+-- At most one production a token, by the types of any derivation.
+pub normal-form-distinct : {e : Expression} {a : LanguageType} → [] ⊢ e ∶ a → (n : ℕ)
+    → DistinctHeads ((row-of (normal-form e) n) .productions)
+normal-form-distinct {e} d n = let t = typed-solution e d in
+    (rows-within e (t .0) (t .1) (passes-apart (nodes e) (t .0) (t .2)) n) .distinct

@@ -1,0 +1,140 @@
+-- `one_turn` meets its contract: one law of `Answers` for each answer.
+use mathlib.Core.Path.{_≡_, refl, sym, subst, _∙_}
+use Prim.Native.Nat.{_+_, _<_}
+use native.Mathlib.Omega.{arith}
+use Rattle.stage4_lexer_scanner.specs.declared.Found.{Found}
+use Rattle.stage6_machine_turn.specs.Steps.{after-take, Fits}
+use Rattle.stage6_machine_turn.specs.declared.Taken.the-variants.{Depth, NoTaker, TooDeep}
+use Rattle.stage6_machine_turn.proofs.Answers.{turn-unmatched, turn-skips, turn-takes, turn-answers}
+use borrow.Author.Needs.{needs}
+use Rattle.stage6_machine_turn.proofs.one_turn.Statement.{statement}
+use Rattle.stage6_machine_turn.proofs.one_turn.Tie as tie
+
+-- What the caller ensures of the match that was found.
+fits : (c : tie.After-found)
+    → let s = c .before .before .before .before .args .state in
+    let n = c .found .given .0 .1 .0 in
+    (c .found .given .0 .0 < 32) × (s .place + n < 18446744073709551616) × (s .count < s .place + n)
+fits c =
+    let start = c .before .before .before .before in
+    subst (λ (f : Found). Fits f (start .args .state)) (c .found .given .1) (start .pre .0)
+
+enum-known-found : tie.Need-enum-known-found
+enum-known-found c = search needs
+
+enum-told : tie.Need-enum-told
+enum-told c = search needs
+
+answer-requires : tie.Need-answer-requires
+answer-requires c κs = search needs
+
+returns : tie.Need-returns
+returns c = turn-unmatched _ _ _ _ _ _ _ (c .before .enum-told .given .1) _ (c .answer .ensures)
+
+is-member-requires : tie.Need-is-member-requires
+is-member-requires c κs = let w = fits (c .before) in omega (arith, w .0)
+
+add-t14 : tie.Need-add-t14
+add-t14 c = let w = fits (c .before .before .before .before) in omega (arith, w .1)
+
+returns-2 : tie.Need-returns-2
+returns-2 c =
+    let tested = c .before in
+    let found = tested .before .before .before in
+    turn-skips _ _ _ _ _ _ _ _ _ (found .found .given .1) (sym (tested .before .is-member .ensures) ∙ tested .if1 .taken)
+
+take-rule-requires : tie.Need-take-rule-requires
+take-rule-requires c κs =
+    let found = c .before .before .before .before in
+    let start = found .before .before .before .before in
+    (fits found .0, start .pre .1)
+
+enum-told-2 : tie.Need-enum-told-2
+enum-told-2 c = search needs
+
+answer-requires-2 : tie.Need-answer-requires-2
+answer-requires-2 c κs = search needs
+
+same-length : tie.Need-same-length
+same-length c = search needs
+
+returns-3 : tie.Need-returns-3
+unfolding after-take
+returns-3 c =
+    let take = c .before .before .before .before .before in
+    let tested = take .before .before in
+    let found = tested .before .before .before in
+    let s = sym (tested .before .is-member .ensures) ∙ tested .if1 .left in
+    turn-answers _ _ _ _ _ _ _ _ _ (found .found .given .1) s _ _ (take .take-rule .ensures) NoTaker (c .before .enum-told2 .given .1) _ _
+    (c .answer2 .ensures) refl
+
+enum-told-3 : tie.Need-enum-told-3
+enum-told-3 c = search needs
+
+answer-requires-3 : tie.Need-answer-requires-3
+answer-requires-3 c κs = search needs
+
+same-length-2 : tie.Need-same-length-2
+same-length-2 c = search needs
+
+returns-4 : tie.Need-returns-4
+unfolding after-take
+returns-4 c =
+    let take = c .before .before .before .before .before in
+    let tested = take .before .before in
+    let found = tested .before .before .before in
+    let s = sym (tested .before .is-member .ensures) ∙ tested .if1 .left in
+    turn-answers _ _ _ _ _ _ _ _ _ (found .found .given .1) s _ _ (take .take-rule .ensures) TooDeep (c .before .enum-told3 .given .1) _ _
+    (c .answer3 .ensures) refl
+
+enum-known-taken : tie.Need-enum-known-taken
+enum-known-taken c = search needs
+
+add-t20 : tie.Need-add-t20
+add-t20 c =
+    let w = fits (c .before .before .before .before .before .before .before .before .before .before .before) in
+    omega (arith, w .1)
+
+add-t21 : tie.Need-add-t21
+add-t21 c =
+    let w = fits (c .before .before .before .before .before .before .before .before .before .before .before .before) in
+    omega (arith, w .1, w .2)
+
+same-length-3 : tie.Need-same-length-3
+same-length-3 c = search needs
+
+returns-5 : tie.Need-returns-5
+unfolding after-take
+returns-5 c =
+    let take = c .before .before .before .before .before .before .before in
+    let tested = take .before .before in
+    let found = tested .before .before .before in
+    let s = sym (tested .before .is-member .ensures) ∙ tested .if1 .left in
+    let known = c .before .before .before in
+    turn-takes _ _ _ _ _ _ _ _ _ (found .found .given .1) s _ _ (take .take-rule .ensures) (Depth (known .taken .given .0 .0)) (known .taken .given .1)
+
+pub one-turn-spec : {M : Type 1} → statement M
+one-turn-spec =
+    tie.close
+    (tie.spec
+    enum-known-found
+    enum-told
+    answer-requires
+    returns
+    is-member-requires
+    add-t14
+    returns-2
+    take-rule-requires
+    enum-told-2
+    answer-requires-2
+    same-length
+    returns-3
+    enum-told-3
+    answer-requires-3
+    same-length-2
+    returns-4
+    enum-known-taken
+    add-t20
+    add-t21
+    same-length-3
+    returns-5)

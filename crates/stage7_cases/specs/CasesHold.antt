@@ -1,0 +1,105 @@
+-- Every row of the table of worked cases holds: what is computed of a row, and, by the demands, what follows for the sheet that
+-- its bytes spell. The rows themselves stand in `Cases`.
+use mathlib.Core.Path.{_≡_, refl, sym, ap, subst, _∙_}
+use mathlib.Core.List.{List, [], _∷_, _++_}
+use Prim.Native.Nat.{ℕ, zero, suc, _+_, _*_, _≤_}
+use native.Mathlib.Omega.{arith}
+use lib.Dec.{T, leb, leb→le}
+use lib.ListN.{length}
+use Rattle.stage0_laws.specs.Lists.{All}
+use Rattle.stage1_sheet.specs.Limits.{most-sheet-bytes}
+use Rattle.stage1_sheet.specs.Sheet.{Sheet}
+use Rattle.stage1_sheet.specs.WellFormed.{Spells}
+use Rattle.stage1_sheet.specs.FieldLaws.{Bytes, all-bytes, tested-bytes}
+use Rattle.stage1_sheet.specs.Field.{Reading, got}
+use Rattle.stage1_sheet.specs.Reading.{Contents, read-sheet}
+use Rattle.stage1_sheet.specs.ReadingLaws.{Accepted, read-accepted}
+use Rattle.stage1_sheet.specs.Expression.{token, sequence, fixed-point, variable}
+use Rattle.stage1_sheet.specs.SheetD.{sheet-D, bytes-of-D}
+use Rattle.stage2_types.specs.Denotation.{Denotes, denotation, iterate}
+use Rattle.stage5_image.specs.Compile.{work-bytes, Compiled, compiled, compile, written-part}
+use Rattle.stage5_image.specs.CompileLaws.{Acceptable}
+use Rattle.stage6_machine.specs.Answer.{Answer, answer}
+use Rattle.stage6_machine.specs.Run.{most-text-bytes, run, long-enough}
+use Rattle.stage6_machine.specs.OwnAnswer.{OwnAnswer}
+use Rattle.stage6_machine.specs.Computing.{computing-machine}
+use Rattle.stage7_demands.specs.Demands.{Demand2, Demand3}
+use Rattle.stage7_demands.specs.Proofs.{demand-2, demand-3}
+use Rattle.stage7_cases.specs.ImageD.{image-D, D-compiles}
+use Rattle.stage7_cases.specs.Cases.{Case, compiles, reads, denotes-nothing, compiled-sheet, run-of-sheet, Holds, endless, cases}
+
+-- What is computed of a case: for a reading, the sheet's image and what the machine answers over it.
+abbrev Computes : Case → Type 0
+Computes (compiles sheet c) = compiled-sheet sheet ≡ c
+Computes (reads sheet text a) =
+    (image : List ℕ) × (compiled-sheet sheet ≡ compiled image) × (run image text (long-enough text) ≡ a)
+    × T (all-bytes sheet) × T (leb (length text) most-text-bytes)
+Computes (denotes-nothing sheet) =
+    (c : Contents) × (read-sheet sheet ≡ got c (length sheet)) × T (all-bytes sheet) × T (leb (length sheet) most-sheet-bytes)
+    × ((tokens : List ℕ) → Denotes ((c .sheet) .expression) tokens → ⊥)
+
+-- By demand 2 a sheet that was compiled is one that the bytes spell, and by demand 3 what the machine answers is its own answer.
+holds : (c : Case) → Computes c → Holds c
+unfolding compiled-sheet run-of-sheet written-part
+holds (compiles sheet c) h = h
+holds (reads sheet text a) h =
+    let bytes = tested-bytes sheet (h .3) in
+    let s = demand-2 .accepted-exactly sheet bytes work-bytes 65536 (omega arith) .0 (h .0, h .1) in
+    let spells : Spells sheet (s .0) = (s .1) .well-formed in (
+      ap (λ (c : Compiled). run (written-part c) text (long-enough text)) (h .1) ∙ h .2,
+      s .0,
+      spells,
+      subst (OwnAnswer (s .0) text) (h .2)
+          (demand-3 .own-answer sheet bytes work-bytes 65536 (h .0) (h .1) (s .0) spells text (long-enough text)
+          (leb→le (length text) most-text-bytes (h .4)) (omega arith)),
+    )
+holds (denotes-nothing sheet) h =
+    let read = read-accepted sheet (tested-bytes sheet (h .2)) (leb→le (length sheet) most-sheet-bytes (h .3)) (h .1) in
+    (h .0 .sheet, read .spells, h .4)
+
+all-hold : (cs : List Case) → All Computes cs → All Holds cs
+all-hold [] h = tt
+all-hold (c ∷ cs) h = (holds c (h .0), all-hold cs (h .1))
+
+-- ---- what is computed
+
+-- μα.N·α as it is read.
+abbrev endless-contents : Contents
+endless-contents = record {
+  sheet = record { tokens = 2; rules = sheet-D .rules; expression = fixed-point (sequence (token 0) (variable 0)) };
+  action-places = 3 ∷ 12 ∷ 16 ∷ [];
+  node-places = 20 ∷ 21 ∷ 22 ∷ 24 ∷ [];
+}
+
+-- No iterate of μα.N·α has a word: its right part is the iterate before.
+endless-iterate : (i : ℕ) (w : List ℕ) → iterate (λ L. denotation (sequence (token 0) (variable 0)) (L ∷ [])) i w → ⊥
+endless-iterate zero w h = h
+endless-iterate (suc i) w h = endless-iterate i (h .1) (h .4)
+
+-- One row's fact, and those of the rows after it.
+infixr 20 _&_
+abbrev _&_ : {X Y : Type 0} → X → Y → X × Y
+_&_ x y = (x, y)
+
+all-computed : All Computes cases
+unfolding cases compiled-sheet computing-machine
+all-computed =
+    D-compiles
+    & (image-D, D-compiles, refl, tt, tt)
+    & (image-D, D-compiles, refl, tt, tt)
+    & (image-D, D-compiles, refl, tt, tt)
+    & (image-D, D-compiles, refl, tt, tt)
+    & (image-D, D-compiles, refl, tt, tt)
+    & refl
+    & refl
+    & refl
+    & refl
+    & refl
+    & (endless-contents, refl, tt, tt, (λ w h. endless-iterate (h .0) w (h .1)))
+    & refl
+    & refl
+    & tt
+
+-- Every row holds.
+pub cases-hold : All Holds cases
+cases-hold = all-hold cases all-computed

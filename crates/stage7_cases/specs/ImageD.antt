@@ -1,0 +1,27 @@
+-- Sheet D's image, byte for byte as document 01 lists it, and that sheet D compiles to it.
+use mathlib.Core.Path.{_≡_, refl}
+use mathlib.Core.List.{List, [], _∷_, _++_}
+use Prim.Native.Nat.{ℕ}
+use Rattle.stage1_sheet.specs.SheetD.{bytes-of-D}
+use Rattle.stage5_image.specs.Compile.{work-bytes, compiled, compile}
+use Rattle.stage5_image.specs.Computing.{computing-image}
+
+-- The part of the image that D's rules alone make: version, skips, positions and first set.
+abbrev pub rules-of-image-D : List ℕ
+rules-of-image-D =
+    1 ∷ 3 ∷ 0 ∷ 0 ∷ 1 ∷ 4
+    ∷ 48 ∷ 57 ∷ 0 ∷ 1 ∷ 2
+    ∷ 48 ∷ 57 ∷ 0 ∷ 1 ∷ 2
+    ∷ 47 ∷ 47 ∷ 1 ∷ 1 ∷ 0
+    ∷ 32 ∷ 32 ∷ 2 ∷ 1 ∷ 0
+    ∷ 13 ∷ []
+
+abbrev pub image-D : List ℕ
+image-D =
+    rules-of-image-D
+    ++ (4 ∷ 0 ∷ 1 ∷ 0 ∷ 1 ∷ 1 ∷ 1 ∷ 1 ∷ 1 ∷ 1 ∷ 2 ∷ 0 ∷ 1 ∷ 0 ∷ 1 ∷ 3 ∷ 1 ∷ 1 ∷ 1 ∷ 1 ∷ 2 ∷ [])
+
+-- Sheet D compiles to this image, with the work area that document 01 names and room for any image.
+pub D-compiles : compile bytes-of-D work-bytes 65536 ≡ compiled image-D
+unfolding computing-image
+D-compiles = refl
