@@ -5,6 +5,7 @@ pub mod Regex
 pub mod Expression
 pub mod Sheet
 pub mod Spelling
+pub mod NodePlaces
 pub mod WellFormed
 pub mod SheetQuestions
 pub mod Field
@@ -19,6 +20,7 @@ pub mod NumberLaws
 pub mod RefusalLaws
 pub mod RegexItems
 pub mod ExpressionItems
+pub mod NodePlaceLaws
 pub mod SheetFields
 pub mod PlaceLaws
 pub mod RegexReading

@@ -11,7 +11,7 @@ use Rattle.stage1_sheet.specs.WellFormed.{Closed}
 use Rattle.stage2_types.specs.Types.{LanguageType, epsilon-type, bottom-type, token-type, sequence-type, alternative-type}
 use Rattle.stage2_types.specs.Nodes.{Node, Binder, no-binder, guard, nodes-from, nodes}
 use Rattle.stage2_types.specs.LeastTypes.{type-of, node-type, next-types}
-use Rattle.stage2_types.specs.LeastTypeLaws.{Solves}
+use Rattle.stage2_types.specs.LeastSolution.{Solves}
 use Rattle.stage2_types.specs.EachFrom.{EachFrom, each-left}
 use Rattle.stage2_types.specs.NodeLaws.{Solved, nodes-length, right-nodes, both-nodes, solved-each, each-solved}
 

@@ -21,12 +21,9 @@ use Rattle.stage2_types.specs.Types.{LanguageType, epsilon-type, bottom-
 use Rattle.stage2_types.specs.Nodes.{Node, epsilon-node, bottom-node, token-node, sequence-node, alternative-node, fixed-point-node, variable-node, nodes, node-at}
 use Rattle.stage2_types.specs.NodeRanges.{NodeInRange, in-range-more, node-in-range, nodes-in-range}
 use Rattle.stage2_types.specs.LeastTypes.{type-of, node-type, next-types, same-type, same-types, type-height, type-rounds, types-of, least-types}
-use Rattle.stage2_types.specs.TypeLaws.{_⊑_, ⊑-refl, ⊑-trans, ⊑-antisym, bottom-least, sequence-rises, alternative-rises, AllBelow}
+use Rattle.stage2_types.specs.TypeLaws.{⊑-refl, ⊑-trans, ⊑-antisym, bottom-least, sequence-rises, alternative-rises}
+use Rattle.stage2_types.specs.LeastSolution.{_⊑_, AllBelow, Solves}
 use Rattle.stage2_types.specs.TypeWeight.{Fits, epsilon-fits, bottom-fits, token-fits, sequence-fits, alternative-fits, weight, weights-most, weights-full}
-
--- Figure 2's equations, one a node.
-abbrev pub Solves : List Node → List LanguageType → Type 0
-Solves ns types = types ≡ next-types ns types
 
 -- One round, at one node.
 pub type-of-next : (ns : List Node) (types : List LanguageType) (n : ℕ) → type-of (next-types ns types) n ≡ node-type types (node-at ns n)

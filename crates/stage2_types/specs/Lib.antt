@@ -5,6 +5,8 @@ pub mod Types
 pub mod Nodes
 pub mod NodeRanges
 pub mod LeastTypes
+pub mod LeastSolution
+pub mod TypeFaults
 pub mod Questions
 pub mod Computing
 pub mod DenotationLaws
@@ -20,4 +22,5 @@ pub mod Equations
 pub mod TypedAt
 pub mod TypedNodes
 pub mod Typing
+pub mod TypeFaultLaws
 pub mod Examples

@@ -9,7 +9,8 @@ use Rattle.stage1_sheet.specs.Expression.{Expression, epsilon, bottom, token, s
 use Rattle.stage2_types.specs.Types.{LanguageType, bottom-type}
 use Rattle.stage2_types.specs.Nodes.{Node, bottom-node, Binder, nodes-from}
 use Rattle.stage2_types.specs.LeastTypes.{type-of, node-type, next-types}
-use Rattle.stage2_types.specs.LeastTypeLaws.{Solves, type-of-next, solved-at}
+use Rattle.stage2_types.specs.LeastTypeLaws.{type-of-next, solved-at}
+use Rattle.stage2_types.specs.LeastSolution.{Solves}
 use Rattle.stage2_types.specs.EachFrom.{EachFrom, each-right, each-append, each-member, member-each}
 
 -- Solutions, node by node.

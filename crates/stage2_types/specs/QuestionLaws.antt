@@ -20,7 +20,8 @@ use Rattle.stage2_types.specs.Types.{LanguageType, Separable, Apart}
 use Rattle.stage2_types.specs.Nodes.{Node, epsilon-node, bottom-node, token-node, sequence-node, alternative-node, fixed-point-node, variable-node, nodes, node-at}
 use Rattle.stage2_types.specs.LeastTypes.{type-of, least-types}
 use Rattle.stage2_types.specs.Questions.{Fault, separable, apart, unless, node-fault, first-fault, type-fault}
-use Rattle.stage2_types.specs.TypeLaws.{separable-falls, apart-falls, AllBelow}
+use Rattle.stage2_types.specs.TypeLaws.{separable-falls, apart-falls}
+use Rattle.stage2_types.specs.LeastSolution.{AllBelow}
 use Rattle.stage2_types.specs.EachFrom.{EachFrom, each-member}
 
 -- The tests.

@@ -7,15 +7,8 @@ use Prim.Native.Nat.{ℕ}
 use lib.Bits.{bitOr, bitAnd}
 use Rattle.stage0_laws.specs.BitLaws.{∈-zero, ∈-disjoint, disjoint-zero}
 use Rattle.stage2_types.specs.Types.{LanguageType, if-null, bottom-type, sequence-type, alternative-type, Separable, Apart}
-use Rattle.stage2_types.specs.LeastTypes.{type-of}
+use Rattle.stage2_types.specs.LeastSolution.{_⊑_}
 use Rattle.stage2_types.specs.SetOrder.{_⇒_, implied-both, and-rises, or-rises, false-falls, _⊆_, included-both, union-rises, cond-rises}
-
--- a ⊑ b: whatever a has, b has.
-infix 30 _⊑_
-pub record _⊑_ (a b : LanguageType) : Type 0 where
-  pub null-rises : a .null ⇒ b .null
-  pub first-rises : a .first ⊆ b .first
-  pub flast-rises : a .flast ⊆ b .flast
 
 pub ⊑-refl : (a : LanguageType) → a ⊑ a
 ⊑-refl a = record { null-rises = λ e. e; first-rises = λ i m. m; flast-rises = λ i m. m }
@@ -74,7 +67,3 @@ apart-falls {a} {a'} {b} {b'} p q k = record {
   one-null = false-falls (a .null && b .null) (a' .null && b' .null)
       (and-rises (a .null) (a' .null) (b .null) (b' .null) (p .null-rises) (q .null-rises)) (k .one-null);
 }
-
--- Two lists of all nodes' types, compared at every node.
-abbrev pub AllBelow : List LanguageType → List LanguageType → Type 0
-AllBelow types others = (n : ℕ) → type-of types n ⊑ type-of others n

@@ -15,7 +15,8 @@ use Rattle.stage1_sheet.specs.Limits.{most-tokens}
 use Rattle.stage2_types.specs.Types.{LanguageType, if-null, epsilon-type, bottom-type, token-type, sequence-type, alternative-type}
 use Rattle.stage2_types.specs.LeastTypes.{type-of, type-height}
 use Rattle.stage2_types.specs.SetOrder.{flag, flag-rises, flag-most, flag-implies, count, count-most, count-rises, count-full}
-use Rattle.stage2_types.specs.TypeLaws.{_⊑_, ⊑-antisym, AllBelow}
+use Rattle.stage2_types.specs.TypeLaws.{⊑-antisym}
+use Rattle.stage2_types.specs.LeastSolution.{_⊑_, AllBelow}
 
 -- Every member of the set is a token that a sheet may have.
 abbrev pub TokensOnly : ℕ → Type 0

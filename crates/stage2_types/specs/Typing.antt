@@ -14,8 +14,8 @@ use Rattle.stage2_types.specs.Types.{LanguageType, bottom-type, _⊢_∶
 use Rattle.stage2_types.specs.Nodes.{Node, bottom-node, nodes, node-at}
 use Rattle.stage2_types.specs.LeastTypes.{type-of, least-types}
 use Rattle.stage2_types.specs.Questions.{type-fault}
-use Rattle.stage2_types.specs.TypeLaws.{_⊑_}
-use Rattle.stage2_types.specs.LeastTypeLaws.{Solves, types-long, least-below, least-solves}
+use Rattle.stage2_types.specs.LeastSolution.{_⊑_, Solves}
+use Rattle.stage2_types.specs.LeastTypeLaws.{types-long, least-below, least-solves}
 use Rattle.stage2_types.specs.EachFrom.{EachFrom, each-member, member-each, each-map}
 use Rattle.stage2_types.specs.QuestionLaws.{Passes, passes-falls, no-fault-iff}
 use Rattle.stage2_types.specs.TypedAt.{TypedAt, typed-derivation, Listed, annotated}

@@ -3,6 +3,7 @@
 pub mod Productions
 pub mod Derives
 pub mod NormalForm
+pub mod Unfolds
 pub mod Computing
 pub mod ProductionLaws
 pub mod Places

@@ -20,17 +20,17 @@ use Rattle.stage3_normal_form.specs.KeptRows.{staying-row, normal-form-s
 use Rattle.stage3_normal_form.specs.RowTypes.{normal-form-distinct}
 use Rattle.stage3_normal_form.specs.NodeLanguages.{language-of, languages-past, start-language, node-language, Site, at-left, at-right, at-first, at-second, at-body, site-sound, site-equation, at-every-node}
 use Rattle.stage3_normal_form.specs.DerivesExact.{HasWord, derives-exact}
-use Rattle.stage3_normal_form.specs.Unfolding.{token-row, sequence-row, alternative-row, _of_, concatenation, Unfolds, one-node, epsilon-unfolds, bottom-unfolds, token-unfolds, sequence-unfolds, alternative-unfolds, production-word}
+use Rattle.stage3_normal_form.specs.Unfolding.{token-row, sequence-row, alternative-row, _of_, concatenation, UnfoldsOnce, one-node, epsilon-unfolds, bottom-unfolds, token-unfolds, sequence-unfolds, alternative-unfolds, production-word}
 use Rattle.stage3_normal_form.specs.Pending.{Good, HaveWords, good-append, good-one, have-words-append, Fits}
 
 module _ (N : ℕ → Language) where
   -- The row P of a node with the language L.
   pub record RowFits (L : Language) (P : Row) : Type 0 where
-    pub unfolds : Unfolds N L P
+    pub unfolds : UnfoldsOnce N L P
     pub tail-words : (q : Production) → q of P → HaveWords N (q .tail)
     pub tail-good : (q : Production) → q of P → Good N (q .tail)
 
-  without-productions : (L : Language) (empty : Bool) → Unfolds N L (record { empty = empty; productions = [] })
+  without-productions : (L : Language) (empty : Bool) → UnfoldsOnce N L (record { empty = empty; productions = [] })
       → RowFits L (record { empty = empty; productions = [] })
   without-productions L empty u =
       record { unfolds = u; tail-words = λ q m. absurd (List·Memᴰ·not-nil m); tail-good = λ q m. absurd (List·Memᴰ·not-nil m) }

@@ -12,7 +12,7 @@ use lib.ListN.{length, length-append}
 use Rattle.stage0_laws.specs.Truth.{true-holds}
 use Rattle.stage2_types.specs.Denotation.{Language}
 use Rattle.stage3_normal_form.specs.Productions.{Production, Row}
-use Rattle.stage3_normal_form.specs.Unfolding.{_of_, concatenation, ByRow, by-epsilon, by-production, Unfolds, concatenation-append, concatenation-split, production-word, null-exact}
+use Rattle.stage3_normal_form.specs.Unfolding.{_of_, concatenation, ByRow, by-epsilon, by-production, UnfoldsOnce, concatenation-append, concatenation-split, production-word, null-exact}
 
 -- The token c begins a word of L.
 abbrev pub Begins : Language → ℕ → Type 0
@@ -107,7 +107,7 @@ module _ (N : ℕ → Language) where
 -- What a run asks of the rows: each unfolds its node's language, no two productions of a row begin alike, and the nodes of each
 -- tail have words and are good.
 pub record Fits (N : ℕ → Language) (M : ℕ → Row) : Type 0 where
-  pub unfolds : (n : ℕ) → Unfolds N (N n) (M n)
+  pub unfolds : (n : ℕ) → UnfoldsOnce N (N n) (M n)
   pub one-each : (n : ℕ) (q r : Production) → q of M n → r of M n → q .head ≡ r .head → q ≡ r
   pub tail-words : (n : ℕ) (q : Production) → q of M n → HaveWords N (q .tail)
   pub tail-good : (n : ℕ) (q : Production) → q of M n → Good N (q .tail)

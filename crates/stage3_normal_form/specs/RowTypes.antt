@@ -11,7 +11,8 @@ use Rattle.stage1_sheet.specs.Expression.{Expression}
 use Rattle.stage2_types.specs.Types.{LanguageType, if-null, epsilon-type, bottom-type, token-type, sequence-type, alternative-type, Apart, _⊢_∶_}
 use Rattle.stage2_types.specs.Nodes.{Node, epsilon-node, bottom-node, token-node, sequence-node, alternative-node, fixed-point-node, variable-node, nodes, node-at}
 use Rattle.stage2_types.specs.LeastTypes.{type-of, node-type}
-use Rattle.stage2_types.specs.LeastTypeLaws.{Solves, solved-at}
+use Rattle.stage2_types.specs.LeastTypeLaws.{solved-at}
+use Rattle.stage2_types.specs.LeastSolution.{Solves}
 use Rattle.stage2_types.specs.QuestionLaws.{AlternativesApart, passes-apart}
 use Rattle.stage2_types.specs.Typing.{typed-solution}
 use Rattle.stage3_normal_form.specs.Productions.{Production, Row, no-productions, ended-by, row-of, node-row}

@@ -39,8 +39,9 @@ module _ (N : ℕ → Language) where
     by-epsilon : T (P .empty) → ByRow P []
     by-production : {q : Production} {w : List ℕ} → q of P → concatenation (q .tail) w → ByRow P (q .head ∷ w)
 
-  abbrev pub Unfolds : Language → Row → Type 0
-  Unfolds L P = (w : List ℕ) → L w ↔ ByRow P w
+  -- A row gives a language in one step.
+  abbrev pub UnfoldsOnce : Language → Row → Type 0
+  UnfoldsOnce L P = (w : List ℕ) → L w ↔ ByRow P w
 
   pub concatenation-append : (α β : List ℕ) (u v : List ℕ) → concatenation α u → concatenation β v → concatenation (α ++ β) (u ++ v)
   concatenation-append [] β u v x y = rw x y
@@ -76,13 +77,13 @@ module _ (N : ℕ → Language) where
   token-words k (by-production {q = q} {w = w} m c) = let e = List·Memᴰ·eq-of-singleton m in
       ap₂ (λ (h : ℕ) (t : List ℕ). h ∷ t) (ap (λ (r : Production). r .head) e) (subst (λ (r : Production). concatenation (r .tail) w) e c)
 
-  pub epsilon-unfolds : (L : Language) → ((w : List ℕ) → L w ↔ (w ≡ [])) → Unfolds L epsilon-row
+  pub epsilon-unfolds : (L : Language) → ((w : List ℕ) → L w ↔ (w ≡ [])) → UnfoldsOnce L epsilon-row
   epsilon-unfolds L f w = (λ x. subst (ByRow epsilon-row) (sym (f w .0 x)) (by-epsilon tt), λ x. f w .1 (epsilon-words x))
 
-  pub bottom-unfolds : (L : Language) → ((w : List ℕ) → L w ↔ ⊥) → Unfolds L no-productions
+  pub bottom-unfolds : (L : Language) → ((w : List ℕ) → L w ↔ ⊥) → UnfoldsOnce L no-productions
   bottom-unfolds L f w = (λ x. absurd (f w .0 x), λ x. absurd (no-production-words x))
 
-  pub token-unfolds : (k : ℕ) (L : Language) → ((w : List ℕ) → L w ↔ (w ≡ k ∷ [])) → Unfolds L (token-row k)
+  pub token-unfolds : (k : ℕ) (L : Language) → ((w : List ℕ) → L w ↔ (w ≡ k ∷ [])) → UnfoldsOnce L (token-row k)
   token-unfolds k L f w =
       (λ x. subst (ByRow (token-row k)) (sym (f w .0 x)) (by-production (List·Memᴰ·head refl) refl), λ x. f w .1 (token-words k x))
 
@@ -100,8 +101,8 @@ module _ (N : ℕ → Language) where
   alternative-words P Q (by-production m c) =
       ⊎-map (λ x. by-production x c) (λ x. by-production x c) (List·Memᴰ·append-cases (P .productions) m)
 
-  pub alternative-unfolds : (L L₁ L₂ : Language) (P Q : Row) → ((w : List ℕ) → L w ↔ either L₁ L₂ w) → Unfolds L₁ P → Unfolds L₂ Q
-      → Unfolds L (alternative-row P Q)
+  pub alternative-unfolds : (L L₁ L₂ : Language) (P Q : Row) → ((w : List ℕ) → L w ↔ either L₁ L₂ w) → UnfoldsOnce L₁ P → UnfoldsOnce L₂ Q
+      → UnfoldsOnce L (alternative-row P Q)
   alternative-unfolds L L₁ L₂ P Q f x y w = (
     (λ h. ⊎-elim (λ a. left-words P Q (x w .0 a)) (λ b. right-words P Q (y w .0 b)) (f w .0 h)),
     λ h. f w .1 (⊎-map (x w .1) (y w .1) (alternative-words P Q h)),
@@ -129,8 +130,8 @@ module _ (N : ℕ → Language) where
         one-node n (y .1) .0 (y .4),
       )
 
-  pub sequence-unfolds : (L L₁ : Language) (n : ℕ) (P : Row) → ((w : List ℕ) → L w ↔ followed-by L₁ (N n) w) → (L₁ [] → ⊥) → Unfolds L₁ P
-      → Unfolds L (sequence-row n P)
+  pub sequence-unfolds : (L L₁ : Language) (n : ℕ) (P : Row) → ((w : List ℕ) → L w ↔ followed-by L₁ (N n) w) → (L₁ [] → ⊥) → UnfoldsOnce L₁ P
+      → UnfoldsOnce L (sequence-row n P)
   sequence-unfolds L L₁ n P f s x w = (
     (λ h. let y = f w .0 h in
         subst (ByRow (sequence-row n P)) (sym (y .2)) (add-right n P (y .1) (λ t. s (x [] .1 (by-epsilon t))) (x (y .0) .0 (y .3)) (y .4))),
@@ -142,12 +143,12 @@ module _ (N : ℕ → Language) where
   null-word e (by-production m c) = absurd (cons≢nil e)
 
   -- The ε flag is exact.
-  pub null-exact : {L : Language} {P : Row} → Unfolds L P → L [] ↔ (P .empty ≡ true)
+  pub null-exact : {L : Language} {P : Row} → UnfoldsOnce L P → L [] ↔ (P .empty ≡ true)
   null-exact {L} {P} u = (
     (λ h. holds-true (P .empty) (null-word refl (u [] .0 h))),
     λ s. u [] .1 (by-epsilon (true-holds (P .empty) s)),
   )
 
-  pub production-word : {L : Language} {P : Row} → Unfolds L P → (q : Production) (w : List ℕ) → q of P → concatenation (q .tail) w
+  pub production-word : {L : Language} {P : Row} → UnfoldsOnce L P → (q : Production) (w : List ℕ) → q of P → concatenation (q .tail) w
       → L (q .head ∷ w)
   production-word u q w m c = u (q .head ∷ w) .1 (by-production m c)

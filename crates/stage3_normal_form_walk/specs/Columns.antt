@@ -1,7 +1,7 @@
 -- What columns hold of a typed expression, and what the results of the code stand for. That the results are right is proved
 -- elsewhere.
 use mathlib.Core.Path.{_≡_}
-use mathlib.Core.Bool.{Bool, cond}
+use mathlib.Core.Bool.{Bool, false, cond}
 use mathlib.Core.List.{List}
 use mathlib.Core.Option.{Option, none, some}
 use Prim.Native.Nat.{ℕ, _≤_, _<_}
@@ -35,6 +35,11 @@ pub record ColumnsOf (tag link first : List ℕ) (productive : ℕ) (e : Express
   pub nodes-held : (n : ℕ) → n < size e → held-node tag link guarded n ≡ node-at (nodes e) n
   pub first-held : (n : ℕ) → n < size e → getD first n 0 ≡ (type-of (least-types e) n) .first
   pub productive-held : SetOf productive (derives e)
+
+-- What holds of every tail: its count is within the array, and 0 where nothing was found. The members past the count are free.
+pub record TailCounted (r : Tail) : Type 0 where
+  pub fits : r .count ≤ 32
+  pub none-counted : r .found ≡ false → r .count ≡ 0
 
 -- The tail that the code has found, if any.
 unfoldable pub tail-held : Tail → Option (List ℕ)

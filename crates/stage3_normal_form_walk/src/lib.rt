@@ -15,7 +15,7 @@ ghost use Rattle.stage2_types_columns.specs.Held.{node-of, held-nodes};
 ghost use Rattle.stage3_normal_form.specs.Productions.{row-of, production-of};
 ghost use Rattle.stage3_normal_form.specs.Derives.{derives, node-derives, next-derives};
 ghost use Rattle.stage3_normal_form.specs.NormalForm.{normal-form};
-ghost use Rattle.stage3_normal_form_walk.specs.Columns.{SetOf, ColumnsOf, tail-held, production-held};
+ghost use Rattle.stage3_normal_form_walk.specs.Columns.{SetOf, ColumnsOf, TailCounted, tail-held, production-held};
 ghost use Rattle.stage3_normal_form_walk.specs.ColumnWalk.{walked, column-first, next-node, column-walk};
 
 // Whether n is in a set. No number from 64 on is.
@@ -103,7 +103,7 @@ fn next_productive(links: NodeLinks, set: u64) -> u64
 
 // The nodes that derive a token sequence, as a set. Each round that changes something adds a node.
 pub fn derives(links: NodeLinks) -> u64
-    requires { ⌜ links .count ≤ 64 ⌝ }
+    requires { ⌜ ((e : Expression) × (held-nodes links ≡ nodes e) × (links .count ≤ 64)) ⌝ }
     ensures { λ r. ⌜ ((e : Expression) → held-nodes links ≡ nodes e → SetOf r (derives e)) ⌝ }
 {
     let count = links.count;
@@ -236,7 +236,7 @@ fn walk<'a>(
 // The remembered nodes as a tail. A tail has at most 31 members, so more than 32 are none.
 fn tail_of(rights: [u8; 64], start: usize) -> Tail
     requires { ⌜ start ≤ 64 ⌝ }
-    ensures { λ r. ⌜ (r .count ≤ 32) × (32 ≤ start → tail-held r ≡ some (drop start rights)) ⌝ }
+    ensures { λ r. ⌜ TailCounted r × (32 ≤ start → tail-held r ≡ some (drop start rights)) ⌝ }
 {
     let mut tail = no_tail();
     if start < 32 {
@@ -262,7 +262,8 @@ pub fn production<'a>(
     node: usize,
     token: u8,
 ) -> Tail
-    ensures { λ r. ⌜ (r .count ≤ 32)
+    requires { ⌜ ((e : Expression) × ColumnsOf (now tag) (now link) (now first) productive e × (node < size e)) ⌝ }
+    ensures { λ r. ⌜ TailCounted r
         × ((e : Expression) → ColumnsOf (now (tag .entry)) (now (link .entry)) (now (first .entry)) productive e
         → node < size e
         → production-held token r ≡ production-of token ((row-of (normal-form e) node) .productions)) ⌝ }

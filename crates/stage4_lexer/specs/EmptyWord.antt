@@ -4,15 +4,16 @@ use mathlib.Core.Path.{_≡_, refl, sym, ap, ap₂, _∙_, subst}
 use mathlib.Core.Bool as B
 use mathlib.Core.Bool.{Bool, true, false, _||_, _&&_, cond, true≢false, false≢true}
 use mathlib.Core.List.{List, [], _∷_, _++_, cons≢nil}
-use mathlib.Core.Logic.{_↔_}
+use mathlib.Core.Logic.{_↔_, ⊎-elim}
 use mathlib.Core.Option.{Option, none, some}
 use Prim.Native.Nat.{ℕ, zero, suc, _+_, _<_}
 use native.Mathlib.Omega.{arith}
+use Rattle.stage0_laws.specs.Order.{lt-or-le}
 use Rattle.stage0_laws.specs.Truth.{and-true-first, and-true-second}
 use Rattle.stage1_sheet.specs.Regex.{Regex, empty, class, concat, union, star}
 use Rattle.stage1_sheet.specs.Sheet.{Rule}
 use Rattle.stage4_lexer.specs.Words.{Word, empty-word, one-byte, one-then-other, of-first, of-second, star-none, star-more, RuleAt}
-use Rattle.stage4_lexer.specs.Words.{first-rule, later-rule, WordOf}
+use Rattle.stage4_lexer.specs.Words.{first-rule, later-rule, WordOf, FirstEmptyRule, NoEmptyRule}
 use Rattle.stage4_lexer.specs.Positions.{nullable, empty-match}
 
 union-empty-word : (r s : Regex) (a b : Bool) → nullable r ≡ a → nullable s ≡ b → (a || b) ≡ true → (nullable r ≡ true → Word r [])
@@ -101,16 +102,31 @@ first-empty (s ∷ rs) k = go (nullable (s .regex)) refl (first-empty rs (suc k)
     go false e h = first-empty-later s rs k (empty-match rs (suc k)) e h
 
 -- Question 7: no rule is found just where no rule matches the empty word, and a rule that is found is the first that does.
-pub none-empty : (rules : List Rule) → (empty-match rules 0 ≡ none) ↔ ((j : ℕ) → WordOf rules j [] → ⊥)
+pub none-empty : (rules : List Rule) → (empty-match rules 0 ≡ none) ↔ NoEmptyRule rules
 none-empty rules = (λ e. subst (FirstEmpty rules 0) e (first-empty rules 0), go (empty-match rules 0) (first-empty rules 0))
   where
-    go : (o : Option ℕ) → FirstEmpty rules 0 o → ((j : ℕ) → WordOf rules j [] → ⊥) → o ≡ none
+    go : (o : Option ℕ) → FirstEmpty rules 0 o → NoEmptyRule rules → o ≡ none
     go none h f = refl
     go (some n) h f = absurd (f (h .0) (h .2))
 
+-- There is one first rule at most.
+pub first-empty-one : {rules : List Rule} {k m : ℕ} → FirstEmptyRule rules k → FirstEmptyRule rules m → k ≡ m
+first-empty-one {rules} {k} {m} x y = ⊎-elim (λ l. absurd (y .first k l (x .matches)))
+    (λ l. ⊎-elim (λ h. absurd (x .first m h (y .matches))) (λ h. omega arith) (lt-or-le m k)) (lt-or-le k m)
+
+-- What is found is the first rule that has the empty word, and it is found.
+pub first-empty-iff : (rules : List Rule) (k : ℕ) → (empty-match rules 0 ≡ some k) ↔ FirstEmptyRule rules k
+first-empty-iff rules k = (λ e. found k (subst (FirstEmpty rules 0) e (first-empty rules 0)), go (empty-match rules 0) (first-empty rules 0))
+  where
+    found : (n : ℕ) → FirstEmpty rules 0 (some n) → FirstEmptyRule rules n
+    found n h =
+        let same : n ≡ h .0 = omega arith in
+        subst (FirstEmptyRule rules) (sym same) (record { matches = h .2; first = h .3 })
+
+    go : (o : Option ℕ) → FirstEmpty rules 0 o → FirstEmptyRule rules k → o ≡ some k
+    go none h x = absurd (h k (x .matches))
+    go (some n) h x = ap some (first-empty-one (found n h) x)
+
 pub first-empty-rule : (rules : List Rule) (k : ℕ) → empty-match rules 0 ≡ some k
     → WordOf rules k [] × ((j : ℕ) → j < k → WordOf rules j [] → ⊥)
-first-empty-rule rules k e =
-    let h = subst (FirstEmpty rules 0) e (first-empty rules 0) in
-    let same : k ≡ h .0 = omega arith in
-    subst (λ (i : ℕ). WordOf rules i [] × ((j : ℕ) → j < i → WordOf rules j [] → ⊥)) (sym same) (h .2, h .3)
+first-empty-rule rules k e = let x = first-empty-iff rules k .0 e in (x .matches, x .first)

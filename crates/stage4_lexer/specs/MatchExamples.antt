@@ -54,15 +54,15 @@ unfolding class-count nullable first first-from first-positions
 first-of-d = refl
 
 -- Rules, a text, and the match at its front.
-pub record Row : Type 0 where
+pub record Example : Type 0 where
   pub rules : List Rule
   pub text : List ℕ
   pub found : Match
 
 -- `12/7`, `/7`, ` 7` and `h` by D's rules; `ab` by `a`, `ab`, `b`; `if` and `iff`, where the lower rule wins and where the longer
 -- match does; `-7`, `7` and `-`, with and without the part that may be empty.
-abbrev pub rows : List Row
-rows =
+abbrev pub examples : List Example
+examples =
     record { rules = rules-of-d; text = 49 ∷ 50 ∷ 47 ∷ 55 ∷ []; found = matched 0 2 }
     ∷ record { rules = rules-of-d; text = 47 ∷ 55 ∷ []; found = matched 1 1 }
     ∷ record { rules = rules-of-d; text = 32 ∷ 55 ∷ []; found = matched 2 1 }
@@ -76,13 +76,13 @@ rows =
     ∷ []
 
 -- No rule of the row matches the empty word, and the walk gives the row's match.
-abbrev Computed : Row → Type 0
+abbrev Computed : Example → Type 0
 Computed r = (empty-match (r .rules) 0 ≡ none) × (longest-match (positions (r .rules)) (first-positions (r .rules)) (r .text) ≡ r .found)
 
-rows-computed : All Computed rows
+examples-computed : All Computed examples
 unfolding class-count nullable first last follow part-positions positions-from positions first-from first-positions empty-match
     bit longer has-byte keep follows lower ended walk longest-match
-rows-computed = (
+examples-computed = (
   (refl, refl),
   (
     (refl, refl),
@@ -99,10 +99,10 @@ rows-computed = (
   ),
 )
 
-computed-right : (l : List Row) → All Computed l → All (λ r. Right (r .rules) (r .text) (r .found)) l
+computed-right : (l : List Example) → All Computed l → All (λ r. Right (r .rules) (r .text) (r .found)) l
 computed-right [] h = tt
 computed-right (r ∷ l) h =
     (subst (Right (r .rules) (r .text)) (h .0 .1) (match-right (r .rules) (h .0 .0) (r .text)), computed-right l (h .1))
 
-pub rows-right : All (λ r. Right (r .rules) (r .text) (r .found)) rows
-rows-right = computed-right rows rows-computed
+pub examples-right : All (λ r. Right (r .rules) (r .text) (r .found)) examples
+examples-right = computed-right examples examples-computed

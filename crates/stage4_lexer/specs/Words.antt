@@ -36,3 +36,12 @@ pub record LongestMatch (rules : List Rule) (text : List ℕ) (k n : ℕ) : Type
 -- No front of the text is a word of any rule.
 abbrev pub NoMatch : List Rule → List ℕ → Type 0
 NoMatch rules text = (j m : ℕ) → m ≤ length text → WordOf rules j (take m text) → ⊥
+
+-- "Does every rule match only non-empty words?" No: rule k is the first that has the empty one.
+pub record FirstEmptyRule (rules : List Rule) (k : ℕ) : Type 0 where
+  pub matches : WordOf rules k []
+  pub first : (j : ℕ) → j < k → WordOf rules j [] → ⊥
+
+-- Yes.
+abbrev pub NoEmptyRule : List Rule → Type 0
+NoEmptyRule rules = (j : ℕ) → WordOf rules j [] → ⊥

@@ -29,7 +29,7 @@ use Rattle.stage0_laws.specs.Members.{all-member}
 use Rattle.stage5_image.specs.NumberingLaws.{TailsInside, of-tail-members}
 use Rattle.stage5_image.specs.RowRanges.{TailsShort, rows-in-range, some-image-rows, image-row-count}
 use Rattle.stage5_image.specs.Unfolding.{StartUnfolds, DenotedRules}
-use Rattle.stage5_image.specs.UnfoldingLaws.{OnePerToken, image-unfolds, unfolds-expands}
+use Rattle.stage5_image.specs.UnfoldingLaws.{OnePerToken, image-unfolds}
 
 -- ---- the normal form as fusion and numbering want it
 
@@ -53,10 +53,9 @@ pub image-denotes : (s : Sheet) {a : LanguageType} → Closed (s .tokens) 0 (s .
 unfolding image-of
 image-denotes s c d ks =
     let e = s .expression in
-    let image = image-unfolds (s .rules) (normal-form e) (normal-form-inside e (s .tokens) c) (normal-form-some e) (normal-form-one d) ks in
-    let expands = unfolds-expands (normal-form e) (0 ∷ []) in (
-      λ u. let r = image .0 u in (r .0, normalization-sound d (r .0) .1 (expands (r .0) .0 (r .1)), r .2),
-      λ r. image .1 (r .0, expands (r .0) .1 (normalization-sound d (r .0) .0 (r .1)), r .2),
+    let image = image-unfolds (s .rules) (normal-form e) (normal-form-inside e (s .tokens) c) (normal-form-some e) (normal-form-one d) ks in (
+      λ u. let r = image .0 u in (r .0, normalization-sound d (r .0) .1 (r .1), r .2),
+      λ r. image .1 (r .0, normalization-sound d (r .0) .0 (r .1), r .2),
     )
 
 -- ---- ranges

@@ -1,20 +1,12 @@
--- What an image's rows unfold to: the expansion relation of 000 (Definition 1), by rule. A list of pending nonterminals unfolds
--- to a rule sequence.
+-- What an image's start unfolds to: the rule sequences that spell the token sequences which the expression denotes.
 use mathlib.Core.Path.{_≡_}
-use mathlib.Core.Bool.{true}
-use mathlib.Core.List.{List, [], _∷_, _++_, List·Memᴰ}
+use mathlib.Core.List.{List, [], _∷_}
 use Prim.Native.Nat.{ℕ, suc}
 use Rattle.stage1_sheet.specs.Sheet.{Rule, Sheet}
 use Rattle.stage2_types.specs.Denotation.{Denotes}
-use Rattle.stage3_normal_form.specs.Productions.{Production, Row, row-of}
+use Rattle.stage3_normal_form.specs.Productions.{Row}
+use Rattle.stage3_normal_form.specs.Unfolds.{Unfolds}
 use Rattle.stage4_lexer.specs.Words.{RuleAt}
-
-pub data Unfolds (rows : List Row) : List ℕ → List ℕ → Type 0 where
-  none-pending : Unfolds rows [] []
-  by-epsilon : {n : ℕ} {pending rules : List ℕ}
-      → (row-of rows n) .empty ≡ true → Unfolds rows pending rules → Unfolds rows (n ∷ pending) rules
-  by-production : {n : ℕ} {pending rules : List ℕ} {p : Production}
-      → List·Memᴰ p ((row-of rows n) .productions) → Unfolds rows (p .tail ++ pending) rules → Unfolds rows (n ∷ pending) (p .head ∷ rules)
 
 -- The start unfolds to the rule sequence.
 abbrev pub StartUnfolds : List Row → List ℕ → Type 0

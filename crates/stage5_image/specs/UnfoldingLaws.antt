@@ -11,14 +11,14 @@ use lib.ListN.{length}
 use Rattle.stage0_laws.specs.Lists.{All}
 use Rattle.stage1_sheet.specs.Sheet.{Rule}
 use Rattle.stage3_normal_form.specs.Productions.{Production, Row, row-of, production-of}
-use Rattle.stage3_normal_form.specs.Expansion.{Expands, complete, expand-empty, expand-token}
+use Rattle.stage3_normal_form.specs.Unfolds.{Unfolds, none-pending, unfold-epsilon, unfold-production}
 use Rattle.stage5_image.specs.Fusion.{fused}
 use Rattle.stage3_normal_form.specs.ProductionLaws.{Found, production-found}
 use Rattle.stage0_laws.specs.Members.{all-append}
 use Rattle.stage5_image.specs.Numbering.{numbered}
 use Rattle.stage5_image.specs.NumberingLaws.{TailsInside}
 use Rattle.stage5_image.specs.Simulation.{Simulates, tail-of, tail-numbers, TailKnown, image-simulates}
-use Rattle.stage5_image.specs.Unfolding.{Unfolds, none-pending, by-epsilon, by-production, StartUnfolds, Returns, SpellsTokens, no-tokens, one-more}
+use Rattle.stage5_image.specs.Unfolding.{StartUnfolds, Returns, SpellsTokens, no-tokens, one-more}
 
 -- In each row at most one production begins with a token.
 abbrev pub OnePerToken : List Row → Type 0
@@ -38,21 +38,21 @@ module _ (rules : List Rule) (rows image : List Row) (number : ℕ → ℕ) (Kno
       → SpellsUnfolded rules rows pending ks
   to-tokens none-pending [] e k = ([], none-pending, no-tokens)
   to-tokens none-pending (n ∷ pending) e k = absurd (nil≢cons e)
-  to-tokens (by-epsilon empty u) [] e k = absurd (cons≢nil e)
-  to-tokens (by-epsilon {n = m} empty u) (n ∷ pending) e k =
+  to-tokens (unfold-epsilon empty u) [] e k = absurd (cons≢nil e)
+  to-tokens (unfold-epsilon {n = m} empty u) (n ∷ pending) e k =
       let r = to-tokens u pending (tail-eq-of-cons-eq e) (k .1) in (
         r .0,
-        by-epsilon (sym (s .same-empty n (k .0)) ∙ subst (λ (z : ℕ). (row-of image z) .empty ≡ true) (head-eq-of-cons-eq e) empty) (r .1),
+        unfold-epsilon (sym (s .same-empty n (k .0)) ∙ subst (λ (z : ℕ). (row-of image z) .empty ≡ true) (head-eq-of-cons-eq e) empty) (r .1),
         r .2,
       )
-  to-tokens (by-production m u) [] e k = absurd (cons≢nil e)
-  to-tokens (by-production {pending = rest'} {p = p} m u) (n ∷ pending) e k =
+  to-tokens (unfold-production m u) [] e k = absurd (cons≢nil e)
+  to-tokens (unfold-production {pending = rest'} {p = p} m u) (n ∷ pending) e k =
       let o = s .sources n (k .0) p (subst (λ (z : ℕ). List·Memᴰ p ((row-of image z) .productions)) (head-eq-of-cons-eq e) m) in
       let q = o .0 in
       let same : p .tail ++ rest' ≡ map number (q .tail ++ pending) =
       ap₂ _++_ (o .3) (tail-eq-of-cons-eq e) ∙ sym (map-append number (q .tail) pending) in
       let r = to-tokens u (q .tail ++ pending) same (all-append Known (q .tail) pending (o .4) (k .1)) in
-      (q .head ∷ r .0, by-production (o .1) (r .1), one-more (o .2) (r .2))
+      (q .head ∷ r .0, unfold-production (o .1) (r .1), one-more (o .2) (r .2))
 
   -- One production taken: the rule's production in the image is the token's, which is the only one.
   taken : OnePerToken rows → (n : ℕ) (q : Production) (r : ℕ) (pending ks : List ℕ) → Known n → All Known pending
@@ -76,7 +76,7 @@ module _ (rules : List Rule) (rows image : List Row) (number : ℕ → ℕ) (Kno
           let joined : p' .tail ++ map number pending ≡ map number (q .tail ++ pending) =
           ap (λ (l : List ℕ). l ++ map number pending) (tails ∙ ap (map number) same) ∙ sym (map-append number (q .tail) pending) in
           subst (λ (z : ℕ). Unfolds image (number n ∷ map number pending) (z ∷ ks)) (g .1)
-          (by-production (g .0)
+          (unfold-production (g .0)
           (subst (λ (l : List ℕ). Unfolds image l ks) (sym joined)
           (rest (all-append Known (q .tail) pending (subst (All Known) same k) kp))))
 
@@ -84,8 +84,8 @@ module _ (rules : List Rule) (rows image : List Row) (number : ℕ → ℕ) (Kno
       → All Known pending
       → Unfolds image (map number pending) ks
   from-tokens one none-pending no-tokens k = none-pending
-  from-tokens one (by-epsilon {n = n} empty u) sp k = by-epsilon (s .same-empty n (k .0) ∙ empty) (from-tokens one u sp (k .1))
-  from-tokens one (by-production {n = n} {pending = pending} {p = q} m u) (one-more {k = r} {ks = ks} h sp) k =
+  from-tokens one (unfold-epsilon {n = n} empty u) sp k = unfold-epsilon (s .same-empty n (k .0) ∙ empty) (from-tokens one u sp (k .1))
+  from-tokens one (unfold-production {n = n} {pending = pending} {p = q} m u) (one-more {k = r} {ks = ks} h sp) k =
       taken one n q r pending ks (k .0) (k .1) m h (λ known. from-tokens one u sp known)
 
   -- The image's start unfolds to the rule sequences that spell what the rows by token unfold to.
@@ -101,19 +101,3 @@ pub image-unfolds : (rules : List Rule) (rows : List Row) → TailsInside rows �
     → StartUnfolds (numbered (fused rules rows)) ks ↔ SpellsUnfolded rules rows (0 ∷ []) ks
 image-unfolds rules rows inside some-rows one ks =
     start-unfolds rules rows (numbered (fused rules rows)) _ _ (image-simulates rules rows inside some-rows) one ks
-
--- ---- the rows by token
-
-to-expansion : {rows : List Row} {pending ts : List ℕ} → Unfolds rows pending ts → Expands (row-of rows) pending ts
-to-expansion none-pending = complete
-to-expansion (by-epsilon empty u) = expand-empty empty (to-expansion u)
-to-expansion (by-production {p = p} m u) = expand-token p m (to-expansion u)
-
-from-expansion : {rows : List Row} {pending ts : List ℕ} → Expands (row-of rows) pending ts → Unfolds rows pending ts
-from-expansion complete = none-pending
-from-expansion (expand-empty empty x) = by-epsilon empty (from-expansion x)
-from-expansion (expand-token p m x) = by-production m (from-expansion x)
-
--- By token, to unfold is to expand.
-pub unfolds-expands : (rows : List Row) (pending ts : List ℕ) → Unfolds rows pending ts ↔ Expands (row-of rows) pending ts
-unfolds-expands rows pending ts = (to-expansion, from-expansion)

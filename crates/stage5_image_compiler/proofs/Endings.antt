@@ -63,9 +63,6 @@ parts-of s g p n a m = record {
   numbers = m;
 }
 
-pub rules-most : (s : Sheet) (g : Grammar) (p : PositionColumns) → Accepted s g p → g .rules ≤ 32
-rules-most s g p a = omega (arith, a .grammar .rule-count, a .grammar .rules-most)
-
 module _ (image buffer : List ℕ) where
   pub fits : {needed : ℕ} → needed ≡ length image → needed ≤ length buffer → length image ≤ length buffer
   fits e h = omega arith

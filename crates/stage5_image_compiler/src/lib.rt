@@ -53,7 +53,8 @@ fn write_if_fits(grammar: Grammar, positions: PositionColumns, image: &mut [u8])
 
 // The columns from which productions are found.
 fn grammar_of(rules: RuleColumns, checked: Checked) -> Grammar
-    requires { ⌜ checked .links .count ≤ 64 ⌝ }
+    requires { ⌜ ((c : Contents) × (nodes : NodeColumns) × SheetOf c rules nodes × CheckedOf nodes checked
+        × (checked .links .count ≤ 64)) ⌝ }
     ensures { λ r. ⌜ ((c : Contents) (nodes : NodeColumns) → SheetOf c rules nodes → CheckedOf nodes checked
         → type-fault (c .sheet .expression) ≡ none → GrammarOf r (c .sheet .rules) (c .sheet .expression)) ⌝ }
 {

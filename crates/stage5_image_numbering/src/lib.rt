@@ -13,7 +13,7 @@ ghost use Rattle.stage1_sheet.specs.Expression.{Expression, size};
 ghost use Rattle.stage1_sheet.specs.Sheet.{Rule};
 ghost use Rattle.stage3_normal_form.specs.Productions.{row-of};
 ghost use Rattle.stage3_normal_form.specs.NormalForm.{normal-form};
-ghost use Rattle.stage3_normal_form_walk.specs.Columns.{tail-held};
+ghost use Rattle.stage3_normal_form_walk.specs.Columns.{TailCounted, tail-held};
 ghost use Rattle.stage5_image.specs.Fusion.{fused, fused-from};
 ghost use Rattle.stage5_image.specs.Numbering.{meet, meet-all, tail-members, reached};
 ghost use Rattle.stage5_image_numbering.specs.Grammar.{GrammarOf, Numbers, members-of};
@@ -65,8 +65,9 @@ pub fn grammar_from(
 
 // The tail that a rule's production has in a node's row. A rule that skips has none.
 pub fn rule_tail(grammar: Grammar, node: usize, rule: usize) -> Tail
-    requires { ⌜ rule < 32 ⌝ }
-    ensures { λ r. ⌜ (r .count ≤ 32)
+    requires { ⌜ ((rules : List Rule) × (e : Expression) × GrammarOf grammar rules e × (node < size e)
+        × (rule < length rules)) ⌝ }
+    ensures { λ r. ⌜ TailCounted r
         × ((rules : List Rule) (e : Expression) → GrammarOf grammar rules e → node < size e → rule < length rules
         → tail-held r ≡ rule-tail rules ((row-of (normal-form e) node) .productions) rule) ⌝ }
 {
@@ -134,7 +135,8 @@ fn meet_tail(numbering: Numbering, tail: Tail) -> Numbering
 
 // The tail members of a node's row join those met, by rising rule.
 fn meet_row(numbering: Numbering, grammar: Grammar, node: usize) -> Numbering
-    requires { ⌜ (numbering .count ≤ 64) × (grammar .rules ≤ 32) ⌝ }
+    requires { ⌜ ((rules : List Rule) × (e : Expression) × GrammarOf grammar rules e × (node < size e)
+        × (numbering .count ≤ 64)) ⌝ }
     ensures { λ r. ⌜ (r .count ≤ 64)
         × ((rules : List Rule) (e : Expression) → GrammarOf grammar rules e → node < size e
         → (met : List ℕ) → Numbers numbering met
@@ -185,7 +187,7 @@ pub fn number_of(numbering: Numbering, n: usize) -> u64
 
 // The numbers of the nodes that are reached from the start: row by row, in the order in which they are met.
 pub fn number_nodes(grammar: Grammar) -> Numbering
-    requires { ⌜ grammar .rules ≤ 32 ⌝ }
+    requires { ⌜ ((rules : List Rule) × (e : Expression) × GrammarOf grammar rules e) ⌝ }
     ensures { λ r. ⌜ (r .count ≤ 64)
         × ((rules : List Rule) (e : Expression) → GrammarOf grammar rules e → Numbers r (reached (fused rules (normal-form e)))) ⌝ }
 {

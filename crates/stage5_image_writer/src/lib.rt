@@ -154,7 +154,7 @@ fn counted(count: usize, found: bool) -> usize
 
 // How many rules have a production in a node's row.
 fn count_productions(grammar: Grammar, node: usize) -> usize
-    requires { ⌜ grammar .rules ≤ 32 ⌝ }
+    requires { ⌜ ((rules : List Rule) × (e : Expression) × GrammarOf grammar rules e × (node < size e)) ⌝ }
     ensures { λ r. ⌜ ((rules : List Rule) (e : Expression) → GrammarOf grammar rules e → node < size e
         → r ≡ length (fused-from rules 0 ((row-of (normal-form e) node) .productions))) ⌝ }
 {
@@ -177,7 +177,8 @@ fn emit_productions(
     numbering: Numbering,
     node: usize,
 ) -> usize
-    requires { ⌜ (at ≤ 7000000) × (grammar .rules ≤ 32) ⌝ }
+    requires { ⌜ ((rules : List Rule) × (e : Expression) × GrammarOf grammar rules e × (node < size e)
+        × (at ≤ 7000000)) ⌝ }
     ensures { λ r. ⌜ (r ≤ at + 10880)
         × ((rules : List Rule) (e : Expression) → GrammarOf grammar rules e → node < size e
         → Emitted (now (image .entry)) (now (image .exit)) at r (productions-part (numbering .number) rules e node)) ⌝ }
@@ -201,7 +202,8 @@ fn emit_row(
     numbering: Numbering,
     node: usize,
 ) -> usize
-    requires { ⌜ (at ≤ 6000000) × (grammar .rules ≤ 32) ⌝ }
+    requires { ⌜ ((rules : List Rule) × (e : Expression) × GrammarOf grammar rules e × (node < size e)
+        × (at ≤ 6000000)) ⌝ }
     ensures { λ r. ⌜ (r ≤ at + 10900)
         × ((rules : List Rule) (e : Expression) → GrammarOf grammar rules e → node < size e
         → Emitted (now (image .entry)) (now (image .exit)) at r (row-part (numbering .number) rules e node)) ⌝ }
@@ -215,7 +217,9 @@ fn emit_row(
 
 // The number of nonterminals and their rows, in the order of their numbers.
 fn emit_rows(image: &mut [u8], at: usize, grammar: Grammar, numbering: Numbering) -> usize
-    requires { ⌜ (at ≤ 5000000) × (grammar .rules ≤ 32) × (numbering .count ≤ 64) ⌝ }
+    requires { ⌜ ((rules : List Rule) × (e : Expression) × GrammarOf grammar rules e
+        × ((i : ℕ) → i < numbering .count → getD (numbering .met) i 0 < size e) × (numbering .count ≤ 64)
+        × (at ≤ 5000000)) ⌝ }
     ensures { λ r. ⌜ (r ≤ at + 697610)
         × ((rules : List Rule) (e : Expression) → GrammarOf grammar rules e
         → ((i : ℕ) → i < numbering .count → getD (numbering .met) i 0 < size e)
@@ -239,7 +243,7 @@ fn emit_image(
     positions: PositionColumns,
     numbering: Numbering,
 ) -> usize
-    requires { ⌜ (grammar .rules ≤ 32) × (positions .count ≤ 64) × (numbering .count ≤ 64) ⌝ }
+    requires { ⌜ ((s : Sheet) × PartsOf grammar positions numbering s × (positions .count ≤ 64) × (numbering .count ≤ 64)) ⌝ }
     ensures { λ r. ⌜ ((s : Sheet) → PartsOf grammar positions numbering s
         → Emitted (now (image .entry)) (now (image .exit)) 0 r (image-numbers (image-of s))) ⌝ }
 {
@@ -250,7 +254,7 @@ fn emit_image(
 
 // How many bytes the image takes. The numbers are written nowhere but into one byte that is thrown away.
 pub fn image_width(grammar: Grammar, positions: PositionColumns, numbering: Numbering) -> usize
-    requires { ⌜ (grammar .rules ≤ 32) × (positions .count ≤ 64) × (numbering .count ≤ 64) ⌝ }
+    requires { ⌜ ((s : Sheet) × PartsOf grammar positions numbering s × (positions .count ≤ 64) × (numbering .count ≤ 64)) ⌝ }
     ensures { λ r. ⌜ ((s : Sheet) → PartsOf grammar positions numbering s → r ≡ length (image-bytes (image-of s))) ⌝ }
 {
     let mut none = [0u8; 1];
@@ -264,7 +268,8 @@ pub fn write_image(
     positions: PositionColumns,
     numbering: Numbering,
 ) -> usize
-    requires { ⌜ (grammar .rules ≤ 32) × (positions .count ≤ 64) × (numbering .count ≤ 64) ⌝ }
+    requires { ⌜ ((s : Sheet) × PartsOf grammar positions numbering s
+        × (length (image-bytes (image-of s)) ≤ length (now image)) × (positions .count ≤ 64) × (numbering .count ≤ 64)) ⌝ }
     ensures { λ r. ⌜ ((s : Sheet) → PartsOf grammar positions numbering s
         → length (image-bytes (image-of s)) ≤ length (now (image .entry))
         → (r ≡ length (image-bytes (image-of s)))

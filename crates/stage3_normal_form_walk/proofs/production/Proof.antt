@@ -16,7 +16,7 @@ no-tail-requires c κs = search needs
 
 returns : tie.Need-returns
 returns c = (
-  omega (arith, c .no-tail .ensures .1),
+  record { fits = omega (arith, c .no-tail .ensures .1); none-counted = λ e. c .no-tail .ensures .1 },
   λ e h l. right-outside _ _ _ _ e h _ _ l (c .no-tail .result) (c .no-tail .ensures .0)
       (sym (c .before .before .begins .ensures) ∙ not-true _ (c .before .if1 .taken)),
 )
@@ -29,7 +29,7 @@ no-tail-requires-2 c κs = search needs
 
 returns-2 : tie.Need-returns-2
 returns-2 c = let w = c .before .before .before .walk in (
-  omega (arith, c .no-tail2 .ensures .1),
+  record { fits = omega (arith, c .no-tail2 .ensures .1); none-counted = λ e. c .no-tail2 .ensures .1 },
   λ e h l. right-none _ _ _ _ e h _ _ l (c .no-tail2 .result) (w .result) (c .no-tail2 .ensures .0) (not-true _ (c .before .if2 .taken))
       (w .ensures .1 (h .guarded)),
 )

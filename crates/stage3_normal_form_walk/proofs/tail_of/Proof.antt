@@ -2,6 +2,7 @@
 use borrow.Author.Needs.{needs}
 use native.Mathlib.Omega.{arith}
 use mathlib.Core.Path.{_≡_, refl, _∙_}
+use mathlib.Core.Bool.{true≢false}
 use Prim.Native.Nat.{_-_, _≤_}
 use lib.ListN.{length, take, drop, length-set}
 use Rattle.stage3_normal_form_walk.proofs.Walking.{moved, all-moved}
@@ -19,7 +20,10 @@ no-tail-requires : tie.Need-no-tail-requires Inv-loop μ-loop
 no-tail-requires c κs = tt
 
 returns : tie.Need-returns Inv-loop μ-loop
-returns c = (omega (arith, c .before .no-tail .ensures .1), λ h. absurd (omega arith))
+returns c = (
+  record { fits = omega (arith, c .before .no-tail .ensures .1); none-counted = λ e. c .before .no-tail .ensures .1 },
+  λ h. absurd (omega arith),
+)
 
 sub-count : tie.Need-sub-count Inv-loop μ-loop
 sub-count c = omega arith
@@ -57,7 +61,10 @@ returns-2 c =
     let l = c .before .loop in
     let a = c .before .before .before .before .args in
     let full : length (a .t1) ≡ 64 = search needs in
-    (omega arith, λ h. all-moved (a .t1) (l .tail .members) (a .start) (l .i) full (omega arith) (l .inv .0) (l .inv .2))
+    let z = a .start in (
+      record { fits = omega arith; none-counted = λ e. absurd (true≢false e) },
+      λ h. all-moved (a .t1) (l .tail .members) (a .start) (l .i) full (omega arith) (l .inv .0) (l .inv .2),
+    )
 
 pub tail-of-spec : {M : Type 1} → statement M
 tail-of-spec =

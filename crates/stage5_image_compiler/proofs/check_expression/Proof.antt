@@ -32,9 +32,10 @@ enum-told c = search needs
 
 grammar-of-requires : tie.Need-grammar-of-requires
 grammar-of-requires c κs =
-    let w = c .before .before .before .before .pre in
+    let z = c .before .before .before .before in
+    let w = z .pre in
     let k = c .before .before .check-types in
-    links-most (w .0) _ _ (w .1) (k .result) (k .ensures)
+    (w .0, z .args .t1, w .1, k .ensures, links-most (w .0) _ _ (w .1) (k .result) (k .ensures))
 
 write-if-fits-requires : tie.Need-write-if-fits-requires
 write-if-fits-requires c κs =

@@ -7,7 +7,10 @@ use Rattle.stage5_image_compiler.proofs.grammar_of.Statement.{statement
 use Rattle.stage5_image_compiler.proofs.grammar_of.Tie as tie
 
 derives-requires : tie.Need-derives-requires
-derives-requires c κs = search needs
+derives-requires c κs =
+    let z = c .before .before in
+    let p = z .pre in
+    (p .0 .sheet .expression, linked (p .0) (z .args .rules) (p .1) (z .args .checked) (p .2) (p .3), p .4)
 
 grammar-from-requires : tie.Need-grammar-from-requires
 grammar-from-requires c κs = search needs

@@ -2,17 +2,18 @@
 use borrow.Author.Needs.{needs}
 use denote.Ref.{now}
 use Rattle.stage5_image.specs.Image.{image-of, image-bytes}
-use Rattle.stage5_image_compiler.proofs.Endings.{parts-of, rules-most, fits, ends-too-long, ends-written}
+use Rattle.stage5_image_compiler.proofs.Endings.{parts-of, fits, ends-too-long, ends-written}
 use Rattle.stage5_image_compiler.proofs.write_if_fits.Statement.{statement}
 use Rattle.stage5_image_compiler.proofs.write_if_fits.Tie as tie
 
 number-nodes-requires : tie.Need-number-nodes-requires
-number-nodes-requires c κs = let w = c .before .pre in rules-most (w .0) _ _ (w .1)
+number-nodes-requires c κs = let w = c .before .pre in (w .0 .rules, w .0 .expression, w .1 .grammar)
 
 image-width-requires : tie.Need-image-width-requires
 image-width-requires c κs =
     let w = c .before .before .pre in
-    (rules-most (w .0) _ _ (w .1), w .1 .held .count-most, c .number-nodes .ensures .0)
+    let n = c .number-nodes in
+    (w .0, parts-of (w .0) _ _ (n .result) (w .1) (n .ensures .1 (w .0 .rules) (w .0 .expression) (w .1 .grammar)), w .1 .held .count-most, n .ensures .0)
 
 returns : tie.Need-returns
 returns c =
@@ -25,9 +26,14 @@ returns c =
 
 write-image-requires : tie.Need-write-image-requires
 write-image-requires c κs =
-    let numbered = c .before .before .before in
-    let w = numbered .before .before .pre in
-    (rules-most (w .0) _ _ (w .1), w .1 .held .count-most, numbered .number-nodes .ensures .0)
+    let measured = c .before .before in
+    let n = measured .before .number-nodes in
+    let z = measured .before .before .before in
+    let w = z .pre in
+    let s = w .0 in
+    let parts = parts-of s _ _ (n .result) (w .1) (n .ensures .1 (s .rules) (s .expression) (w .1 .grammar)) in
+    let room = fits (image-bytes (image-of s)) (now (z .args .image)) (measured .image-width .ensures s parts) (c .before .if1 .left) in
+    (s, parts, room, w .1 .held .count-most, n .ensures .0)
 
 same-length : tie.Need-same-length
 same-length c = search needs

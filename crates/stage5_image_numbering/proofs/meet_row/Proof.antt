@@ -24,10 +24,11 @@ loop-holds : tie.Need-loop-holds Inv-loop μ-loop
 loop-holds c = (search needs, search needs, λ rs e h inside. row-start _ _ _)
 
 rule-tail-requires : tie.Need-rule-tail-requires Inv-loop μ-loop
-rule-tail-requires c κs = search needs
+rule-tail-requires c κs = let p = c .before .before .pre in
+    (p .0, p .1, p .2, p .3, omega (arith, p .2 .rule-count, c .loop-test .taken))
 
 meet-tail-requires : tie.Need-meet-tail-requires Inv-loop μ-loop
-meet-tail-requires c κs = (search needs, c .rule-tail .ensures .0)
+meet-tail-requires c κs = (search needs, c .rule-tail .ensures .0 .fits)
 
 add-rule : tie.Need-add-rule Inv-loop μ-loop
 add-rule c = search needs

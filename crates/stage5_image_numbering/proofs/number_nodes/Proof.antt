@@ -28,7 +28,10 @@ node-at-requires : tie.Need-node-at-requires Inv-loop μ-loop
 node-at-requires c κs = search needs
 
 meet-row-requires : tie.Need-meet-row-requires Inv-loop μ-loop
-meet-row-requires c κs = search needs
+meet-row-requires c κs =
+    let l = c .before .before .before .loop in
+    let p = c .before .before .before .before .before .pre in
+    (p .0, p .1, p .2, next-node _ (p .0) (p .1) (p .2) _ _ (l .inv .2 (p .0) (p .1) (p .2)) _ (c .node-at .ensures) (c .before .if1 .taken), l .inv .1)
 
 add-i : tie.Need-add-i Inv-loop μ-loop
 add-i c = search needs

@@ -1,4 +1,5 @@
 -- `stage5_image_numbering::rule_tail` meets its contract: a rule that skips has no tail, any other that of its token's production.
+use mathlib.Core.Path.{refl}
 use native.Mathlib.Omega.{arith}
 use borrow.Author.Needs.{needs}
 use Rattle.stage3_normal_form_walk.specs.Columns.{tail-held}
@@ -7,17 +8,17 @@ use Rattle.stage5_image_numbering.proofs.rule_tail.Statement.{statement
 use Rattle.stage5_image_numbering.proofs.rule_tail.Tie as tie
 
 element-copy-out-action : tie.Need-element-copy-out-action
-element-copy-out-action c = search needs
+element-copy-out-action c = let p = c .pre in omega (arith, p .2 .rules-most, p .4)
 
 returns : tie.Need-returns
 unfolding tail-held
-returns c = (omega arith, λ rules e h inside below. skipping-tail _ rules e h _ below _ (c .if1 .taken))
+returns c = (record { fits = omega arith; none-counted = λ e. refl }, λ rules e h inside below. skipping-tail _ rules e h _ below _ (c .if1 .taken))
 
 sub-production : tie.Need-sub-production
 sub-production c = search needs
 
 production-requires : tie.Need-production-requires
-production-requires c κs = search needs
+production-requires c κs = let p = c .before .before .before .before .before .before .pre in (p .1, p .2 .columns, p .3)
 
 returns-2 : tie.Need-returns-2
 returns-2 c = let z = c .before .before .before .before .before in (

@@ -30,10 +30,12 @@ loop-holds : tie.Need-loop-holds Inv-loop μ-loop
 loop-holds c = (omega arith, omega arith, λ rs e h inside. counted-none rs e _)
 
 rule-tail-requires : tie.Need-rule-tail-requires Inv-loop μ-loop
-rule-tail-requires c κs = search needs
+rule-tail-requires c κs = let p = c .before .before .pre in
+    (p .0, p .1, p .2, p .3, omega (arith, p .2 .rule-count, c .loop-test .taken))
 
 counted-requires : tie.Need-counted-requires Inv-loop μ-loop
-counted-requires c κs = let l = c .before .before .loop in omega (arith, l .inv .0, l .inv .1, c .before .before .before .pre)
+counted-requires c κs = let l = c .before .before .loop in let p = c .before .before .before .pre in
+    omega (arith, l .inv .0, l .inv .1, p .2 .rule-count, p .2 .rules-most)
 
 add-rule : tie.Need-add-rule Inv-loop μ-loop
 add-rule c = search needs

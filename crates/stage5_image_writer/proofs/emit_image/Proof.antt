@@ -1,17 +1,26 @@
 -- `stage5_image_writer::emit_image` meets its contract: three parts, one after the other.
+use native.Mathlib.Omega.{arith}
 use borrow.Author.Needs.{needs}
 use Rattle.stage5_image_writer.proofs.Whole.{image-emitted, nodes-inside}
 use Rattle.stage5_image_writer.proofs.emit_image.Statement.{statement}
 use Rattle.stage5_image_writer.proofs.emit_image.Tie as tie
 
 emit-rules-requires : tie.Need-emit-rules-requires
-emit-rules-requires c κs = search needs
+emit-rules-requires c κs = let p = c .before .before .pre in
+    (omega arith, omega (arith, p .1 .grammar .rule-count, p .1 .grammar .rules-most))
 
 emit-positions-requires : tie.Need-emit-positions-requires
-emit-positions-requires c κs = search needs
+emit-positions-requires c κs = (omega (arith, c .before .before .before .emit-rules .ensures .0), c .before .before .before .before .before .before .pre .2)
 
 emit-rows-requires : tie.Need-emit-rows-requires
-emit-rows-requires c κs = search needs
+emit-rows-requires c κs = let p = c .before .before .before .before .before .before .before .before .before .before .pre in (
+  p .0 .rules,
+  p .0 .expression,
+  p .1 .grammar,
+  nodes-inside _ _ _ (p .0) (p .1),
+  p .3,
+  omega (arith, c .before .before .before .before .before .before .before .emit-rules .ensures .0, c .before .before .before .emit-positions .ensures .0),
+)
 
 same-length : tie.Need-same-length
 same-length c = search needs

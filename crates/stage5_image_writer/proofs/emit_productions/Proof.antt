@@ -29,19 +29,14 @@ loop-holds : tie.Need-loop-holds Inv-loop μ-loop
 loop-holds c = (omega arith, omega arith, refl, λ rs e h inside. nothing-yet _ _ _)
 
 rule-tail-requires : tie.Need-rule-tail-requires Inv-loop μ-loop
-rule-tail-requires c κs = search needs
+rule-tail-requires c κs = let p = c .before .before .before .pre in
+    (p .0, p .1, p .2, p .3, omega (arith, p .2 .rule-count, c .loop-test .taken))
 
 emit-production-requires : tie.Need-emit-production-requires Inv-loop μ-loop
-emit-production-requires c κs = let l = c .before .before .before .loop in (
-  omega (
-    arith,
-    l .inv .0,
-    l .inv .1,
-    c .before .before .before .before .before .pre .0,
-    c .before .before .before .before .before .pre .1,
-  ),
-  c .before .rule-tail .ensures .0,
-)
+emit-production-requires c κs =
+    let l = c .before .before .before .loop in
+    let p = c .before .before .before .before .before .pre in
+    (omega (arith, l .inv .0, l .inv .1, p .4, p .2 .rule-count, p .2 .rules-most), c .before .rule-tail .ensures .0 .fits)
 
 add-rule : tie.Need-add-rule Inv-loop μ-loop
 add-rule c = search needs
@@ -68,8 +63,8 @@ same-length : tie.Need-same-length Inv-loop μ-loop
 same-length c = c .before .loop .inv .2
 
 returns : tie.Need-returns Inv-loop μ-loop
-returns c = let l = c .before .loop in (
-  omega (arith, l .inv .0, l .inv .1, c .before .before .before .pre .1),
+returns c = let l = c .before .loop in let p = c .before .before .before .pre in (
+  omega (arith, l .inv .0, l .inv .1, p .2 .rule-count, p .2 .rules-most),
   λ rs e h inside. productions-emitted _ _ rs e h _ (l .rule) (l .inv .0) (c .loop-test .left) (l .inv .3 rs e h inside),
 )
 

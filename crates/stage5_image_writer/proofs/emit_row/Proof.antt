@@ -12,13 +12,15 @@ emit-flag-requires : tie.Need-emit-flag-requires
 emit-flag-requires c κs = search needs
 
 count-productions-requires : tie.Need-count-productions-requires
-count-productions-requires c κs = search needs
+count-productions-requires c κs = let p = c .before .before .before .before .before .before .pre in (p .0, p .1, p .2, p .3)
 
 emit-requires : tie.Need-emit-requires
 emit-requires c κs = search needs
 
 emit-productions-requires : tie.Need-emit-productions-requires
-emit-productions-requires c κs = search needs
+emit-productions-requires c κs =
+    let p = c .before .before .before .before .before .before .before .before .before .before .before .before .pre in
+    (p .0, p .1, p .2, p .3, omega (arith, p .4, c .before .before .before .emit .ensures .0, c .before .before .before .before .before .before .before .before .emit-flag .ensures .0))
 
 same-length : tie.Need-same-length
 same-length c = search needs

@@ -34,21 +34,17 @@ node-at-requires : tie.Need-node-at-requires Inv-loop μ-loop
 node-at-requires c κs = let l = c .before .loop in omega (
   arith,
   c .loop-test .taken,
-  c .before .before .before .before .before .before .before .pre .2,
+  c .before .before .before .before .before .before .before .pre .4,
 )
 
 emit-row-requires : tie.Need-emit-row-requires Inv-loop μ-loop
 emit-row-requires c κs = let l = c .before .before .before .loop in let z = c .before .before .before .before .before .before
-    .before .before .before in (
-      omega (
-        arith,
-        l .inv .0,
-        l .inv .1,
-        c .before .before .before .before .before .before .emit .ensures .0,
-        z .pre .0,
-        z .pre .2,
-      ),
-      z .pre .1,
+    .before .before .before in let p = z .pre in (
+      p .0,
+      p .1,
+      p .2,
+      subst (λ (n : ℕ). n < size (p .1)) (sym (c .before .node-at .ensures)) (p .3 (l .i) (c .before .before .loop-test .taken)),
+      omega (arith, l .inv .0, l .inv .1, c .before .before .before .before .before .before .emit .ensures .0, p .4, p .5),
     )
 
 add-i : tie.Need-add-i Inv-loop μ-loop
@@ -77,7 +73,7 @@ same-length c = c .before .loop .inv .2 ∙ c .before .before .before .before .e
 returns : tie.Need-returns Inv-loop μ-loop
 returns c = let l = c .before .loop in
     let count = c .before .before .before .before .emit .ensures in (
-      omega (arith, l .inv .0, l .inv .1, count .0, c .before .before .before .before .before .before .before .pre .2),
+      omega (arith, l .inv .0, l .inv .1, count .0, c .before .before .before .before .before .before .before .pre .4),
       λ rs e h inside. rows-emitted _ rs e (count .1) (all-done _ (l .i) _ (l .inv .0) (c .loop-test .left) (l .inv .3 rs e h inside)),
     )
 
