@@ -9,7 +9,7 @@ use lib.ListN.{length}
 use Rattle.stage1_sheet.specs.Spelling.{NumberAt}
 use Rattle.stage1_sheet.specs.NumberLaws.{number-once}
 use Rattle.stage1_sheet.specs.SheetQuestions.{Due, nothing-due, due-after, AllowedValue, LimitsLeft, LimitsKept, left-after, Reaches, arrived, onward}
-use Rattle.stage1_sheet.specs.SheetQuestions.{Fails, no-number, not-allowed, not-kept, left-over, RefusedFrom}
+use Rattle.stage1_sheet.specs.SheetQuestions.{QuestionFails, no-number, not-allowed, not-kept, left-over, RefusedFrom}
 
 -- One number further.
 pub reaches-next : {bytes : List ℕ} {to from : Due} {to-left from-left : LimitsLeft} {at start v next : ℕ} → Reaches bytes to to-left at from from-left start
@@ -43,7 +43,7 @@ module _ {bytes : List ℕ} where
   stuck-stays s arrived = record { same-due = refl; same-left = refl; same-place = refl }
   stuck-stays s (onward {v = v} {next = next} n a k rest) = absurd (s v next n a k)
 
-  fails-stuck : {due : Due} {left : LimitsLeft} {place question : ℕ} → Fails bytes due left place question → Stuck bytes due left place
+  fails-stuck : {due : Due} {left : LimitsLeft} {place question : ℕ} → QuestionFails bytes due left place question → Stuck bytes due left place
   fails-stuck (no-number d h) v next n a k = h v next n
   fails-stuck {due} (not-allowed w other d m h) v next n a k = h (subst (AllowedValue due) (number-once n m .0) a)
   fails-stuck {due} {left} (not-kept w other m b h) v next n a k = h (subst (LimitsKept left due) (number-once n m .0) k)
@@ -52,7 +52,7 @@ module _ {bytes : List ℕ} where
   nothing-stuck : (left : LimitsLeft) (place : ℕ) → Stuck bytes nothing-due left place
   nothing-stuck left place v next n a k = a
 
-  ended-well : {left : LimitsLeft} {question : ℕ} → Fails bytes nothing-due left (length bytes) question → ⊥
+  ended-well : {left : LimitsLeft} {question : ℕ} → QuestionFails bytes nothing-due left (length bytes) question → ⊥
   ended-well (no-number d h) = d refl
   ended-well (not-allowed v next d n h) = d refl
   ended-well (not-kept v next n c h) = c
@@ -67,7 +67,7 @@ module _ {bytes : List ℕ} where
 
   -- One question fails at most.
   module _ {due : Due} {left : LimitsLeft} {place : ℕ} where
-    question-once : {x y : ℕ} → Fails bytes due left place x → Fails bytes due left place y → x ≡ y
+    question-once : {x y : ℕ} → QuestionFails bytes due left place x → QuestionFails bytes due left place y → x ≡ y
     question-once (no-number d h) (no-number e k) = refl
     question-once (no-number d h) (not-allowed v next e n k) = absurd (h v next n)
     question-once (no-number d h) (not-kept v next n a k) = absurd (h v next n)
@@ -85,10 +85,10 @@ module _ {bytes : List ℕ} where
     question-once (left-over e i) (not-kept v next n a h) = absurd (subst (λ (d : Due). AllowedValue d v) e a)
     question-once (left-over e i) (left-over f j) = refl
 
-  fails-as : {x y : Due} {l m : LimitsLeft} {p q question : ℕ} → Same x y l m p q → Fails bytes x l p question → Fails bytes y m q question
+  fails-as : {x y : Due} {l m : LimitsLeft} {p q question : ℕ} → Same x y l m p q → QuestionFails bytes x l p question → QuestionFails bytes y m q question
   fails-as {x} {y} {l} {m} {p} {q} {question} e f =
-      subst (λ (k : ℕ). Fails bytes y m k question) (e .same-place)
-      (subst (λ (k : LimitsLeft). Fails bytes y k p question) (e .same-left) (subst (λ (k : Due). Fails bytes k l p question) (e .same-due) f))
+      subst (λ (k : ℕ). QuestionFails bytes y m k question) (e .same-place)
+      (subst (λ (k : LimitsLeft). QuestionFails bytes y k p question) (e .same-left) (subst (λ (k : Due). QuestionFails bytes k l p question) (e .same-due) f))
 
 module _ {bytes : List ℕ} {from : Due} {from-left : LimitsLeft} {start : ℕ} where
   -- A sheet is refused once.
@@ -105,7 +105,7 @@ module _ {bytes : List ℕ} {from : Due} {from-left : LimitsLeft} {start : ℕ} 
       ended-well (fails-as (both-stuck (fails-stuck (b .fails)) (nothing-stuck left (length bytes)) (b .reached) a) (b .fails))
 
 -- The question is one from 3 to 6.
-pub refused-number : {bytes : List ℕ} {due : Due} {left : LimitsLeft} {place question : ℕ} → Fails bytes due left place question
+pub refused-number : {bytes : List ℕ} {due : Due} {left : LimitsLeft} {place question : ℕ} → QuestionFails bytes due left place question
     → (3 ≤ question) × (question ≤ 6)
 refused-number (no-number d h) = (omega arith, omega arith)
 refused-number (not-allowed v next d n h) = (omega arith, omega arith)

@@ -95,19 +95,19 @@ pub data Reaches (bytes : List ℕ) (to : Due) (to-left : LimitsLeft) (place : �
 
 -- The question that fails where this is due: 3, no number is there; 4, its value is not allowed; 5, a limit is not kept; 6, the sheet
 -- does not end.
-pub data Fails (bytes : List ℕ) (due : Due) (left : LimitsLeft) (place : ℕ) : ℕ → Type 0 where
-  no-number : (due ≡ nothing-due → ⊥) → ((v next : ℕ) → NumberAt bytes place v next → ⊥) → Fails bytes due left place 3
+pub data QuestionFails (bytes : List ℕ) (due : Due) (left : LimitsLeft) (place : ℕ) : ℕ → Type 0 where
+  no-number : (due ≡ nothing-due → ⊥) → ((v next : ℕ) → NumberAt bytes place v next → ⊥) → QuestionFails bytes due left place 3
   not-allowed : (v next : ℕ) → (due ≡ nothing-due → ⊥) → NumberAt bytes place v next → (AllowedValue due v → ⊥)
-      → Fails bytes due left place 4
-  not-kept : (v next : ℕ) → NumberAt bytes place v next → AllowedValue due v → (LimitsKept left due v → ⊥) → Fails bytes due left place 5
-  left-over : due ≡ nothing-due → place < length bytes → Fails bytes due left place 6
+      → QuestionFails bytes due left place 4
+  not-kept : (v next : ℕ) → NumberAt bytes place v next → AllowedValue due v → (LimitsKept left due v → ⊥) → QuestionFails bytes due left place 5
+  left-over : due ≡ nothing-due → place < length bytes → QuestionFails bytes due left place 6
 
 -- Reading reaches, from a start, a place where the question fails.
 pub record RefusedFrom (bytes : List ℕ) (from : Due) (from-left : LimitsLeft) (start question place : ℕ) : Type 0 where
   pub due : Due
   pub left : LimitsLeft
   pub reached : Reaches bytes due left place from from-left start
-  pub fails : Fails bytes due left place question
+  pub fails : QuestionFails bytes due left place question
 
 -- A sheet is refused with a question at a place.
 abbrev pub SheetRefused : List ℕ → ℕ → ℕ → Type 0

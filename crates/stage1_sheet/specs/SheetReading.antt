@@ -24,6 +24,8 @@ use Rattle.stage1_sheet.specs.FieldLaws.{Outcome, refused, accepted, the
 use Rattle.stage1_sheet.specs.NumberLaws.{first-stands, numbers-inside, numbers-append, numbers-split}
 use Rattle.stage1_sheet.specs.SheetQuestions.{nothing-due, rules-due, sheet-due, LimitsLeft, all-left, Reaches, arrived, left-over, SheetRefused}
 use Rattle.stage1_sheet.specs.SheetFields.{range-test, number-outcome, sheet-field-got}
+use Rattle.stage1_sheet.specs.NodePlaces.{numbers-before}
+use Rattle.stage1_sheet.specs.NodePlaceLaws.{before}
 use Rattle.stage1_sheet.specs.PlaceLaws.{EachAt, each-place, numbers-of-rule, rule-numbers-are, numbers-of-taken}
 use Rattle.stage1_sheet.specs.ExpressionItems.{expression-items-of, expression-item-numbers, MakesExpressions}
 use Rattle.stage1_sheet.specs.ExpressionItems.{expression-items-numbers, expression-items-length, expressions-items}
@@ -89,10 +91,10 @@ module _ (bytes : List ℕ) (b : Bytes bytes) where
       go true e = accepted c end (k (eqb→eq end (length bytes) (true-holds (eqb end (length bytes)) e)))
       go false e =
           let other = eqb-false end (length bytes) e in
-          refused 6 end record { due = nothing-due; left = m .0; reached = m .1; fails = left-over refl (before other) }
+          refused 6 end record { due = nothing-due; left = m .0; reached = m .1; fails = left-over refl (short other) }
         where
-          before : (end ≡ length bytes → ⊥) → end < length bytes
-          before n = ⊎-elim (λ l. l) (λ g. absurd (n (omega arith))) (lt-or-le end (length bytes))
+          short : (end ≡ length bytes → ⊥) → end < length bytes
+          short n = ⊎-elim (λ l. l) (λ g. absurd (n (omega arith))) (lt-or-le end (length bytes))
 
   pub sheet-outcome : Outcome (SheetRefused bytes) (SheetRead bytes) (read-sheet bytes)
   unfolding read-sheet sheet-due rules-due expressions-due
@@ -148,9 +150,9 @@ module _ (bytes : List ℕ) (s : Sheet) (at-rules at-expression end : ℕ) (head
       let own = each-place (λ m. m .place) (λ m. expression-item-numbers (m .item)) bytes (n .nodes) at-expression end i
       (omega (arith, nodes-counted, expression-items-length (s .expression))) (n .places) in
       let same : flatMap (λ m. expression-item-numbers (m .item)) (take i (n .nodes))
-      ≡ flatMap expression-item-numbers (take i (expression-items-of (s .expression))) =
+      ≡ take (numbers-before (s .expression) i) (expression-numbers (s .expression)) =
       numbers-of-taken (λ m. m .item) expression-item-numbers (n .nodes) i
-      ∙ ap (λ (l : List ExpressionItem). flatMap expression-item-numbers (take i l)) (n .same-items) in
+      ∙ ap (λ (l : List ExpressionItem). flatMap expression-item-numbers (take i l)) (n .same-items) ∙ before (s .expression) i h .numbers in
       numbers-append (numbers-append head rules-stand) (subst (λ (ns : List ℕ). NumbersAt bytes at-expression ns place) same own)
 
   contents-stand : ContentsOf bytes s (contents (s .tokens) (r .rules) (n .nodes))

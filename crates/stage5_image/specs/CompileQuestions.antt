@@ -4,18 +4,17 @@ use mathlib.Core.Path.{_≡_, refl, sym, ap, subst, _∙_}
 use mathlib.Core.Bool.{Bool, true, false, cond}
 use mathlib.Core.List.{List, []}
 use mathlib.Core.Option.{Option, none, some}
-use mathlib.Core.Logic.{⊎-elim}
+use mathlib.Core.Logic.{_↔_}
 use Prim.Native.Nat.{ℕ, _≤_, _<_}
 use native.Mathlib.Omega.{arith}
 use lib.ListN.{length, getD}
 use lib.Dec.{ltb, leb, leb→le, nleb→lt}
 use borrow.Author.Tests.{ltb-true, ltb-false, lt-ltb, le-ltb, le-leb, lt-leb}
-use Rattle.stage0_laws.specs.Order.{compare-cases}
 use Rattle.stage0_laws.specs.Truth.{true-holds}
 use Rattle.stage1_sheet.specs.Limits.{most-sheet-bytes}
 use Rattle.stage1_sheet.specs.Expression.{size}
-use Rattle.stage1_sheet.specs.Sheet.{Rule, Sheet}
-use Rattle.stage1_sheet.specs.WellFormed.{Spells}
+use Rattle.stage1_sheet.specs.Sheet.{Sheet}
+use Rattle.stage1_sheet.specs.WellFormed.{WithinLimits, Spells}
 use Rattle.stage1_sheet.specs.Field.{Reading, stop, got}
 use Rattle.stage1_sheet.specs.Reading.{Contents, read-sheet}
 use Rattle.stage1_sheet.specs.Spelling.{Bytes, NumbersAt}
@@ -23,25 +22,27 @@ use Rattle.stage1_sheet.specs.Places.{numbers-before-rule, numbers-before-node,
 use Rattle.stage1_sheet.specs.NumberLaws.{numbers-once}
 use Rattle.stage1_sheet.specs.ReadingLaws.{spelled-read, read-accepted, read-refused, refused-read}
 use Rattle.stage2_types.specs.Types.{HasType}
-use Rattle.stage2_types.specs.EachFrom.{each-member}
-use Rattle.stage2_types.specs.Nodes.{bottom-node, nodes}
-use Rattle.stage2_types.specs.LeastTypes.{least-types}
-use Rattle.stage2_types.specs.LeastTypeLaws.{node-at}
-use Rattle.stage2_types.specs.Questions.{Fault, node-fault, type-fault}
-use Rattle.stage2_types.specs.QuestionLaws.{Passes, no-fault-iff, type-fault-first}
+use Rattle.stage2_types.specs.Questions.{Fault, type-fault}
+use Rattle.stage2_types.specs.QuestionLaws.{type-fault-first}
+use Rattle.stage2_types.specs.TypeFaults.{TypeFault}
+use Rattle.stage2_types.specs.TypeFaultLaws.{type-fault-is}
 use Rattle.stage2_types.specs.Typing.{sheet-typed-iff}
 use Rattle.stage3_normal_form.specs.Places.{nodes-count}
-use Rattle.stage4_lexer.specs.EmptyWord.{none-empty, first-empty-rule}
+use Rattle.stage4_lexer.specs.EmptyWord.{none-empty, first-empty-iff}
 use Rattle.stage4_lexer.specs.Positions.{empty-match}
-use Rattle.stage4_lexer.specs.Words.{WordOf}
+use Rattle.stage4_lexer.specs.Words.{FirstEmptyRule, NoEmptyRule}
 use Rattle.stage5_image.specs.Compile.{work-bytes, Compiled, refused, too-long, compiled, fitted, after-types, after-rules, after-reading, compile}
 use Rattle.stage5_image.specs.Image.{image-of, image-bytes}
-use Rattle.stage5_image.specs.Compiles.{FirstUntyped, Compiles, short-work, long-sheet, unreadable, empty-rule, untyped, no-room, success}
+use Rattle.stage5_image.specs.Compiles.{Compiles, short-work, long-sheet, unreadable, empty-rule, untyped, no-room, success}
 use Rattle.stage5_image.specs.RowRanges.{rule-below}
 use Rattle.stage5_image.specs.ImageLength.{most-image-bytes, image-fits}
 
+-- Questions 8 to 10, by what is computed.
+fault-is : (s : Sheet) → WithinLimits s → (f : Fault) → (type-fault (s .expression) ≡ some f) ↔ TypeFault (s .expression) (f .node) (f .number)
+fault-is s l = type-fault-is (s .tokens) (l .tokens-most) (s .expression) (l .closed)
+
 module _ (bytes : List ℕ) (work room : ℕ) where
-  room-question : (s : Sheet) → work-bytes ≤ work → Spells bytes s → ((k : ℕ) → WordOf (s .rules) k [] → ⊥) → HasType (s .expression)
+  room-question : (s : Sheet) → work-bytes ≤ work → Spells bytes s → NoEmptyRule (s .rules) → HasType (s .expression)
       → Compiles bytes work room (fitted room (image-bytes (image-of s)))
   unfolding fitted
   room-question s w h m t = go (leb (length (image-bytes (image-of s))) room) refl
@@ -59,14 +60,15 @@ module _ (bytes : List ℕ) (work room : ℕ) where
     type-question m (some f) e =
         let x = type-fault-first (c .sheet .expression) f e in
         let inside : f .node < size (c .sheet .expression) = omega (arith, x .among, nodes-count (c .sheet .expression)) in
-        untyped (c .sheet) f (getD (c .node-places) (f .node) 0) w h (none-empty (c .sheet .rules) .0 m) x (p .node-stands (f .node) inside)
+        untyped (c .sheet) (f .node) (f .number) (getD (c .node-places) (f .node) 0) w h (none-empty (c .sheet .rules) .0 m)
+        (fault-is (c .sheet) (h .limits) f .0 e) (p .node-stands (f .node) inside)
 
     rule-question : (o : Option ℕ) → empty-match (c .sheet .rules) 0 ≡ o → Compiles bytes work room (after-rules room c o)
     unfolding after-rules
     rule-question none e = type-question e (type-fault (c .sheet .expression)) refl
     rule-question (some k) e =
-        let x = first-empty-rule (c .sheet .rules) k e in
-        empty-rule (c .sheet) k (getD (c .action-places) k 0) w h (x .0) (x .1) (p .action-stands k (rule-below (x .0 .1)))
+        let x = first-empty-iff (c .sheet .rules) k .0 e in
+        empty-rule (c .sheet) k (getD (c .action-places) k 0) w h x (p .action-stands k (rule-below (x .matches .1)))
 
   reading-questions : Bytes bytes → work-bytes ≤ work → length bytes ≤ most-sheet-bytes → (r : Reading Contents) → read-sheet bytes ≡ r
       → Compiles bytes work room (after-reading room r)
@@ -94,36 +96,6 @@ module _ (bytes : List ℕ) (work room : ℕ) where
 
 -- ---- there is no other answer
 
--- The first rule that has the empty word is the one that question 7 finds.
-first-empty-found : (rules : List Rule) (k : ℕ) → WordOf rules k [] → ((j : ℕ) → j < k → WordOf rules j [] → ⊥) → empty-match rules 0 ≡ some k
-first-empty-found rules k w earlier = go (empty-match rules 0) refl
-  where
-    go : (o : Option ℕ) → empty-match rules 0 ≡ o → o ≡ some k
-    go none e = absurd (none-empty rules .0 e k w)
-    go (some j) e =
-        let x = first-empty-rule rules j e in
-        ⊎-elim (λ l. absurd (earlier j l (x .0))) (⊎-elim (λ same. ap some same) (λ l. absurd (x .1 k l w))) (compare-cases j k)
-
--- A node that passes does not fail.
-passed : {o : Option Fault} {f : Fault} → o ≡ some f → o ≡ none → ⊥
-passed e h = let z : _≡_ {A = ℕ} 0 1 = cc in omega arith
-
--- The first node that fails is the one that questions 8 to 10 find.
-first-untyped-found : (s : Sheet) (f : Fault) → FirstUntyped s f → type-fault (s .expression) ≡ some f
-unfolding type-fault
-first-untyped-found s f x = go (type-fault (s .expression)) refl
-  where
-    go : (o : Option Fault) → type-fault (s .expression) ≡ o → o ≡ some f
-    go none e =
-        let all = no-fault-iff (least-types (s .expression)) (nodes (s .expression)) 0 .0 e in
-        absurd (passed (x .fails) (each-member (Passes (least-types (s .expression))) bottom-node (nodes (s .expression)) all (f .node) (x .among)))
-    go (some g) e =
-        let y = type-fault-first (s .expression) g e in
-        let fault-at : ℕ → Option Fault = λ n. node-fault (least-types (s .expression)) (node-at (nodes (s .expression)) n) n in
-        ⊎-elim (λ l. absurd (passed (y .fails) (x .earlier (g .node) l)))
-        (⊎-elim (λ same. sym (subst (λ (n : ℕ). fault-at n ≡ some g) same (y .fails)) ∙ x .fails)
-        (λ l. absurd (passed (x .fails) (y .earlier (f .node) l)))) (compare-cases (g .node) (f .node))
-
 module _ (bytes : List ℕ) (b : Bytes bytes) (work room : ℕ) (w : work-bytes ≤ work) where
   after-questions : length bytes ≤ most-sheet-bytes → compile bytes work room ≡ after-reading room (read-sheet bytes)
   unfolding compile
@@ -145,32 +117,34 @@ module _ (bytes : List ℕ) (b : Bytes bytes) (work room : ℕ) (w : work-bytes 
             ∙ ap (λ (t : Sheet). after-rules room (r .0) (empty-match (t .rules) 0)) (r .2 .same-sheet);
       }
 
-  empty-refused : (s : Sheet) (k place : ℕ) → Spells bytes s → WordOf (s .rules) k [] → ((j : ℕ) → j < k → WordOf (s .rules) j [] → ⊥)
+  empty-refused : (s : Sheet) (k place : ℕ) → Spells bytes s → FirstEmptyRule (s .rules) k
       → NumbersAt bytes 0 (numbers-before-rule s k) place → compile bytes work room ≡ refused 7 place
   unfolding after-rules
-  empty-refused s k place h x earlier p =
+  empty-refused s k place h x p =
       let r = from-rules s h in
-      let here = r .stands .action-stands k (rule-below (x .1)) in
-      r .same ∙ rw (first-empty-found (s .rules) k x earlier) (ap (refused 7) (numbers-once here p))
+      let here = r .stands .action-stands k (rule-below (x .matches .1)) in
+      r .same ∙ rw (first-empty-iff (s .rules) k .1 x) (ap (refused 7) (numbers-once here p))
 
   -- From questions 8 to 10 on.
-  from-types : (s : Sheet) (h : Spells bytes s) → ((k : ℕ) → WordOf (s .rules) k [] → ⊥)
+  from-types : (s : Sheet) (h : Spells bytes s) → NoEmptyRule (s .rules)
       → compile bytes work room ≡ after-types room (from-rules s h .what) (type-fault (s .expression))
   unfolding after-rules
   from-types s h m =
       let r = from-rules s h in
       r .same ∙ rw (none-empty (s .rules) .1 m) (ap (λ (t : Sheet). after-types room (r .what) (type-fault (t .expression))) (r .stands .same-sheet))
 
-  untyped-refused : (s : Sheet) (f : Fault) (place : ℕ) → Spells bytes s → ((k : ℕ) → WordOf (s .rules) k [] → ⊥) → FirstUntyped s f
-      → NumbersAt bytes 0 (numbers-before-node s (f .node)) place → compile bytes work room ≡ refused (f .number) place
+  untyped-refused : (s : Sheet) (node question place : ℕ) → Spells bytes s → NoEmptyRule (s .rules) → TypeFault (s .expression) node question
+      → NumbersAt bytes 0 (numbers-before-node s node) place → compile bytes work room ≡ refused question place
   unfolding after-types
-  untyped-refused s f place h m x p =
-      let inside : f .node < size (s .expression) = omega (arith, x .among, nodes-count (s .expression)) in
-      let here = from-rules s h .stands .node-stands (f .node) inside in
-      from-types s h m ∙ rw (first-untyped-found s f x) (ap (refused (f .number)) (numbers-once here p))
+  untyped-refused s node question place h m x p =
+      let found = fault-is s (h .limits) (record { number = question; node = node }) .1 x in
+      let first = type-fault-first (s .expression) (record { number = question; node = node }) found in
+      let inside : node < size (s .expression) = omega (arith, first .among, nodes-count (s .expression)) in
+      let here = from-rules s h .stands .node-stands node inside in
+      from-types s h m ∙ rw found (ap (refused question) (numbers-once here p))
 
   -- From question 11 on.
-  from-room : (s : Sheet) → Spells bytes s → ((k : ℕ) → WordOf (s .rules) k [] → ⊥) → HasType (s .expression)
+  from-room : (s : Sheet) → Spells bytes s → NoEmptyRule (s .rules) → HasType (s .expression)
       → compile bytes work room ≡ fitted room (image-bytes (image-of s))
   unfolding after-types
   from-room s h m t =
@@ -184,8 +158,8 @@ compiles-only b {work} {room} (short-work h) = rw (lt-ltb work work-bytes h)
 compiles-only {bytes} b {work} {room} (long-sheet w h) = rw (le-ltb work work-bytes w, lt-ltb most-sheet-bytes (length bytes) h)
 compiles-only {bytes} b {work} {room} (unreadable question place w l h) =
     after-questions bytes b work room w l ∙ ap (after-reading room) (refused-read bytes b h)
-compiles-only {bytes} b {work} {room} (empty-rule s k place w h x f p) = empty-refused bytes b work room w s k place h x f p
-compiles-only {bytes} b {work} {room} (untyped s f place w h m x p) = untyped-refused bytes b work room w s f place h m x p
+compiles-only {bytes} b {work} {room} (empty-rule s k place w h x p) = empty-refused bytes b work room w s k place h x p
+compiles-only {bytes} b {work} {room} (untyped s node question place w h m x p) = untyped-refused bytes b work room w s node question place h m x p
 compiles-only {bytes} b {work} {room} (no-room s w h m t l) =
     from-room bytes b work room w s h m t ∙ rw (lt-leb (length (image-bytes (image-of s))) room l)
 compiles-only {bytes} b {work} {room} (success s w a) =
@@ -205,8 +179,8 @@ too-long-from : {bytes : List ℕ} {work room : ℕ} {c : Compiled} → Compiles
 too-long-from (short-work h) n e = let z : _≡_ {A = ℕ} 0 1 = cc in absurd (omega arith)
 too-long-from (long-sheet w h) n e = let z : _≡_ {A = ℕ} 0 1 = cc in absurd (omega arith)
 too-long-from (unreadable question place w l h) n e = let z : _≡_ {A = ℕ} 0 1 = cc in absurd (omega arith)
-too-long-from (empty-rule s k p w h x f q) n e = let z : _≡_ {A = ℕ} 0 1 = cc in absurd (omega arith)
-too-long-from (untyped s f p w h m x q) n e = let z : _≡_ {A = ℕ} 0 1 = cc in absurd (omega arith)
+too-long-from (empty-rule s k p w h x q) n e = let z : _≡_ {A = ℕ} 0 1 = cc in absurd (omega arith)
+too-long-from (untyped s node q p w h m x o) n e = let z : _≡_ {A = ℕ} 0 1 = cc in absurd (omega arith)
 too-long-from (no-room s w h m t l) n e =
     let same : length (image-bytes (image-of s)) ≡ n = cc in
     let fits = image-fits s (h .limits) (none-empty (s .rules) .1 m) (t .1) in
