@@ -196,15 +196,15 @@ module _ (unreadable forbidden : ℕ) (allowed : ℕ → Bool) (bytes : List ℕ
 -- ---- several in a row
 
 -- Each member of a list is so from where the one before it ended, in the state that those before it leave.
-abbrev pub Row : {S A : Type 0} → (S → ℕ → A → ℕ → Type 0) → (S → A → S) → S → ℕ → List A → ℕ → Type 0
-Row Q update s at [] end = at ≡ end
-Row Q update s at (a ∷ l) end = (mid : ℕ) × Q s at a mid × Row Q update (update s a) mid l end
+abbrev pub OneAfterOther : {S A : Type 0} → (S → ℕ → A → ℕ → Type 0) → (S → A → S) → S → ℕ → List A → ℕ → Type 0
+OneAfterOther Q update s at [] end = at ≡ end
+OneAfterOther Q update s at (a ∷ l) end = (mid : ℕ) × Q s at a mid × OneAfterOther Q update (update s a) mid l end
 
 -- What one reading gives from an allowed place, with an allowed place after it, several in a row give too.
 module _ {S A : Type 0} (R : ℕ → ℕ → Type 0) (I : ℕ → Type 0) (Q : S → ℕ → A → ℕ → Type 0) (one : S → ℕ → Reading A) (update : S → A → S)
     (step : (s : S) (at : ℕ) → I at → Outcome R (λ a end. Q s at a end × I end) (one s at)) where
   pub many-outcome : (n : ℕ) (s : S) (at : ℕ) → I at
-      → Outcome R (λ l end. (length l ≡ n) × Row Q update s at l end × I end) (read-many one update s n at)
+      → Outcome R (λ l end. (length l ≡ n) × OneAfterOther Q update s at l end × I end) (read-many one update s n at)
   unfolding read-many
   many-outcome zero s at i = accepted [] at (refl, refl, i)
   many-outcome (suc n) s at i =
@@ -213,7 +213,7 @@ module _ {S A : Type 0} (R : ℕ → ℕ → Type 0) (I : ℕ → Type 0) (Q : S
       (λ l end r. accepted (a ∷ l) end (ap suc (r .0), (mid, q .0, r .1), r .2)))
 
 pub many-got : {S A : Type 0} (one : S → ℕ → Reading A) (update : S → A → S) (l : List A) (s : S) (at end : ℕ)
-    → Row (λ t from a mid. one t from ≡ got a mid) update s at l end → read-many one update s (length l) at ≡ got l end
+    → OneAfterOther (λ t from a mid. one t from ≡ got a mid) update s at l end → read-many one update s (length l) at ≡ got l end
 unfolding read-many
 many-got one update [] s at end h = ap (got []) h
 many-got one update (a ∷ l) s at end h = rw (h .1, many-got one update l (update s a) (h .0) end (h .2))

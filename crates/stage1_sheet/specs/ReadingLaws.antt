@@ -22,7 +22,7 @@ use Rattle.stage1_sheet.specs.SheetReading.{sheet-outcome, sheet-got}
 -- ---- what is asked
 
 -- Of a sheet that was read: its end is the bytes' end, it is the sheet that they spell, and its places are where its numbers stand.
-pub record Accepted (bytes : List ℕ) (c : Contents) (end : ℕ) : Type 0 where
+pub record SheetAccepted (bytes : List ℕ) (c : Contents) (end : ℕ) : Type 0 where
   pub ends : end ≡ length bytes
   pub spells : Spells bytes (c .sheet)
   pub places : ContentsOf bytes (c .sheet) c
@@ -46,7 +46,7 @@ spelled-once bytes s t h k =
 
 module _ (bytes : List ℕ) (b : Bytes bytes) where
   -- A reading that accepts gives the sheet that the bytes spell, with the places of its numbers.
-  pub read-accepted : length bytes ≤ most-sheet-bytes → {c : Contents} {end : ℕ} → read-sheet bytes ≡ got c end → Accepted bytes c end
+  pub read-accepted : length bytes ≤ most-sheet-bytes → {c : Contents} {end : ℕ} → read-sheet bytes ≡ got c end → SheetAccepted bytes c end
   read-accepted m {c} {end} e =
       let r = outcome-got (sheet-outcome bytes b) e in
       let whole = subst (NumbersAt bytes 0 (sheet-numbers (c .sheet))) (r .ends) (r .spelled) in

@@ -13,7 +13,7 @@ use Rattle.stage1_sheet.specs.Expression.{bottom}
 use Rattle.stage1_sheet.specs.Sheet.{Rule}
 use Rattle.stage1_sheet.specs.Field.{Reading, stop, got, and-then, between, read-many}
 use Rattle.stage1_sheet.specs.Spelling.{Bytes}
-use Rattle.stage1_sheet.specs.FieldLaws.{Outcome, refused, accepted, then-outcome, outcome-got, true-between, Row, many-outcome}
+use Rattle.stage1_sheet.specs.FieldLaws.{Outcome, refused, accepted, then-outcome, outcome-got, true-between, OneAfterOther, many-outcome}
 use Rattle.stage1_sheet.specs.Items.{RegexItem, regexes, expressions}
 use Rattle.stage1_sheet.specs.RegexItems.{regex-items-of, MakesRegexes, one-regex}
 use Rattle.stage1_sheet.specs.ExpressionItems.{expression-items-of, one-expression}
@@ -223,7 +223,7 @@ module _ (bytes : List ℕ) (b : Bytes bytes) (tokens : ℕ) where
           accepted _ end (same-regex items (regexes-read bytes b (allowed .nodes) (allowed .classes) 1 next e .makes), tt)
 
   row-items : (rules : List ReadRule) (allowed : Allowance) (at end : ℕ)
-      → Row (λ s from r next. SameItems r) less-rule allowed at rules end
+      → OneAfterOther (λ s from r next. SameItems r) less-rule allowed at rules end
       → items-of-rules (map rule-of rules) ≡ flatMap (λ r. r .items) rules
   unfolding items-of-rules flatMap
   row-items [] allowed at end h = refl

@@ -1,4 +1,5 @@
--- Compiling a sheet: questions 1 to 11 in order, what is returned, and what the lent image buffer and work area hold at the end.
+-- Compiling a sheet: how it ends, what is returned, what the lent image buffer and work area hold at the end; and the function that asks
+-- questions 1 to 11 in order, as the code does. What it must answer is said in Compiles.
 use mathlib.Core.Bool.{Bool, true, false, cond}
 use mathlib.Core.List.{List, [], _∷_, _++_}
 use mathlib.Core.Option.{Option, none, some}

@@ -96,7 +96,7 @@ module _ (bytes : List ℕ) (work room : ℕ) where
 
 -- ---- there is no other answer
 
-module _ (bytes : List ℕ) (b : Bytes bytes) (work room : ℕ) (w : work-bytes ≤ work) where
+module _ (bytes : List ℕ) (work room : ℕ) (w : work-bytes ≤ work) where
   after-questions : length bytes ≤ most-sheet-bytes → compile bytes work room ≡ after-reading room (read-sheet bytes)
   unfolding compile
   after-questions l = rw (le-ltb work work-bytes w, le-ltb most-sheet-bytes (length bytes) l)
@@ -144,7 +144,7 @@ module _ (bytes : List ℕ) (b : Bytes bytes) (work room : ℕ) (w : work-bytes 
       from-types s h m ∙ rw found (ap (refused question) (numbers-once here p))
 
   -- From question 11 on.
-  from-room : (s : Sheet) → Spells bytes s → NoEmptyRule (s .rules) → HasType (s .expression)
+  pub from-room : (s : Sheet) → Spells bytes s → NoEmptyRule (s .rules) → HasType (s .expression)
       → compile bytes work room ≡ fitted room (image-bytes (image-of s))
   unfolding after-types
   from-room s h m t =
@@ -157,13 +157,13 @@ unfolding compile fitted after-reading
 compiles-only b {work} {room} (short-work h) = rw (lt-ltb work work-bytes h)
 compiles-only {bytes} b {work} {room} (long-sheet w h) = rw (le-ltb work work-bytes w, lt-ltb most-sheet-bytes (length bytes) h)
 compiles-only {bytes} b {work} {room} (unreadable question place w l h) =
-    after-questions bytes b work room w l ∙ ap (after-reading room) (refused-read bytes b h)
-compiles-only {bytes} b {work} {room} (empty-rule s k place w h x p) = empty-refused bytes b work room w s k place h x p
-compiles-only {bytes} b {work} {room} (untyped s node question place w h m x p) = untyped-refused bytes b work room w s node question place h m x p
+    after-questions bytes work room w l ∙ ap (after-reading room) (refused-read bytes b h)
+compiles-only {bytes} b {work} {room} (empty-rule s k place w h x p) = empty-refused bytes work room w s k place h x p
+compiles-only {bytes} b {work} {room} (untyped s node question place w h m x p) = untyped-refused bytes work room w s node question place h m x p
 compiles-only {bytes} b {work} {room} (no-room s w h m t l) =
-    from-room bytes b work room w s h m t ∙ rw (lt-leb (length (image-bytes (image-of s))) room l)
+    from-room bytes work room w s h m t ∙ rw (lt-leb (length (image-bytes (image-of s))) room l)
 compiles-only {bytes} b {work} {room} (success s w a) =
-    from-room bytes b work room w s (a .well-formed) (a .no-empty-text) (a .has-type)
+    from-room bytes work room w s (a .well-formed) (a .no-empty-text) (a .has-type)
     ∙ rw (le-leb (length (image-bytes (image-of s))) room (a .fits))
 
 -- So there is one answer.

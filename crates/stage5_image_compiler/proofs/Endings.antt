@@ -48,13 +48,13 @@ use Rattle.stage5_image_numbering.specs.declared.Grammar.{Grammar}
 use Rattle.stage5_image_numbering.specs.declared.Numbering.{Numbering}
 use Rattle.stage5_image_writer.specs.Parts.{PartsOf}
 use Rattle.stage5_image_compiler.specs.Answer.{case-of, Ends}
-use Rattle.stage5_image_compiler.specs.Steps.{SheetOf, PositionsHeld, Accepted, after-work, work-first}
+use Rattle.stage5_image_compiler.specs.Steps.{SheetOf, PositionsHeld, MadeFrom, after-work, work-first}
 use Rattle.stage5_image_compiler.specs.declared.Compiled.{Compiled}
 use Rattle.stage5_image_compiler.specs.declared.Compiled.the-variants.{Done, TooLong, Refused}
 
 -- ---- question 11
 
-pub parts-of : (s : Sheet) (g : Grammar) (p : PositionColumns) (n : Numbering) → Accepted s g p
+pub parts-of : (s : Sheet) (g : Grammar) (p : PositionColumns) (n : Numbering) → MadeFrom s g p
     → Numbers n (reached (fused (s .rules) (normal-form (s .expression)))) → PartsOf g p n s
 parts-of s g p n a m = record {
   grammar = a .grammar;

@@ -22,7 +22,7 @@ ghost use Rattle.stage5_image.specs.Compile.{fitted, after-types, after-rules, 
 ghost use Rattle.stage5_image.specs.Compile.{compile-answer, answer-numbers, image-after, written-part, work-after};
 ghost use Rattle.stage5_image_numbering.specs.Grammar.{GrammarOf};
 ghost use Rattle.stage5_image_compiler.specs.Answer.{case-of, Ends};
-ghost use Rattle.stage5_image_compiler.specs.Steps.{SheetOf, PositionsHeld, Accepted, after-work};
+ghost use Rattle.stage5_image_compiler.specs.Steps.{SheetOf, PositionsHeld, MadeFrom, after-work};
 
 const WORK_BYTES: usize = 65536;
 
@@ -38,8 +38,8 @@ pub enum Compiled {
 
 // Question 11, asked before the first byte is written, and the image.
 fn write_if_fits(grammar: Grammar, positions: PositionColumns, image: &mut [u8]) -> Compiled
-    requires { ⌜ ((s : Sheet) × Accepted s grammar positions) ⌝ }
-    ensures { λ r. ⌜ ((s : Sheet) → Accepted s grammar positions
+    requires { ⌜ ((s : Sheet) × MadeFrom s grammar positions) ⌝ }
+    ensures { λ r. ⌜ ((s : Sheet) → MadeFrom s grammar positions
         → Ends (fitted (length (now (image .entry))) (image-bytes (image-of s))) r (now (image .entry)) (now (image .exit))) ⌝ }
 {
     let numbering = stage5_image_numbering::number_nodes(grammar);

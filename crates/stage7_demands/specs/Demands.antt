@@ -1,6 +1,7 @@
 -- The three demands, each as one statement to be held against the page, over the definitions that the code's contracts cite.
 -- The proofs are elsewhere: `Proofs` puts them together. The contracts:
---   `stage5_image_compiler`: `compile` equals `compile` here, and leaves `image-after` and `work-after`;
+--   `stage5_image_compiler`: `compile` answers what the function `compile` does, for which the demands are proved, and leaves
+--   `image-after` and `work-after`;
 --   `stage6_machine_runner`: `run` equals `run` here, and leaves `stack-after`;
 --   `stage7_engine`: `read_text` has `OwnAnswer` itself in its contract, and all three buffers;
 --   `vinzagew`: `sheet_compile` and `image_run` hand on the first two.

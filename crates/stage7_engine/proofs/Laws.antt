@@ -104,7 +104,6 @@ module _ (limit : ℕ) (text stack : List ℕ) {m : page.Compiled} where
 
 -- The part of the image buffer that was written is the image.
 pub written-image : (m : page.Compiled) (image buffer exit : List ℕ) → m ≡ compiled image → exit ≡ image-after m buffer → take (length image) exit ≡ image
-unfolding page.written-part
 written-image m image buffer exit e f = ap (take (length image)) (f ∙ ap (λ (x : page.Compiled). image-after x buffer) e) ∙ image-written image buffer
 
 -- The program's line.
