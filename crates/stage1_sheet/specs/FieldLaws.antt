@@ -7,11 +7,11 @@ use mathlib.Core.Logic.{_↔_}
 use Prim.Native.Nat.{ℕ, zero, suc, _+_, _^_, _≤_, _<_}
 use native.Mathlib.Omega.{arith}
 use lib.Dec.{T, leb, ltb, leb→le, le→leb, ltb→lt, lit<}
-use lib.ListN.{length, getD, take, drop, length-append, take-append-drop}
+use lib.ListN.{length, take, drop, length-append, take-append-drop}
 use lib.Seq.{drop-length, drop-append-seam, take-append-seam, drop-drop}
 use Rattle.stage0_laws.specs.Truth.{holds-true, true-holds, and-both, and-first, and-second, and-true-first, and-true-second}
 use Rattle.stage0_number.specs.Number.{encode, decode}
-use Rattle.stage0_number.specs.Laws.{decode-within, decode-there, decode-bytes, decode-width, encode-there}
+use Rattle.stage0_number.specs.Laws.{decode-within, decode-there, decode-bytes, decode-width}
 use Rattle.stage0_number.specs.declared.Number.{Number}
 use Rattle.stage0_number.specs.declared.Number.the-variants.{Read, Refused}
 use Rattle.stage1_sheet.specs.Spelling.{spell}
@@ -44,10 +44,6 @@ pub spell-append : (ms ns : List ℕ) → spell (ms ++ ns) ≡ spell ms ++ spell
 unfolding spell
 spell-append [] ns = refl
 spell-append (m ∷ ms) ns = ap (λ (l : List ℕ). encode m ++ l) (spell-append ms ns) ∙ sym (append-assoc (encode m) (spell ms) (spell ns))
-
-pub spell-there : (n : ℕ) (ns : List ℕ) → 1 ≤ length (spell (n ∷ ns))
-unfolding spell
-spell-there n ns = omega (arith, length-append (encode n) (spell ns), encode-there n)
 
 pub after-append : (at : ℕ) (ms ns : List ℕ) → after at (ms ++ ns) ≡ after (after at ms) ns
 after-append at ms ns = omega (arith, ap length (spell-append ms ns), length-append (spell ms) (spell ns))
@@ -211,9 +207,3 @@ module _ {S A : Type 0} (R : ℕ → ℕ → Type 0) (I : ℕ → Type 0) (Q : S
       then-outcome (step s at i)
       (λ a mid q. then-outcome (many-outcome n (update s a) mid (q .1))
       (λ l end r. accepted (a ∷ l) end (ap suc (r .0), (mid, q .0, r .1), r .2)))
-
-pub many-got : {S A : Type 0} (one : S → ℕ → Reading A) (update : S → A → S) (l : List A) (s : S) (at end : ℕ)
-    → OneAfterOther (λ t from a mid. one t from ≡ got a mid) update s at l end → read-many one update s (length l) at ≡ got l end
-unfolding read-many
-many-got one update [] s at end h = ap (got []) h
-many-got one update (a ∷ l) s at end h = rw (h .1, many-got one update l (update s a) (h .0) end (h .2))

@@ -5,7 +5,7 @@ use mathlib.Core.List.{List, [], _∷_, _++_}
 use Prim.Native.Nat.{ℕ, _<_}
 use lib.ListN.{length, getD, take}
 use Rattle.stage1_sheet.specs.Expression.{size}
-use Rattle.stage1_sheet.specs.Sheet.{Rule, Sheet}
+use Rattle.stage1_sheet.specs.Sheet.{Sheet}
 use Rattle.stage1_sheet.specs.Spelling.{NumbersAt, rule-numbers, expression-numbers}
 use Rattle.stage1_sheet.specs.Reading.{Contents}
 use Rattle.stage1_sheet.specs.NodePlaces.{numbers-before}

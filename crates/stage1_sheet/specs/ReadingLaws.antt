@@ -5,7 +5,6 @@ use mathlib.Core.Path.{_≡_, refl, sym, ap, ap₂, subst, _∙_}
 use mathlib.Core.List.{List}
 use mathlib.Core.Logic.{_↔_}
 use Prim.Native.Nat.{ℕ, _≤_}
-use native.Mathlib.Omega.{arith}
 use lib.ListN.{length}
 use Rattle.stage1_sheet.specs.Limits.{most-sheet-bytes}
 use Rattle.stage1_sheet.specs.Sheet.{Sheet}
@@ -78,9 +77,3 @@ module _ (bytes : List ℕ) (b : Bytes bytes) where
     λ w. let r = spelled-read bytes (w .0) (w .1) in (r .0, length bytes, r .1),
     λ r. (r .0 .sheet, read-accepted m (r .2) .spells),
   )
-
--- Bytes that are refused are no well-formed sheet.
-pub refused-not-well-formed : (bytes : List ℕ) {question place : ℕ} → read-sheet bytes ≡ stop question place → WellFormed bytes → ⊥
-refused-not-well-formed bytes {question} {place} e w =
-    let f = spelled-read bytes (w .0) (w .1) .1 in
-    let z : _≡_ {A = ℕ} 0 1 = cc in omega arith

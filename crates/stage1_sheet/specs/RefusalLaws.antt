@@ -1,9 +1,9 @@
 -- A sheet is refused with one question at one place at most, and not at all where reading leads to its end: reading leads one way
 -- only, and where a question fails it leads no further.
-use mathlib.Core.Path.{_≡_, refl, sym, ap, subst, _∙_}
+use mathlib.Core.Path.{_≡_, refl, sym, subst}
 use mathlib.Core.List.{List}
 use mathlib.Core.Logic.{_⊎_, inl, inr, ⊎-elim}
-use Prim.Native.Nat.{ℕ, _≤_, _<_}
+use Prim.Native.Nat.{ℕ, _≤_}
 use native.Mathlib.Omega.{arith}
 use lib.ListN.{length}
 use Rattle.stage1_sheet.specs.Spelling.{NumberAt}

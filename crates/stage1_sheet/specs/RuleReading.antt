@@ -1,14 +1,14 @@
 -- Reading rules: the rules that are read stand there and keep their ranges and the limits over all rules; and rules that do are
 -- read, each with the place of its action.
-use mathlib.Core.Path.{_≡_, refl, sym, ap, ap₂, subst, _∙_}
-use mathlib.Core.List.{List, [], _∷_, _++_, append-nil, map}
+use mathlib.Core.Path.{_≡_, refl, sym, ap, ap₂, _∙_}
+use mathlib.Core.List.{List, [], _∷_, append-nil, map}
 use Prim.Native.Nat.{ℕ, zero, suc, _-_, _≤_}
 use native.Mathlib.Omega.{arith}
 use lib.ListN.{length, getD}
 use Rattle.stage0_laws.specs.Lists.{All, sum}
 use Rattle.stage1_sheet.specs.Regex.{Regex, empty, regex-nodes, class-count}
 use Rattle.stage1_sheet.specs.Sheet.{Rule}
-use Rattle.stage1_sheet.specs.Spelling.{Bytes, NumbersAt, no-more, one-more, regex-numbers, rule-numbers}
+use Rattle.stage1_sheet.specs.Spelling.{Bytes, NumbersAt, no-more, one-more, rule-numbers}
 use Rattle.stage1_sheet.specs.WellFormed.{RuleInRange}
 use Rattle.stage1_sheet.specs.Field.{got, between, read-many}
 use Rattle.stage1_sheet.specs.Items.{RegexItem, item-classes, regexes}

@@ -1,14 +1,13 @@
 -- A sheet's fields, while reading from the left: a field gives the number that stands there if it is allowed, or the question fails.
-use mathlib.Core.Path.{_≡_, refl, sym, ap, _∙_}
-use mathlib.Core.Bool.{Bool, true, false, true≢false}
+use mathlib.Core.Path.{_≡_, sym, _∙_}
+use mathlib.Core.Bool.{Bool, true, true≢false}
 use mathlib.Core.List.{List}
-use Prim.Native.Nat.{ℕ, suc, _+_, _-_, _≤_, _<_}
+use Prim.Native.Nat.{ℕ, suc, _+_, _-_}
 use native.Mathlib.Omega.{arith}
 use lib.Dec.{ltb, ltb→lt, lt→ltb}
-use lib.ListN.{length}
 use Rattle.stage0_laws.specs.Truth.{holds-true, true-holds}
 use Rattle.stage0_number.specs.Number.{decode}
-use Rattle.stage0_number.specs.declared.Number.the-variants.{Read, Refused}
+use Rattle.stage0_number.specs.declared.Number.the-variants.{Refused}
 use Rattle.stage1_sheet.specs.Limits.{most-regex-tag, most-expression-tag}
 use Rattle.stage1_sheet.specs.Spelling.{Bytes, NumberAt}
 use Rattle.stage1_sheet.specs.Field.{got, between, field-of, read-field}

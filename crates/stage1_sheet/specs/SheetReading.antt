@@ -2,7 +2,7 @@
 -- ReadingLaws.
 use mathlib.Core.Path.{_≡_, refl, sym, ap, subst, _∙_}
 use mathlib.Core.Bool.{Bool, true, false, cond}
-use mathlib.Core.List.{List, [], _∷_, _++_, append-nil, flatMap, map}
+use mathlib.Core.List.{List, [], _∷_, append-nil, flatMap, map}
 use mathlib.Core.Logic.{⊎-elim}
 use Prim.Native.Nat.{ℕ, suc, _≤_, _<_}
 use native.Mathlib.Omega.{arith}
@@ -26,7 +26,7 @@ use Rattle.stage1_sheet.specs.SheetQuestions.{nothing-due, rules-due, sh
 use Rattle.stage1_sheet.specs.SheetFields.{range-test, number-outcome, sheet-field-got}
 use Rattle.stage1_sheet.specs.NodePlaces.{numbers-before}
 use Rattle.stage1_sheet.specs.NodePlaceLaws.{before}
-use Rattle.stage1_sheet.specs.PlaceLaws.{EachAt, each-place, numbers-of-rule, rule-numbers-are, numbers-of-taken}
+use Rattle.stage1_sheet.specs.PlaceLaws.{each-place, numbers-of-rule, rule-numbers-are, numbers-of-taken}
 use Rattle.stage1_sheet.specs.ExpressionItems.{expression-items-of, expression-item-numbers, MakesExpressions}
 use Rattle.stage1_sheet.specs.ExpressionItems.{expression-items-numbers, expression-items-length, expressions-items}
 use Rattle.stage1_sheet.specs.ExpressionItems.{makes-expression, one-expression}

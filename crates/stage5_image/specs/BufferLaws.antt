@@ -1,18 +1,15 @@
 -- What the lent buffers hold after compiling, said of their parts: "A refused compile leaves the image buffer untouched; success
 -- leaves the bytes past the image. The first 65,536 work bytes end as zero, except after 1, when none changes; the rest never
 -- change."
-use mathlib.Core.Path.{_≡_, refl, sym, ap, _∙_}
-use mathlib.Core.Bool.{Bool, cond}
-use mathlib.Core.List.{List, [], _++_}
+use mathlib.Core.Path.{_≡_, refl}
+use mathlib.Core.List.{List, []}
 use Prim.Native.Nat.{ℕ, _≤_, _<_}
-use native.Mathlib.Omega.{arith}
-use lib.ListN.{length, take, drop, replicate, length-replicate, drop-of-length-le}
+use lib.ListN.{length, take, drop, replicate, length-replicate}
 use lib.Seq.{take-at, drop-at}
-use lib.Dec.{ltb}
 use borrow.Author.Tests.{lt-ltb, le-ltb}
 use Rattle.stage0_laws.specs.Order.{lt-or-le}
 use mathlib.Core.Logic.{⊎-elim}
-use Rattle.stage5_image.specs.Compile.{work-bytes, Compiled, refused, too-long, compiled, CompileAnswer, compile-answer, image-after, written-part, work-after}
+use Rattle.stage5_image.specs.Compile.{work-bytes, refused, too-long, compiled, compile-answer, image-after, written-part, work-after}
 
 -- Refused: nothing is written.
 pub refused-untouched : (question place needed : ℕ) (buffer : List ℕ)

@@ -1,13 +1,12 @@
 -- Compiling a sheet: how it ends, what is returned, what the lent image buffer and work area hold at the end; and the function that asks
 -- questions 1 to 11 in order, as the code does. What it must answer is said in Compiles.
-use mathlib.Core.Bool.{Bool, true, false, cond}
+use mathlib.Core.Bool.{cond}
 use mathlib.Core.List.{List, [], _∷_, _++_}
 use mathlib.Core.Option.{Option, none, some}
 use Prim.Native.Nat.{ℕ}
 use lib.ListN.{length, drop, getD, replicate}
 use lib.Dec.{ltb, leb}
 use Rattle.stage1_sheet.specs.Limits.{most-sheet-bytes}
-use Rattle.stage1_sheet.specs.Sheet.{Rule, Sheet}
 use Rattle.stage1_sheet.specs.Field.{Reading, stop, got}
 use Rattle.stage1_sheet.specs.Reading.{Contents, read-sheet}
 use Rattle.stage2_types.specs.Questions.{Fault, type-fault}

@@ -1,15 +1,14 @@
 -- Which numbers compiling answers with: 1 to 10 with a refusal, 11 with too little room, 0 with success. So the number tells how
 -- compiling ended.
-use mathlib.Core.List.{List, []}
+use mathlib.Core.List.{List}
 use Prim.Native.Nat.{ℕ, _≤_}
 use native.Mathlib.Omega.{arith}
-use lib.ListN.{length}
 use Rattle.stage1_sheet.specs.Spelling.{Bytes}
 use Rattle.stage1_sheet.specs.RefusalLaws.{refused-number}
 use Rattle.stage2_types.specs.Types.{LanguageType}
 use Rattle.stage2_types.specs.Nodes.{Node}
 use Rattle.stage2_types.specs.TypeFaults.{Fails, not-guarded, not-separable, not-apart}
-use Rattle.stage5_image.specs.Compile.{Compiled, refused, too-long, compiled, compile, CompileAnswer, compile-answer}
+use Rattle.stage5_image.specs.Compile.{Compiled, refused, too-long, compiled, compile}
 use Rattle.stage5_image.specs.Compiles.{Compiles, short-work, long-sheet, unreadable, empty-rule, untyped, no-room, success}
 use Rattle.stage5_image.specs.CompileQuestions.{compile-answers}
 

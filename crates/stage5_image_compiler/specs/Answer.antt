@@ -1,7 +1,7 @@
 -- What the code's answer stands for: document 01's number, place and length for each of its cases, and the case for each way in
 -- which compiling ends. When it ends so is not said here.
 use mathlib.Core.Path.{_≡_, refl}
-use mathlib.Core.List.{List, [], _∷_}
+use mathlib.Core.List.{List}
 use Prim.Native.Nat.{ℕ}
 use native.Mathlib.Omega.{arith}
 use lib.ListN.{length}

@@ -17,7 +17,7 @@ use Rattle.stage1_sheet.specs.Field.{got}
 use Rattle.stage5_image.specs.Image.{image-of, image-bytes}
 use Rattle.stage5_image.specs.ImageReading.{read-image}
 use Rattle.stage5_image.specs.Unfolding.{StartUnfolds, DenotedRules}
-use Rattle.stage5_image.specs.Compile.{work-bytes, Compiled, refused, too-long, compiled, CompileAnswer, compile-answer, written-part, image-after, work-after}
+use Rattle.stage5_image.specs.Compile.{work-bytes, Compiled, refused, too-long, compiled, compile-answer, written-part, image-after, work-after}
 use Rattle.stage5_image.specs.Compiles.{Acceptable, Compiles}
 use Rattle.stage6_machine.specs.Answer.{Answer}
 use Rattle.stage6_machine.specs.Run.{most-text-bytes, run, long-enough, stack-after}
