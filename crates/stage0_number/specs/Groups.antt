@@ -33,7 +33,7 @@ pub refused-read : {A : Type 0} {v n : ℕ} → Refused ≡ Read v n → A
 refused-read {A} {v} {n} e = let z : _≡_ {A = ℕ} 0 1 = cc in absurd (omega arith)
 
 -- The three tests, passed.
-pub record Accepted (groups top n v w : ℕ) : Type 0 where
+pub record JudgedRead (groups top n v w : ℕ) : Type 0 where
   pub is-value : v ≡ n
   pub is-count : w ≡ groups
   pub ten : groups ≤ 10
@@ -41,14 +41,14 @@ pub record Accepted (groups top n v w : ℕ) : Type 0 where
   pub below : n < 2 ^ 64
 
 accepted-cases : (p q r : Bool) (groups top n : ℕ) {v w : ℕ} → leb groups 10 ≡ p → fewest groups top ≡ q → ltb n (2 ^ 64) ≡ r
-    → cond p (cond q (cond r (Read n groups) Refused) Refused) Refused ≡ Read v w → Accepted groups top n v w
+    → cond p (cond q (cond r (Read n groups) Refused) Refused) Refused ≡ Read v w → JudgedRead groups top n v w
 accepted-cases true true true g t n {v} {w} hp hq hr e =
     record { is-value = cc; is-count = cc; ten = leb-true g 10 hp; short = hq; below = ltb-true n _ hr }
 accepted-cases true true false g t n hp hq hr e = refused-read e
 accepted-cases true false r g t n hp hq hr e = refused-read e
 accepted-cases false q r g t n hp hq hr e = refused-read e
 
-pub accepted : (groups top n : ℕ) {v w : ℕ} → judged groups top n ≡ Read v w → Accepted groups top n v w
+pub accepted : (groups top n : ℕ) {v w : ℕ} → judged groups top n ≡ Read v w → JudgedRead groups top n v w
 unfolding judged
 accepted g t n e = accepted-cases (leb g 10) (fewest g t) (ltb n (2 ^ 64)) g t n refl refl refl e
 
@@ -83,7 +83,7 @@ fewest-is g (suc t) h = rw (lt-ltb 0 (suc t) (omega arith)) (or-true (eqb g 1))
 pub record Found (s : List ℕ) (v w : ℕ) : Type 0 where
   pub gs : Groups
   pub at-front : front s ≡ whole gs
-  pub passed : Accepted (count gs) (highest gs) (value gs) v w
+  pub passed : JudgedRead (count gs) (highest gs) (value gs) v w
 
 found-cases : (f : Front) (s : List ℕ) {v w : ℕ} → front s ≡ f → number-from f ≡ Read v w → Found s v w
 unfolding number-from

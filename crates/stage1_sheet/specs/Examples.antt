@@ -37,6 +37,11 @@ unions (suc n) = 3 ∷ 1 ∷ 7 ∷ 9 ∷ unions n
 abbrev classes : ℕ → List ℕ
 classes n = 1 ∷ 1 ∷ 1 ∷ 0 ∷ (unions n ++ 0 ∷ [])
 
+-- n alternatives of a class and what comes next, and then a class's tag alone.
+abbrev class-parts : ℕ → List ℕ
+class-parts zero = 1 ∷ []
+class-parts (suc n) = 3 ∷ 1 ∷ 7 ∷ 9 ∷ class-parts n
+
 -- So many rules, each of which skips the empty word.
 abbrev empty-rules : ℕ → List ℕ
 empty-rules zero = []
@@ -89,8 +94,12 @@ examples =
     ∷ row (fixed-points 63) 0 84
     ∷ row (fixed-points 64) 5 84
     -- 3 and 4 come before 5
+    ∷ row (1 ∷ 1 ∷ 1 ∷ 0 ∷ replicate 256 4) 3 260
     ∷ row (head-of-D ++ replicate 64 5) 3 84
     ∷ row (head-of-D ++ (replicate 64 5 ++ 7 ∷ [])) 4 84
+    -- 5 stands at the tag, before the numbers after it
+    ∷ row (1 ∷ 1 ∷ 1 ∷ 0 ∷ class-parts 64) 5 260
+    ∷ row (head-of-D ++ (replicate 64 5 ++ 2 ∷ [])) 5 84
     -- a byte left over
     ∷ row (bytes-of-D ++ 0 ∷ []) 6 34
     ∷ []

@@ -7,21 +7,18 @@ use mathlib.Core.Logic.{_↔_}
 use Prim.Native.Nat.{ℕ, zero, suc, _+_, _^_, _≤_, _<_}
 use native.Mathlib.Omega.{arith}
 use lib.Dec.{T, leb, ltb, leb→le, le→leb, ltb→lt, lit<}
-use lib.ListN.{length, getD, take, drop, length-append, take-append-drop}
+use lib.ListN.{length, take, drop, length-append, take-append-drop}
 use lib.Seq.{drop-length, drop-append-seam, take-append-seam, drop-drop}
 use Rattle.stage0_laws.specs.Truth.{holds-true, true-holds, and-both, and-first, and-second, and-true-first, and-true-second}
 use Rattle.stage0_number.specs.Number.{encode, decode}
-use Rattle.stage0_number.specs.Laws.{decode-within, decode-there, decode-bytes, decode-width, encode-there}
+use Rattle.stage0_number.specs.Laws.{decode-within, decode-there, decode-bytes, decode-width}
 use Rattle.stage0_number.specs.declared.Number.{Number}
 use Rattle.stage0_number.specs.declared.Number.the-variants.{Read, Refused}
 use Rattle.stage1_sheet.specs.Spelling.{spell}
+pub use Rattle.stage1_sheet.specs.Spelling.{Bytes}
 use Rattle.stage1_sheet.specs.Field.{Reading, stop, got, and-then, between, field-of, read-field, read-many}
 
 -- ---- where numbers stand
-
--- Every byte is below 256.
-abbrev pub Bytes : List ℕ → Type 0
-Bytes bytes = (i : ℕ) → getD bytes i 0 < 256
 
 -- The same as a test, for bytes that are written out.
 abbrev pub all-bytes : List ℕ → Bool
@@ -47,10 +44,6 @@ pub spell-append : (ms ns : List ℕ) → spell (ms ++ ns) ≡ spell ms ++ spell
 unfolding spell
 spell-append [] ns = refl
 spell-append (m ∷ ms) ns = ap (λ (l : List ℕ). encode m ++ l) (spell-append ms ns) ∙ sym (append-assoc (encode m) (spell ms) (spell ns))
-
-pub spell-there : (n : ℕ) (ns : List ℕ) → 1 ≤ length (spell (n ∷ ns))
-unfolding spell
-spell-there n ns = omega (arith, length-append (encode n) (spell ns), encode-there n)
 
 pub after-append : (at : ℕ) (ms ns : List ℕ) → after at (ms ++ ns) ≡ after (after at ms) ns
 after-append at ms ns = omega (arith, ap length (spell-append ms ns), length-append (spell ms) (spell ns))
@@ -199,24 +192,18 @@ module _ (unreadable forbidden : ℕ) (allowed : ℕ → Bool) (bytes : List ℕ
 -- ---- several in a row
 
 -- Each member of a list is so from where the one before it ended, in the state that those before it leave.
-abbrev pub Row : {S A : Type 0} → (S → ℕ → A → ℕ → Type 0) → (S → A → S) → S → ℕ → List A → ℕ → Type 0
-Row Q update s at [] end = at ≡ end
-Row Q update s at (a ∷ l) end = (mid : ℕ) × Q s at a mid × Row Q update (update s a) mid l end
+abbrev pub OneAfterOther : {S A : Type 0} → (S → ℕ → A → ℕ → Type 0) → (S → A → S) → S → ℕ → List A → ℕ → Type 0
+OneAfterOther Q update s at [] end = at ≡ end
+OneAfterOther Q update s at (a ∷ l) end = (mid : ℕ) × Q s at a mid × OneAfterOther Q update (update s a) mid l end
 
 -- What one reading gives from an allowed place, with an allowed place after it, several in a row give too.
 module _ {S A : Type 0} (R : ℕ → ℕ → Type 0) (I : ℕ → Type 0) (Q : S → ℕ → A → ℕ → Type 0) (one : S → ℕ → Reading A) (update : S → A → S)
     (step : (s : S) (at : ℕ) → I at → Outcome R (λ a end. Q s at a end × I end) (one s at)) where
   pub many-outcome : (n : ℕ) (s : S) (at : ℕ) → I at
-      → Outcome R (λ l end. (length l ≡ n) × Row Q update s at l end × I end) (read-many one update s n at)
+      → Outcome R (λ l end. (length l ≡ n) × OneAfterOther Q update s at l end × I end) (read-many one update s n at)
   unfolding read-many
   many-outcome zero s at i = accepted [] at (refl, refl, i)
   many-outcome (suc n) s at i =
       then-outcome (step s at i)
       (λ a mid q. then-outcome (many-outcome n (update s a) mid (q .1))
       (λ l end r. accepted (a ∷ l) end (ap suc (r .0), (mid, q .0, r .1), r .2)))
-
-pub many-got : {S A : Type 0} (one : S → ℕ → Reading A) (update : S → A → S) (l : List A) (s : S) (at end : ℕ)
-    → Row (λ t from a mid. one t from ≡ got a mid) update s at l end → read-many one update s (length l) at ≡ got l end
-unfolding read-many
-many-got one update [] s at end h = ap (got []) h
-many-got one update (a ∷ l) s at end h = rw (h .1, many-got one update l (update s a) (h .0) end (h .2))

@@ -7,6 +7,7 @@ pub mod Sheet
 pub mod Spelling
 pub mod NodePlaces
 pub mod WellFormed
+pub mod SheetQuestions
 pub mod Field
 pub mod Items
 pub mod Reading
@@ -16,6 +17,7 @@ pub mod Computing
 pub mod ListLaws
 pub mod FieldLaws
 pub mod NumberLaws
+pub mod RefusalLaws
 pub mod RegexItems
 pub mod ExpressionItems
 pub mod NodePlaceLaws

@@ -9,8 +9,7 @@ use lib.Seq.{length-take-le}
 use Rattle.stage0_number.specs.Number.{encode, decode}
 use Rattle.stage0_number.specs.Laws.{encode-there, decode-within, decode-there, decode-bytes}
 use Rattle.stage0_number.specs.declared.Number.the-variants.{Read}
-use Rattle.stage1_sheet.specs.Spelling.{NumberBytes, NumberAt, NumbersAt, no-more, one-more}
-use Rattle.stage1_sheet.specs.FieldLaws.{Bytes}
+use Rattle.stage1_sheet.specs.Spelling.{Bytes, NumberAt, NumbersAt, no-more, one-more}
 
 -- ---- one number
 

@@ -1,5 +1,5 @@
--- Reading a sheet from bytes: questions 3 to 6, from the left, for each number in the page's order, with their places.
--- Question 2 is put by compiling, before this.
+-- Reading a sheet from bytes, as the code does it: from the left, one number after the other, with the items of its trees and their
+-- places. What questions 3 to 6 ask is said in SheetQuestions, and that this is what they ask in ReadingLaws.
 use mathlib.Core.Bool.{Bool, cond}
 use mathlib.Core.List.{List, [], _∷_, _++_, map}
 use Prim.Native.Nat.{ℕ, zero, suc, _+_, _-_}
@@ -27,8 +27,8 @@ class-after bytes classes at next =
     (and-then (sheet-field (between 0 most-byte) bytes next)
     (λ low after. and-then (sheet-field (between low most-byte) bytes after) (λ high end. got (class-item low high) end)))
 
--- The item of a tag, with what follows the tag. Every tag has its own test; one that has none is refused as not allowed, which it
--- was before.
+-- The item of a tag, with what follows the tag. Every tag has its own test; past the last one, which its field does not let through,
+-- a tag is not allowed.
 unfoldable pub regex-item : List ℕ → ℕ → ℕ → ℕ → ℕ → Reading RegexItem
 regex-item bytes classes at tag next =
     cond (eqb tag 0) (got empty-item next)

@@ -1,27 +1,27 @@
 -- The laws of reading a sheet: a sheet that bytes spell is read from them, whatever is read is spelled, and a refusal has one of
 -- reading's four numbers and a place within the bytes. So bytes are well formed exactly where reading accepts, and they spell
 -- one sheet only.
-use mathlib.Core.Path.{_≡_, sym, ap, subst, _∙_}
+use mathlib.Core.Path.{_≡_, refl, sym, ap, ap₂, subst, _∙_}
 use mathlib.Core.List.{List}
 use mathlib.Core.Logic.{_↔_}
 use Prim.Native.Nat.{ℕ, _≤_}
-use native.Mathlib.Omega.{arith}
 use lib.ListN.{length}
 use Rattle.stage1_sheet.specs.Limits.{most-sheet-bytes}
 use Rattle.stage1_sheet.specs.Sheet.{Sheet}
-use Rattle.stage1_sheet.specs.Spelling.{NumbersAt, sheet-numbers}
+use Rattle.stage1_sheet.specs.Spelling.{Bytes, NumbersAt, sheet-numbers}
 use Rattle.stage1_sheet.specs.WellFormed.{Spells, WellFormed}
 use Rattle.stage1_sheet.specs.Field.{Reading, stop, got}
 use Rattle.stage1_sheet.specs.Reading.{Contents, read-sheet}
-use Rattle.stage1_sheet.specs.FieldLaws.{Bytes, outcome-got, outcome-stop}
-use Rattle.stage1_sheet.specs.SheetFields.{SheetRefusal}
+use Rattle.stage1_sheet.specs.FieldLaws.{outcome-got, outcome-stop}
+use Rattle.stage1_sheet.specs.SheetQuestions.{nothing-due, sheet-due, all-left, Reaches, SheetRefused}
+use Rattle.stage1_sheet.specs.RefusalLaws.{refused-once, ended-not-refused}
 use Rattle.stage1_sheet.specs.Places.{ContentsOf}
 use Rattle.stage1_sheet.specs.SheetReading.{sheet-outcome, sheet-got}
 
 -- ---- what is asked
 
 -- Of a sheet that was read: its end is the bytes' end, it is the sheet that they spell, and its places are where its numbers stand.
-pub record Accepted (bytes : List ℕ) (c : Contents) (end : ℕ) : Type 0 where
+pub record SheetAccepted (bytes : List ℕ) (c : Contents) (end : ℕ) : Type 0 where
   pub ends : end ≡ length bytes
   pub spells : Spells bytes (c .sheet)
   pub places : ContentsOf bytes (c .sheet) c
@@ -45,7 +45,7 @@ spelled-once bytes s t h k =
 
 module _ (bytes : List ℕ) (b : Bytes bytes) where
   -- A reading that accepts gives the sheet that the bytes spell, with the places of its numbers.
-  pub read-accepted : length bytes ≤ most-sheet-bytes → {c : Contents} {end : ℕ} → read-sheet bytes ≡ got c end → Accepted bytes c end
+  pub read-accepted : length bytes ≤ most-sheet-bytes → {c : Contents} {end : ℕ} → read-sheet bytes ≡ got c end → SheetAccepted bytes c end
   read-accepted m {c} {end} e =
       let r = outcome-got (sheet-outcome bytes b) e in
       let whole = subst (NumbersAt bytes 0 (sheet-numbers (c .sheet))) (r .ends) (r .spelled) in
@@ -53,9 +53,23 @@ module _ (bytes : List ℕ) (b : Bytes bytes) where
       let again = spelled-read bytes (c .sheet) s in
       record { ends = r .ends; spells = s; places = subst (ContentsOf bytes (c .sheet)) (same-got (again .1) e) (again .2) }
 
-  -- A refusal is 3, 4, 5 or 6, at one of the bytes or at their end.
-  pub read-refused : {question place : ℕ} → read-sheet bytes ≡ stop question place → SheetRefusal bytes question place
+  -- What reading refuses is refused, with this question at this place.
+  pub read-refused : {question place : ℕ} → read-sheet bytes ≡ stop question place → SheetRefused bytes question place
   read-refused e = outcome-stop (sheet-outcome bytes b) e
+
+  -- And nothing that reading accepts.
+  pub accepted-not-refused : {c : Contents} {end question place : ℕ} → read-sheet bytes ≡ got c end → SheetRefused bytes question place → ⊥
+  accepted-not-refused {c} e r =
+      let s = outcome-got (sheet-outcome bytes b) e in
+      ended-not-refused (subst (λ (p : ℕ). Reaches bytes nothing-due (s .left) p sheet-due all-left 0) (s .ends) (s .reached)) r
+
+  -- So reading refuses whatever is refused.
+  pub refused-read : {question place : ℕ} → SheetRefused bytes question place → read-sheet bytes ≡ stop question place
+  refused-read {question} {place} r = go (read-sheet bytes) refl
+    where
+      go : (m : Reading Contents) → read-sheet bytes ≡ m → m ≡ stop question place
+      go (stop q p) e = let same = refused-once (read-refused e) r in ap₂ (λ (i j : ℕ). stop i j) (same .0) (same .1)
+      go (got c end) e = absurd (accepted-not-refused e r)
 
   -- Bytes are a well-formed sheet exactly where reading accepts.
   pub well-formed-iff : length bytes ≤ most-sheet-bytes → WellFormed bytes ↔ ((c : Contents) × (end : ℕ) × (read-sheet bytes ≡ got c end))
@@ -63,9 +77,3 @@ module _ (bytes : List ℕ) (b : Bytes bytes) where
     λ w. let r = spelled-read bytes (w .0) (w .1) in (r .0, length bytes, r .1),
     λ r. (r .0 .sheet, read-accepted m (r .2) .spells),
   )
-
--- Bytes that are refused are no well-formed sheet.
-pub refused-not-well-formed : (bytes : List ℕ) {question place : ℕ} → read-sheet bytes ≡ stop question place → WellFormed bytes → ⊥
-refused-not-well-formed bytes {question} {place} e w =
-    let f = spelled-read bytes (w .0) (w .1) .1 in
-    let z : _≡_ {A = ℕ} 0 1 = cc in omega arith

@@ -1,26 +1,26 @@
 -- Reading rules: the rules that are read stand there and keep their ranges and the limits over all rules; and rules that do are
 -- read, each with the place of its action.
-use mathlib.Core.Path.{_≡_, refl, sym, ap, ap₂, subst, _∙_}
-use mathlib.Core.List.{List, [], _∷_, _++_, append-nil, map}
-use Prim.Native.Nat.{ℕ, suc, _≤_}
+use mathlib.Core.Path.{_≡_, refl, sym, ap, ap₂, _∙_}
+use mathlib.Core.List.{List, [], _∷_, append-nil, map}
+use Prim.Native.Nat.{ℕ, zero, suc, _-_, _≤_}
 use native.Mathlib.Omega.{arith}
 use lib.ListN.{length, getD}
 use Rattle.stage0_laws.specs.Lists.{All, sum}
 use Rattle.stage1_sheet.specs.Regex.{Regex, empty, regex-nodes, class-count}
 use Rattle.stage1_sheet.specs.Sheet.{Rule}
-use Rattle.stage1_sheet.specs.Spelling.{NumbersAt, no-more, one-more, regex-numbers, rule-numbers}
+use Rattle.stage1_sheet.specs.Spelling.{Bytes, NumbersAt, no-more, one-more, rule-numbers}
 use Rattle.stage1_sheet.specs.WellFormed.{RuleInRange}
 use Rattle.stage1_sheet.specs.Field.{got, between, read-many}
 use Rattle.stage1_sheet.specs.Items.{RegexItem, item-classes, regexes}
 use Rattle.stage1_sheet.specs.Reading.{ReadRule, Allowance, less-rule, read-rule}
-use Rattle.stage1_sheet.specs.FieldLaws.{Bytes, Outcome, accepted, then-outcome, outcome-imply, between-true, true-between, Row}
-use Rattle.stage1_sheet.specs.FieldLaws.{many-outcome}
-use Rattle.stage1_sheet.specs.NumberLaws.{none-stand, first-stands, numbers-inside, numbers-append, numbers-split}
-use Rattle.stage1_sheet.specs.SheetFields.{SheetRefusal, FieldAt, sheet-field-outcome, sheet-field-got}
+use Rattle.stage1_sheet.specs.FieldLaws.{Outcome, accepted, then-outcome, between-true}
+use Rattle.stage1_sheet.specs.NumberLaws.{none-stand, first-stands, numbers-append, numbers-split}
+use Rattle.stage1_sheet.specs.SheetQuestions.{Due, number-due, regex-due, rules-due, LimitsLeft, Reaches, RefusedFrom}
+use Rattle.stage1_sheet.specs.SheetFields.{range-test, FieldAt, number-outcome, sheet-field-got}
 use Rattle.stage1_sheet.specs.RegexItems.{regex-items-of, MakesRegexes, items-numbers, items-length, items-classes, regexes-items}
 use Rattle.stage1_sheet.specs.RegexItems.{makes-regex, one-regex}
 use Rattle.stage1_sheet.specs.PlaceLaws.{EachAt, numbers-of-rule}
-use Rattle.stage1_sheet.specs.RegexReading.{RegexesRead, regexes-outcome, regexes-got}
+use Rattle.stage1_sheet.specs.RegexReading.{RegexesRead, regexes-due, ItemsReached, regexes-outcome, regexes-got}
 
 -- ---- definitions
 
@@ -50,16 +50,16 @@ pub record RulesRead (bytes : List ℕ) (tokens : ℕ) (allowed : Allowance) (at
 
 -- ---- whatever is read stands there
 
-module _ (bytes : List ℕ) (b : Bytes bytes) (tokens : ℕ) where
-  rule-made : (allowed : Allowance) (at action next end : ℕ) (items : List RegexItem) → FieldAt (between 0 tokens) bytes at action next
+module _ (bytes : List ℕ) (tokens : ℕ) where
+  rule-made : (more : ℕ → Due) (allowed : Allowance) (at action next end : ℕ) (items : List RegexItem) → FieldAt (number-due 0 (suc tokens) more) bytes at action next
       → RegexesRead bytes (allowed .nodes) (allowed .classes) 1 next items end
       → RuleRead bytes tokens allowed at (record { place = at; action = action; items = items }) end
-  rule-made allowed at action next end items f r =
+  rule-made more allowed at action next end items f r =
       let one = one-regex items (r .makes) in
       let regex : Regex = one .0 in
       let same : getD (regexes items) 0 empty ≡ regex = ap (λ l. getD l 0 empty) (one .1 .made) in
       let items-are : regex-items-of regex ≡ items = one .1 .same-items in record {
-        in-range = record { action-allowed = true-between 0 tokens action (f .holds) .1; bytes-allowed = rw same (one .1 .in-range) };
+        in-range = record { action-allowed = omega (arith, f .holds .1); bytes-allowed = rw same (one .1 .in-range) };
         nodes-are = rw same (sym (ap length items-are) ∙ items-length regex);
         classes-are = rw same (sym (ap (sum item-classes) items-are) ∙ items-classes regex);
         nodes-kept = r .nodes-kept;
@@ -67,37 +67,51 @@ module _ (bytes : List ℕ) (b : Bytes bytes) (tokens : ℕ) where
         stands = rw (same, ← items-numbers regex, items-are) (one-more (f .stands) (r .stands));
       }
 
-  rule-outcome : (allowed : Allowance) (at : ℕ) → at ≤ length bytes
-      → Outcome (SheetRefusal bytes) (λ r end. RuleRead bytes tokens allowed at r end × (end ≤ length bytes))
+module _ (bytes : List ℕ) (from : Due) (from-left : LimitsLeft) (start : ℕ) (b : Bytes bytes) (tokens : ℕ) where
+  rule-outcome : (more : Due) (left : LimitsLeft) (allowed : Allowance) (at : ℕ) → left .regex-nodes ≡ allowed .nodes
+      → left .classes ≡ allowed .classes → Reaches bytes (number-due 0 (suc tokens) (λ action. regex-due more)) left at from from-left start
+      → Outcome (RefusedFrom bytes from from-left start)
+      (λ r end. RuleRead bytes tokens allowed at r end
+      × ItemsReached bytes from from-left start more (allowed .nodes - length (r .items)) (allowed .classes - sum item-classes (r .items))
+      (left .expression-nodes) end)
       (read-rule bytes tokens allowed at)
-  unfolding read-rule
-  rule-outcome allowed at h =
-      then-outcome (sheet-field-outcome (between 0 tokens) bytes at b h)
-      (λ action next f. then-outcome (regexes-outcome bytes b (allowed .nodes) (allowed .classes) 1 next (f .stands .inside))
-      (λ items end r. accepted (record { place = at; action = action; items = items }) end
-      (rule-made allowed at action next end items f r, numbers-inside (f .stands .inside) (r .stands))))
+  unfolding read-rule regexes-due
+  rule-outcome more left allowed at n c r =
+      then-outcome (number-outcome bytes from from-left start b (between 0 tokens) 0 (suc tokens) _ left at (range-test 0 tokens _) r)
+      (λ action next f.
+      then-outcome (regexes-outcome bytes from from-left start b (allowed .nodes) (allowed .classes) 1 next more left n c (f .1))
+      (λ items end q. accepted (record { place = at; action = action; items = items }) end
+      (rule-made bytes tokens _ allowed at action next end items (f .0) (q .0), q .1)))
 
-  rules-made : (rs : List ReadRule) (allowed : Allowance) (at end : ℕ) → Row (RuleRead bytes tokens) less-rule allowed at rs end
-      → RulesRead bytes tokens allowed at (map rule-of rs) end
-  unfolding rule-numbers less-rule
-  rules-made [] allowed at end e = record { in-range = tt; nodes-kept = omega arith; classes-kept = omega arith; stands = subst (NumbersAt bytes at []) e no-more }
-  rules-made (r ∷ rs) allowed at end e =
-      let one = e .1 in
-      let rest = rules-made rs (less-rule allowed r) (e .0) end (e .2) in record {
-        in-range = (one .in-range, rest .in-range);
-        nodes-kept = omega (arith, one .nodes-are, one .nodes-kept, rest .nodes-kept);
-        classes-kept = omega (arith, one .classes-are, one .classes-kept, rest .classes-kept);
-        stands = numbers-append (one .stands) (rest .stands);
-      }
+  -- As many rules as were asked for, and that reading is then at the expression.
+  abbrev RulesGiven : Allowance → ℕ → ℕ → ℕ → List ReadRule → ℕ → Type 0
+  RulesGiven allowed count expressions at rs end =
+      (length rs ≡ count) × RulesRead bytes tokens allowed at (map rule-of rs) end
+      × ((m : LimitsLeft) × Reaches bytes (rules-due tokens 0) m end from from-left start × (m .expression-nodes ≡ expressions))
 
-  -- As many rules as were asked for.
-  pub rules-outcome : (allowed : Allowance) (count at : ℕ) → at ≤ length bytes
-      → Outcome (SheetRefusal bytes) (λ rs end. (length rs ≡ count) × RulesRead bytes tokens allowed at (map rule-of rs) end × (end ≤ length bytes))
+  pub rules-outcome : (allowed : Allowance) (count at : ℕ) (left : LimitsLeft) → left .regex-nodes ≡ allowed .nodes
+      → left .classes ≡ allowed .classes → Reaches bytes (rules-due tokens count) left at from from-left start
+      → Outcome (RefusedFrom bytes from from-left start) (RulesGiven allowed count (left .expression-nodes) at)
       (read-many (read-rule bytes tokens) less-rule allowed count at)
-  rules-outcome allowed count at h =
-      outcome-imply (λ l end o. (o .0, rules-made l allowed at end (o .1), o .2))
-      (many-outcome (SheetRefusal bytes) (λ p. p ≤ length bytes) (RuleRead bytes tokens) (read-rule bytes tokens) less-rule rule-outcome
-      count allowed at h)
+  unfolding read-many rule-numbers less-rule rules-due
+  rules-outcome allowed zero at left n c r =
+      accepted [] at (refl, record { in-range = tt; nodes-kept = omega arith; classes-kept = omega arith; stands = no-more }, (left, r, refl))
+  rules-outcome allowed (suc count) at left n c r =
+      then-outcome (rule-outcome (rules-due tokens count) left allowed at n c r)
+      (λ rule mid o.
+      then-outcome (rules-outcome (less-rule allowed rule) count mid (o .1 .left) (o .1 .nodes-left) (o .1 .classes-left) (o .1 .reached))
+      (λ rs end q.
+      let one = o .0 in
+      let rest = q .1 in accepted (rule ∷ rs) end (
+        ap suc (q .0),
+        record {
+          in-range = (one .in-range, rest .in-range);
+          nodes-kept = omega (arith, one .nodes-are, one .nodes-kept, rest .nodes-kept);
+          classes-kept = omega (arith, one .classes-are, one .classes-kept, rest .classes-kept);
+          stands = numbers-append (one .stands) (rest .stands);
+        },
+        (q .2 .0, q .2 .1, q .2 .2 ∙ o .1 .expressions-left),
+      )))
 
 -- ---- whatever stands there is read
 

@@ -2,29 +2,35 @@
 -- ReadingLaws.
 use mathlib.Core.Path.{_≡_, refl, sym, ap, subst, _∙_}
 use mathlib.Core.Bool.{Bool, true, false, cond}
-use mathlib.Core.List.{List, [], _∷_, _++_, append-nil, flatMap, map}
-use Prim.Native.Nat.{ℕ, _≤_, _<_}
+use mathlib.Core.List.{List, [], _∷_, append-nil, flatMap, map}
+use mathlib.Core.Logic.{⊎-elim}
+use Prim.Native.Nat.{ℕ, suc, _≤_, _<_}
 use native.Mathlib.Omega.{arith}
 use lib.Dec.{eqb, eqb→eq, eqb-refl}
 use lib.ListN.{length, getD, take, length-map}
+use borrow.Author.Tests.{eqb-false}
+use Rattle.stage0_laws.specs.Order.{lt-or-le}
 use Rattle.stage0_laws.specs.Truth.{holds-true, true-holds}
 use Rattle.stage1_sheet.specs.Limits.{most-tokens, most-rules, most-classes, most-regex-nodes, most-expression-nodes}
 use Rattle.stage1_sheet.specs.Expression.{Expression, bottom, size}
 use Rattle.stage1_sheet.specs.Sheet.{Rule, Sheet}
-use Rattle.stage1_sheet.specs.Spelling.{NumbersAt, no-more, one-more, rule-numbers, expression-numbers, sheet-numbers}
+use Rattle.stage1_sheet.specs.Spelling.{Bytes, NumbersAt, no-more, one-more, rule-numbers, expression-numbers, sheet-numbers}
 use Rattle.stage1_sheet.specs.WellFormed.{WithinLimits, Spells}
 use Rattle.stage1_sheet.specs.Field.{stop, got, between}
 use Rattle.stage1_sheet.specs.Items.{ExpressionItem, expressions}
 use Rattle.stage1_sheet.specs.Reading.{ReadRule, ReadNode, Allowance, Contents, contents, at-end, read-sheet}
 use Rattle.stage1_sheet.specs.Places.{head-numbers, numbers-before-rule, numbers-before-node, ContentsOf}
-use Rattle.stage1_sheet.specs.FieldLaws.{Bytes, Outcome, refused, accepted, then-outcome, between-true, true-between}
+use Rattle.stage1_sheet.specs.FieldLaws.{Outcome, refused, accepted, then-outcome, between-true}
 use Rattle.stage1_sheet.specs.NumberLaws.{first-stands, numbers-inside, numbers-append, numbers-split}
-use Rattle.stage1_sheet.specs.SheetFields.{SheetRefusal, sheet-field-outcome, sheet-field-got}
-use Rattle.stage1_sheet.specs.PlaceLaws.{EachAt, each-place, numbers-of-rule, rule-numbers-are, numbers-of-taken}
+use Rattle.stage1_sheet.specs.SheetQuestions.{nothing-due, rules-due, sheet-due, LimitsLeft, all-left, Reaches, arrived, left-over, SheetRefused}
+use Rattle.stage1_sheet.specs.SheetFields.{range-test, number-outcome, sheet-field-got}
+use Rattle.stage1_sheet.specs.NodePlaces.{numbers-before}
+use Rattle.stage1_sheet.specs.NodePlaceLaws.{before}
+use Rattle.stage1_sheet.specs.PlaceLaws.{each-place, numbers-of-rule, rule-numbers-are, numbers-of-taken}
 use Rattle.stage1_sheet.specs.ExpressionItems.{expression-items-of, expression-item-numbers, MakesExpressions}
 use Rattle.stage1_sheet.specs.ExpressionItems.{expression-items-numbers, expression-items-length, expressions-items}
 use Rattle.stage1_sheet.specs.ExpressionItems.{makes-expression, one-expression}
-use Rattle.stage1_sheet.specs.ExpressionReading.{NodesRead, GotNodes, expressions-outcome, nodes-got}
+use Rattle.stage1_sheet.specs.ExpressionReading.{NodesRead, GotNodes, expressions-due, expressions-outcome, nodes-got}
 use Rattle.stage1_sheet.specs.RuleReading.{rule-of, RulesRead, GotRules, rules-outcome, rules-got}
 
 -- The allowance that all rules together have.
@@ -38,6 +44,8 @@ pub record SheetRead (bytes : List ℕ) (c : Contents) (end : ℕ) : Type 0 wher
   pub ends : end ≡ length bytes
   pub spelled : NumbersAt bytes 0 (sheet-numbers (c .sheet)) end
   pub limits : WithinLimits (c .sheet)
+  pub left : LimitsLeft
+  pub reached : Reaches bytes nothing-due left end sheet-due all-left 0
 
 module _ (bytes : List ℕ) (b : Bytes bytes) where
   -- All that was read before the bytes' end was asked for.
@@ -45,9 +53,9 @@ module _ (bytes : List ℕ) (b : Bytes bytes) where
       → NumbersAt bytes 0 (1 ∷ tokens ∷ count ∷ []) at-rules → (1 ≤ tokens) × (tokens ≤ most-tokens) → (1 ≤ count) × (count ≤ most-rules)
       → length rules ≡ count → RulesRead bytes tokens whole-allowance at-rules (map rule-of rules) at-expression
       → NodesRead bytes tokens most-expression-nodes (0 ∷ []) at-expression nodes end → end ≡ length bytes
-      → SheetRead bytes (contents tokens rules nodes) end
+      → ((m : LimitsLeft) × Reaches bytes nothing-due m end sheet-due all-left 0) → SheetRead bytes (contents tokens rules nodes) end
   unfolding contents sheet-numbers
-  sheet-made tokens count at-rules at-expression end rules nodes s t c l r n e =
+  sheet-made tokens count at-rules at-expression end rules nodes s t c l r n e m =
       let items : List ExpressionItem = map (λ m. m .item) nodes in
       let one = one-expression tokens 0 items (n .makes) in
       let same : getD (expressions items) 0 bottom ≡ one .0 = ap (λ g. getD g 0 bottom) (one .1 .made) in
@@ -69,34 +77,44 @@ module _ (bytes : List ℕ) (b : Bytes bytes) where
           closed = rw same (one .1 .closed);
           nodes-most = rw same (omega (arith, ap length (one .1 .same-items), expression-items-length (one .0), n .nodes-kept));
         };
+        left = m .0;
+        reached = m .1;
       }
 
-  end-outcome : (c : Contents) (end : ℕ) → end ≤ length bytes → (end ≡ length bytes → SheetRead bytes c end)
-      → Outcome (SheetRefusal bytes) (SheetRead bytes) (at-end bytes c end)
+  end-outcome : (c : Contents) (end : ℕ) → end ≤ length bytes → ((m : LimitsLeft) × Reaches bytes nothing-due m end sheet-due all-left 0)
+      → (end ≡ length bytes → SheetRead bytes c end)
+      → Outcome (SheetRefused bytes) (SheetRead bytes) (at-end bytes c end)
   unfolding at-end
-  end-outcome c end h k = go (eqb end (length bytes)) refl
+  end-outcome c end h m k = go (eqb end (length bytes)) refl
     where
-      go : (t : Bool) → eqb end (length bytes) ≡ t → Outcome (SheetRefusal bytes) (SheetRead bytes) (cond t (got c end) (stop 6 end))
+      go : (t : Bool) → eqb end (length bytes) ≡ t → Outcome (SheetRefused bytes) (SheetRead bytes) (cond t (got c end) (stop 6 end))
       go true e = accepted c end (k (eqb→eq end (length bytes) (true-holds (eqb end (length bytes)) e)))
-      go false e = refused 6 end (omega arith)
+      go false e =
+          let other = eqb-false end (length bytes) e in
+          refused 6 end record { due = nothing-due; left = m .0; reached = m .1; fails = left-over refl (short other) }
+        where
+          short : (end ≡ length bytes → ⊥) → end < length bytes
+          short n = ⊎-elim (λ l. l) (λ g. absurd (n (omega arith))) (lt-or-le end (length bytes))
 
-  pub sheet-outcome : Outcome (SheetRefusal bytes) (SheetRead bytes) (read-sheet bytes)
-  unfolding read-sheet
+  pub sheet-outcome : Outcome (SheetRefused bytes) (SheetRead bytes) (read-sheet bytes)
+  unfolding read-sheet sheet-due rules-due expressions-due
   sheet-outcome =
-      then-outcome (sheet-field-outcome (between 1 1) bytes 0 b (omega arith))
-      (λ version at-tokens v. then-outcome (sheet-field-outcome (between 1 most-tokens) bytes at-tokens b (v .stands .inside))
-      (λ tokens at-count t. then-outcome (sheet-field-outcome (between 1 most-rules) bytes at-count b (t .stands .inside))
-      (λ count at-rules c. then-outcome (rules-outcome bytes b tokens whole-allowance count at-rules (c .stands .inside))
+      let field = number-outcome bytes sheet-due all-left 0 b in
+      then-outcome (field (between 1 1) 1 2 _ all-left 0 (range-test 1 1 _) arrived)
+      (λ version at-tokens v. then-outcome (field (between 1 most-tokens) 1 (suc most-tokens) _ all-left at-tokens (range-test 1 most-tokens _) (v .1))
+      (λ tokens at-count t. then-outcome (field (between 1 most-rules) 1 (suc most-rules) _ all-left at-count (range-test 1 most-rules _) (t .1))
+      (λ count at-rules c. then-outcome (rules-outcome bytes sheet-due all-left 0 b tokens whole-allowance count at-rules all-left refl refl (c .1))
       (λ rules at-expression r.
-      then-outcome (expressions-outcome bytes b tokens most-expression-nodes (0 ∷ []) at-expression (r .2))
+      then-outcome (expressions-outcome bytes sheet-due all-left 0 b tokens most-expression-nodes (0 ∷ []) at-expression nothing-due (r .2 .0)
+      (r .2 .2) (r .2 .1))
       (λ nodes end n.
-      let one = true-between 1 1 version (v .holds) in
-      let is-one : version ≡ 1 = omega arith in
+      let is-one : version ≡ 1 = omega (arith, v .0 .holds .0, v .0 .holds .1) in
       let head : NumbersAt bytes 0 (1 ∷ tokens ∷ count ∷ []) at-rules =
-      one-more (rw (← is-one) (v .stands)) (one-more (t .stands) (one-more (c .stands) no-more)) in
-      end-outcome (contents tokens rules nodes) end (numbers-inside (r .2) (n .stands))
-      (λ e. sheet-made tokens count at-rules at-expression end rules nodes head
-      (true-between 1 most-tokens tokens (t .holds)) (true-between 1 most-rules count (c .holds)) (r .0) (r .1) n e))))))
+      one-more (rw (← is-one) (v .0 .stands)) (one-more (t .0 .stands) (one-more (c .0 .stands) no-more)) in
+      let inside = numbers-inside (omega arith) (numbers-append head (numbers-append (r .1 .stands) (n .0 .stands))) in
+      end-outcome (contents tokens rules nodes) end inside (n .1)
+      (λ e. sheet-made tokens count at-rules at-expression end rules nodes head (t .0 .holds .0, omega (arith, t .0 .holds .1))
+      (c .0 .holds .0, omega (arith, c .0 .holds .1)) (r .0) (r .1) (n .0) e (n .1)))))))
 
 -- ---- whatever is spelled is read
 
@@ -132,9 +150,9 @@ module _ (bytes : List ℕ) (s : Sheet) (at-rules at-expression end : ℕ) (head
       let own = each-place (λ m. m .place) (λ m. expression-item-numbers (m .item)) bytes (n .nodes) at-expression end i
       (omega (arith, nodes-counted, expression-items-length (s .expression))) (n .places) in
       let same : flatMap (λ m. expression-item-numbers (m .item)) (take i (n .nodes))
-      ≡ flatMap expression-item-numbers (take i (expression-items-of (s .expression))) =
+      ≡ take (numbers-before (s .expression) i) (expression-numbers (s .expression)) =
       numbers-of-taken (λ m. m .item) expression-item-numbers (n .nodes) i
-      ∙ ap (λ (l : List ExpressionItem). flatMap expression-item-numbers (take i l)) (n .same-items) in
+      ∙ ap (λ (l : List ExpressionItem). flatMap expression-item-numbers (take i l)) (n .same-items) ∙ before (s .expression) i h .numbers in
       numbers-append (numbers-append head rules-stand) (subst (λ (ns : List ℕ). NumbersAt bytes at-expression ns place) same own)
 
   contents-stand : ContentsOf bytes s (contents (s .tokens) (r .rules) (n .nodes))

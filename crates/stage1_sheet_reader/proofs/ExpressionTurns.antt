@@ -333,14 +333,14 @@ module _ (bytes : List ℕ) (tokens : ℕ) (c : NodeColumns) (p : Pending) (at :
   abbrev pub node-from : Reading ExpressionItem
   node-from = expression-turn bytes tokens (64 - c .count) (next-opened p) at
 
-  abbrev pub nodes-from : Reading (List ReadNode)
-  nodes-from = expression-nodes bytes tokens (64 - c .count) (due-of p) at
+  abbrev pub nodes-still : Reading (List ReadNode)
+  nodes-still = expression-nodes bytes tokens (64 - c .count) (due-of p) at
 
-  pub nodes-whole : c ≡ no-nodes → p ≡ one-pending → nodes-from ≡ expression-nodes bytes tokens 64 (0 ∷ []) at
+  pub nodes-whole : c ≡ no-nodes → p ≡ one-pending → nodes-still ≡ expression-nodes bytes tokens 64 (0 ∷ []) at
   unfolding due-from
   nodes-whole e h = rw (e, h)
 
-  pub nodes-end : p .count ≡ 0 → nodes-from ≡ got [] at
+  pub nodes-end : p .count ≡ 0 → nodes-still ≡ got [] at
   unfolding expression-nodes due-from
   nodes-end e = rw e (go (64 - c .count))
     where
@@ -349,10 +349,10 @@ module _ (bytes : List ℕ) (tokens : ℕ) (c : NodeColumns) (p : Pending) (at :
       go (suc left) = refl
 
   module _ (some : 0 < p .count) where
-    first-node : nodes-from ≡ expression-nodes bytes tokens (64 - c .count) (next-opened p ∷ due-from (p .count - 1) (p .opened)) at
+    first-node : nodes-still ≡ expression-nodes bytes tokens (64 - c .count) (next-opened p ∷ due-from (p .count - 1) (p .opened)) at
     first-node = ap (λ (l : List ℕ). expression-nodes bytes tokens (64 - c .count) l at) (due-first p some)
 
-    pub nodes-stop : {question place : ℕ} → node-from ≡ stop question place → nodes-from ≡ stop question place
+    pub nodes-stop : {question place : ℕ} → node-from ≡ stop question place → nodes-still ≡ stop question place
     nodes-stop e = first-node ∙ nodes-turn bytes tokens (64 - c .count) (next-opened p) (due-from (p .count - 1) (p .opened)) at ∙ rw e
 
 -- How it goes on after a turn, from the columns d with the expressions q due.
@@ -363,7 +363,7 @@ pub record NodesAgain (bytes : List ℕ) (tokens : ℕ) (c : NodeColumns) (p : P
   pub more : d .count ≡ c .count + 1
   pub room : c .count < 64
   pub put : d ≡ with-read-node c node
-  pub rest : nodes-from bytes tokens c p at ≡ and-then (nodes-from bytes tokens d q next) (in-front node)
+  pub rest : nodes-still bytes tokens c p at ≡ and-then (nodes-still bytes tokens d q next) (in-front node)
 
 module _ (bytes : List ℕ) (tokens : ℕ) (c : NodeColumns) (p : Pending) (at : ℕ) {r : ExpressionTurn} {next : ℕ}
     (some : 0 < p .count) (f : PendingFit c p) where

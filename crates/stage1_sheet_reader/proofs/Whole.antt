@@ -12,15 +12,14 @@ use Rattle.stage1_sheet.specs.Regex.{empty}
 use Rattle.stage1_sheet.specs.Expression.{bottom}
 use Rattle.stage1_sheet.specs.Sheet.{Rule}
 use Rattle.stage1_sheet.specs.Field.{Reading, stop, got, and-then, between, read-many}
-use Rattle.stage1_sheet.specs.FieldLaws.{Bytes, Outcome, accepted, then-outcome, outcome-got, true-between, Row, many-outcome}
-use Rattle.stage1_sheet.specs.SheetFields.{SheetRefusal, sheet-field-outcome}
+use Rattle.stage1_sheet.specs.Spelling.{Bytes}
+use Rattle.stage1_sheet.specs.FieldLaws.{Outcome, refused, accepted, then-outcome, outcome-got, true-between, OneAfterOther, many-outcome}
 use Rattle.stage1_sheet.specs.Items.{RegexItem, regexes, expressions}
-use Rattle.stage1_sheet.specs.NumberLaws.{numbers-inside}
 use Rattle.stage1_sheet.specs.RegexItems.{regex-items-of, MakesRegexes, one-regex}
 use Rattle.stage1_sheet.specs.ExpressionItems.{expression-items-of, one-expression}
-use Rattle.stage1_sheet.specs.Reading.{sheet-field, ReadRule, ReadNode, Allowance, less-rule, read-rule, expression-nodes, Contents, contents, at-end, read-sheet}
-use Rattle.stage1_sheet.specs.RegexReading.{regexes-outcome}
-use Rattle.stage1_sheet.specs.ExpressionReading.{expressions-outcome}
+use Rattle.stage1_sheet.specs.Reading.{sheet-field, regex-items, ReadRule, ReadNode, Allowance, less-rule, read-rule, expression-nodes, Contents, contents, at-end, read-sheet}
+use Rattle.stage1_sheet.specs.RegexReading.{regexes-read}
+use Rattle.stage1_sheet.specs.ExpressionReading.{nodes-read}
 use Rattle.stage1_sheet_columns.specs.Holds.{items-of-rules, RulesOf, NodesOf}
 use Rattle.stage1_sheet_columns.specs.declared.RuleColumns.{RuleColumns}
 use Rattle.stage1_sheet_reader.specs.Put.{with-all, with-rule, with-read-node, no-rules, no-nodes}
@@ -29,6 +28,7 @@ use Rattle.stage1_sheet_reader.specs.Answers.{allowance, RulesFit, Finis
 use Rattle.stage1_sheet_reader.specs.Reads.{refused-columns, Reads}
 use Rattle.stage1_sheet_reader.specs.declared.Header.the-variants.{Counts, Wrong}
 use Rattle.stage1_sheet_reader.specs.declared.SheetColumns.{SheetColumns}
+use Rattle.stage1_sheet_reader.proofs.Fields.{Any, field-inside}
 use Rattle.stage1_sheet_reader.proofs.Holding.{all-rules-held, all-nodes-held}
 
 -- ---- the head
@@ -78,16 +78,16 @@ pub record HeadRead (bytes : List ℕ) (tokens count next : ℕ) : Type 0 where
   pub inside : next ≤ length bytes
 
 module _ (bytes : List ℕ) (b : Bytes bytes) where
-  head-outcome : Outcome (SheetRefusal bytes) (HeadKept bytes) (header bytes)
+  head-outcome : Outcome Any (HeadKept bytes) (header bytes)
   unfolding header
   head-outcome =
-      then-outcome (sheet-field-outcome (between 1 1) bytes 0 b (omega arith))
-      (λ version at-tokens v. then-outcome (sheet-field-outcome (between 1 most-tokens) bytes at-tokens b (v .stands .inside))
-      (λ tokens at-count t. then-outcome (sheet-field-outcome (between 1 most-rules) bytes at-count b (t .stands .inside))
+      then-outcome (field-inside (between 1 1) bytes 0)
+      (λ version at-tokens v. then-outcome (field-inside (between 1 most-tokens) bytes at-tokens)
+      (λ tokens at-count t. then-outcome (field-inside (between 1 most-rules) bytes at-count)
       (λ count at-rules c. accepted (record { tokens = tokens; rules = count }) at-rules (record {
         tokens-most = true-between 1 most-tokens tokens (t .holds) .1;
         rules-most = true-between 1 most-rules count (c .holds) .1;
-        inside = c .stands .inside;
+        inside = c .inside;
       }))))
 
   pub head-read : {tokens count next : ℕ} → header-answer (header bytes) ≡ Counts tokens count next → HeadRead bytes tokens count next
@@ -209,35 +209,39 @@ same-actions [] = refl
 same-actions (r ∷ rules) = ap (λ (l : List ℕ). r .action ∷ l) (same-actions rules)
 
 module _ (bytes : List ℕ) (b : Bytes bytes) (tokens : ℕ) where
-  rule-items : (allowed : Allowance) (at : ℕ) → at ≤ length bytes
-      → Outcome (SheetRefusal bytes) (λ r end. SameItems r × (end ≤ length bytes)) (read-rule bytes tokens allowed at)
+  rule-items : (allowed : Allowance) (at : ℕ) → Outcome Any (λ r end. SameItems r × Unit) (read-rule bytes tokens allowed at)
   unfolding read-rule
-  rule-items allowed at h =
-      then-outcome (sheet-field-outcome (between 0 tokens) bytes at b h)
-      (λ action next f. then-outcome (regexes-outcome bytes b (allowed .nodes) (allowed .classes) 1 next (f .stands .inside))
-      (λ items end r. accepted _ end
-      (same-regex items (r .makes), numbers-inside (f .stands .inside) (r .stands))))
+  rule-items allowed at =
+      then-outcome (field-inside (between 0 tokens) bytes at)
+      (λ action next f. go action next (regex-items bytes (allowed .nodes) (allowed .classes) 1 next) refl)
+    where
+      go : (action next : ℕ) (m : Reading (List RegexItem)) → regex-items bytes (allowed .nodes) (allowed .classes) 1 next ≡ m
+          → Outcome Any (λ r end. SameItems r × Unit)
+          (and-then m (λ items end. got (record { place = at; action = action; items = items }) end))
+      go action next (stop q p) e = refused q p tt
+      go action next (got items end) e =
+          accepted _ end (same-regex items (regexes-read bytes b (allowed .nodes) (allowed .classes) 1 next e .makes), tt)
 
   row-items : (rules : List ReadRule) (allowed : Allowance) (at end : ℕ)
-      → Row (λ s from r next. SameItems r) less-rule allowed at rules end
+      → OneAfterOther (λ s from r next. SameItems r) less-rule allowed at rules end
       → items-of-rules (map rule-of rules) ≡ flatMap (λ r. r .items) rules
   unfolding items-of-rules flatMap
   row-items [] allowed at end h = refl
   row-items (r ∷ rules) allowed at end h = ap₂ (λ (k l : List RegexItem). k ++ l) (h .1) (row-items rules (less-rule allowed r) (h .0) end (h .2))
 
-  rules-of-sheet : (allowed : Allowance) (count at : ℕ) {rules : List ReadRule} {end : ℕ} → at ≤ length bytes
+  rules-of-sheet : (allowed : Allowance) (count at : ℕ) {rules : List ReadRule} {end : ℕ}
       → read-many (read-rule bytes tokens) less-rule allowed count at ≡ got rules end → RulesFit (with-all with-rule no-rules rules)
       → RulesOf (with-all with-rule no-rules rules) (map rule-of rules) (map (λ r. r .place) rules)
-  rules-of-sheet allowed count at {rules} {end} h e f =
-      let o = outcome-got (many-outcome (SheetRefusal bytes) (λ p. p ≤ length bytes) (λ s from r next. SameItems r)
-      (read-rule bytes tokens) less-rule rule-items count allowed at h) e in
+  rules-of-sheet allowed count at {rules} {end} e f =
+      let o = outcome-got (many-outcome Any (λ p. Unit) (λ s from r next. SameItems r) (read-rule bytes tokens) less-rule
+      (λ s from i. rule-items s from) count allowed at tt) e in
       rw (same-actions rules, row-items rules allowed at end (o .1)) (all-rules-held rules f)
 
-  nodes-of-sheet : (at : ℕ) {nodes : List ReadNode} {end : ℕ} → at ≤ length bytes
+  nodes-of-sheet : (at : ℕ) {nodes : List ReadNode} {end : ℕ}
       → expression-nodes bytes tokens most-expression-nodes (0 ∷ []) at ≡ got nodes end
       → NodesOf (with-all with-read-node no-nodes nodes) (getD (expressions (map (λ n. n .item) nodes)) 0 bottom) (map (λ n. n .place) nodes)
-  nodes-of-sheet at {nodes} {end} h e =
-      let o = outcome-got (expressions-outcome bytes b tokens most-expression-nodes (0 ∷ []) at h) e in
+  nodes-of-sheet at {nodes} {end} e =
+      let o = nodes-read bytes b tokens most-expression-nodes (0 ∷ []) at e in
       let one = one-expression tokens 0 (map (λ n. n .item) nodes) (o .makes) in
       let same : expression-items-of (getD (expressions (map (λ n. n .item) nodes)) 0 bottom) ≡ map (λ n. n .item) nodes =
       ap (λ l. expression-items-of (getD l 0 bottom)) (one .1 .made) ∙ one .1 .same-items in
@@ -259,12 +263,12 @@ module _ (bytes : List ℕ) (r : SheetColumns) where
         → r ≡ refused-columns question place → Reads (read-sheet bytes) r
     sheet-rules f h = rw (sheet-parts bytes, e, f) h
 
-    pub sheet-rest : {rules : List ReadRule} {next : ℕ} {d : RuleColumns} → Bytes bytes → at ≤ length bytes → next ≤ length bytes
+    pub sheet-rest : {rules : List ReadRule} {next : ℕ} {d : RuleColumns} → Bytes bytes
         → rules-part bytes (record { tokens = tokens; rules = count }) at ≡ got rules next → d ≡ with-all with-rule no-rules rules
         → RulesFit d
         → Finished (nodes-to-end bytes tokens next) tokens d r → Reads (read-sheet bytes) r
     unfolding contents
-    sheet-rest {rules} {next} {d} b l m f w fit h =
+    sheet-rest {rules} {next} {d} b f w fit h =
         rw (sheet-parts bytes, e, f) (go (nodes-to-end bytes tokens next) refl h)
       where
         fits : RulesFit (with-all with-rule no-rules rules)
@@ -276,6 +280,6 @@ module _ (bytes : List ℕ) (r : SheetColumns) where
         go (got nodes end) k h = record {
           done = h .0;
           tokens-held = h .1;
-          rules-held = rw (h .2, w) (rules-of-sheet bytes b tokens (allowance no-rules) count at l f fits);
-          nodes-held = rw (h .3) (nodes-of-sheet bytes b tokens next m (ended bytes tokens next k));
+          rules-held = rw (h .2, w) (rules-of-sheet bytes b tokens (allowance no-rules) count at f fits);
+          nodes-held = rw (h .3) (nodes-of-sheet bytes b tokens next (ended bytes tokens next k));
         }

@@ -1,44 +1,43 @@
 -- What the lent buffers hold after compiling, said of their parts: "A refused compile leaves the image buffer untouched; success
 -- leaves the bytes past the image. The first 65,536 work bytes end as zero, except after 1, when none changes; the rest never
 -- change."
-use mathlib.Core.Path.{_≡_, refl, sym, ap, _∙_}
-use mathlib.Core.Bool.{Bool, cond}
-use mathlib.Core.List.{List, [], _++_}
+use mathlib.Core.Path.{_≡_, refl}
+use mathlib.Core.List.{List, []}
 use Prim.Native.Nat.{ℕ, _≤_, _<_}
-use native.Mathlib.Omega.{arith}
-use lib.ListN.{length, take, drop, replicate, length-replicate, drop-of-length-le}
+use lib.ListN.{length, take, drop, replicate, length-replicate}
 use lib.Seq.{take-at, drop-at}
-use lib.Dec.{ltb}
 use borrow.Author.Tests.{lt-ltb, le-ltb}
 use Rattle.stage0_laws.specs.Order.{lt-or-le}
 use mathlib.Core.Logic.{⊎-elim}
-use Rattle.stage5_image.specs.Compile.{work-bytes, Compiled, refused, too-long, compiled, CompileAnswer, compile-answer, image-after, written-part, work-after}
+use Rattle.stage5_image.specs.Compile.{work-bytes, refused, too-long, compiled, compile-answer, image-after, written-part, work-after}
 
--- Refused: nothing is written, nothing is handed back.
-pub refused-untouched : (question place : ℕ) (buffer : List ℕ)
-    → (image-after (refused question place) buffer ≡ buffer) × (written-part (refused question place) ≡ [])
-unfolding image-after written-part
-refused-untouched question place buffer = (refl, refl)
+-- Refused: nothing is written.
+pub refused-untouched : (question place needed : ℕ) (buffer : List ℕ)
+    → (image-after (refused question place) buffer ≡ buffer) × (image-after (too-long needed) buffer ≡ buffer)
+unfolding image-after
+refused-untouched question place needed buffer = (refl, refl)
 
-pub too-long-untouched : (needed : ℕ) (buffer : List ℕ) → (image-after (too-long needed) buffer ≡ buffer) × (written-part (too-long needed) ≡ [])
-unfolding image-after written-part
-too-long-untouched needed buffer = (refl, refl)
-
--- Success: the image, which is what is handed back, and then what was there.
-pub image-written : (image buffer : List ℕ) → take (length image) (image-after (compiled image) buffer) ≡ written-part (compiled image)
-unfolding image-after written-part
+-- Success: the image, and then what was there.
+pub image-written : (image buffer : List ℕ) → take (length image) (image-after (compiled image) buffer) ≡ image
+unfolding image-after
 image-written image buffer = take-at image (drop (length image) buffer) (length image) refl
 
 pub image-rest : (image buffer : List ℕ) → drop (length image) (image-after (compiled image) buffer) ≡ drop (length image) buffer
 unfolding image-after
 image-rest image buffer = drop-at image (drop (length image) buffer) (length image) refl
 
+-- "Success also hands back the written part of the image buffer, empty on refusal."
+pub handed-back : (question place needed : ℕ) (image : List ℕ)
+    → (written-part (refused question place) ≡ []) × (written-part (too-long needed) ≡ []) × (written-part (compiled image) ≡ image)
+unfolding written-part
+handed-back question place needed image = (refl, refl, refl)
+
 -- "0, 0 and bytes written on success; after 11 the bytes needed, otherwise length 0"
 pub answers : (question place needed : ℕ) (image : List ℕ)
     → (compile-answer (refused question place) ≡ record { number = question; place = place; length = 0 })
     × (compile-answer (too-long needed) ≡ record { number = 11; place = 0; length = needed })
-    × (compile-answer (compiled image) ≡ record { number = 0; place = 0; length = length (written-part (compiled image)) })
-unfolding compile-answer written-part
+    × (compile-answer (compiled image) ≡ record { number = 0; place = 0; length = length image })
+unfolding compile-answer
 answers question place needed image = (refl, refl, refl)
 
 -- The work area.

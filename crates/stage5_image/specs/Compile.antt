@@ -1,12 +1,12 @@
--- Compiling a sheet: questions 1 to 11 in order, what is returned, and what the lent image buffer and work area hold at the end.
-use mathlib.Core.Bool.{Bool, true, false, cond}
+-- Compiling a sheet: how it ends, what is returned, what the lent image buffer and work area hold at the end; and the function that asks
+-- questions 1 to 11 in order, as the code does. What it must answer is said in Compiles.
+use mathlib.Core.Bool.{cond}
 use mathlib.Core.List.{List, [], _∷_, _++_}
 use mathlib.Core.Option.{Option, none, some}
 use Prim.Native.Nat.{ℕ}
 use lib.ListN.{length, drop, getD, replicate}
 use lib.Dec.{ltb, leb}
 use Rattle.stage1_sheet.specs.Limits.{most-sheet-bytes}
-use Rattle.stage1_sheet.specs.Sheet.{Rule, Sheet}
 use Rattle.stage1_sheet.specs.Field.{Reading, stop, got}
 use Rattle.stage1_sheet.specs.Reading.{Contents, read-sheet}
 use Rattle.stage2_types.specs.Questions.{Fault, type-fault}
@@ -61,6 +61,10 @@ unfoldable pub compile-answer : Compiled → CompileAnswer
 compile-answer (refused number place) = record { number = number; place = place; length = 0 }
 compile-answer (too-long needed) = record { number = 11; place = 0; length = needed }
 compile-answer (compiled image) = record { number = 0; place = 0; length = length image }
+
+-- The three numbers of an answer, one after the other.
+unfoldable pub answer-numbers : CompileAnswer → List ℕ
+answer-numbers a = a .number ∷ a .place ∷ a .length ∷ []
 
 -- "A refused compile leaves the image buffer untouched; success leaves the bytes past the image."
 unfoldable pub image-after : Compiled → List ℕ → List ℕ

@@ -1,65 +1,48 @@
--- What compiling answers, question by question in their order, in the page's terms; and that 11 never comes with 65,536 bytes of
--- room.
-use mathlib.Core.Path.{_≡_, refl}
+-- Compiling's answer is the one that the page's terms fix: `compile` ends so, whatever is handed over, and there is no other answer.
+-- And 11 never comes with 65,536 bytes of room.
+use mathlib.Core.Path.{_≡_, refl, sym, ap, _∙_}
 use mathlib.Core.Bool.{Bool, true, false, cond}
-use mathlib.Core.List.{List, []}
+use mathlib.Core.List.{List}
 use mathlib.Core.Option.{Option, none, some}
+use mathlib.Core.Logic.{_↔_}
 use Prim.Native.Nat.{ℕ, _≤_, _<_}
 use native.Mathlib.Omega.{arith}
 use lib.ListN.{length, getD}
 use lib.Dec.{ltb, leb, leb→le, nleb→lt}
-use borrow.Author.Tests.{ltb-true, ltb-false}
+use borrow.Author.Tests.{ltb-true, ltb-false, lt-ltb, le-ltb, le-leb, lt-leb}
 use Rattle.stage0_laws.specs.Truth.{true-holds}
 use Rattle.stage1_sheet.specs.Limits.{most-sheet-bytes}
 use Rattle.stage1_sheet.specs.Expression.{size}
 use Rattle.stage1_sheet.specs.Sheet.{Sheet}
-use Rattle.stage1_sheet.specs.WellFormed.{Spells, WellFormed}
-use Rattle.stage1_sheet.specs.SheetFields.{SheetRefusal}
+use Rattle.stage1_sheet.specs.WellFormed.{WithinLimits, Spells}
 use Rattle.stage1_sheet.specs.Field.{Reading, stop, got}
-use Rattle.stage1_sheet.specs.FieldLaws.{Bytes}
 use Rattle.stage1_sheet.specs.Reading.{Contents, read-sheet}
-use Rattle.stage1_sheet.specs.Spelling.{NumbersAt}
+use Rattle.stage1_sheet.specs.Spelling.{Bytes, NumbersAt}
 use Rattle.stage1_sheet.specs.Places.{numbers-before-rule, numbers-before-node, ContentsOf}
-use Rattle.stage1_sheet.specs.ReadingLaws.{read-accepted, read-refused, refused-not-well-formed}
+use Rattle.stage1_sheet.specs.NumberLaws.{numbers-once}
+use Rattle.stage1_sheet.specs.ReadingLaws.{spelled-read, read-accepted, read-refused, refused-read}
 use Rattle.stage2_types.specs.Types.{HasType}
-use Rattle.stage2_types.specs.Nodes.{nodes}
-use Rattle.stage2_types.specs.LeastTypes.{least-types}
 use Rattle.stage2_types.specs.Questions.{Fault, type-fault}
-use Rattle.stage2_types.specs.QuestionLaws.{FirstToFail, type-fault-first}
+use Rattle.stage2_types.specs.QuestionLaws.{type-fault-first}
+use Rattle.stage2_types.specs.TypeFaults.{TypeFault}
+use Rattle.stage2_types.specs.TypeFaultLaws.{type-fault-is}
 use Rattle.stage2_types.specs.Typing.{sheet-typed-iff}
 use Rattle.stage3_normal_form.specs.Places.{nodes-count}
-use Rattle.stage4_lexer.specs.EmptyWord.{none-empty, first-empty-rule}
+use Rattle.stage4_lexer.specs.EmptyWord.{none-empty, first-empty-iff}
 use Rattle.stage4_lexer.specs.Positions.{empty-match}
-use Rattle.stage4_lexer.specs.Words.{WordOf}
+use Rattle.stage4_lexer.specs.Words.{FirstEmptyRule, NoEmptyRule}
 use Rattle.stage5_image.specs.Compile.{work-bytes, Compiled, refused, too-long, compiled, fitted, after-types, after-rules, after-reading, compile}
 use Rattle.stage5_image.specs.Image.{image-of, image-bytes}
-use Rattle.stage5_image.specs.CompileLaws.{Acceptable}
+use Rattle.stage5_image.specs.Compiles.{Compiles, short-work, long-sheet, unreadable, empty-rule, untyped, no-room, success}
 use Rattle.stage5_image.specs.RowRanges.{rule-below}
 use Rattle.stage5_image.specs.ImageLength.{most-image-bytes, image-fits}
 
--- How compiling ends, with a work area and an image buffer of so many bytes.
-pub data Compiles (bytes : List ℕ) (work room : ℕ) : Compiled → Type 0 where
-  short-work : work < work-bytes → Compiles bytes work room (refused 1 0)
-  long-sheet : work-bytes ≤ work → most-sheet-bytes < length bytes → Compiles bytes work room (refused 2 0)
-  -- 3 to 6: no sheet is spelled
-  unreadable : (question place : ℕ) → work-bytes ≤ work → length bytes ≤ most-sheet-bytes → SheetRefusal bytes question place
-      → (WellFormed bytes → ⊥)
-      → Compiles bytes work room (refused question place)
-  -- 7: the first rule that matches the empty word, at its action
-  empty-rule : (s : Sheet) (k place : ℕ) → work-bytes ≤ work → Spells bytes s → WordOf (s .rules) k []
-      → ((j : ℕ) → j < k → WordOf (s .rules) j [] → ⊥) → NumbersAt bytes 0 (numbers-before-rule s k) place
-      → Compiles bytes work room (refused 7 place)
-  -- 8 to 10: the first node that fails at the least types, at its tag
-  untyped : (s : Sheet) (f : Fault) (place : ℕ) → work-bytes ≤ work → Spells bytes s → ((k : ℕ) → WordOf (s .rules) k [] → ⊥)
-      → FirstToFail (least-types (s .expression)) (nodes (s .expression)) f → NumbersAt bytes 0 (numbers-before-node s (f .node)) place
-      → Compiles bytes work room (refused (f .number) place)
-  -- 11, and success
-  no-room : (s : Sheet) → work-bytes ≤ work → Spells bytes s → ((k : ℕ) → WordOf (s .rules) k [] → ⊥) → HasType (s .expression)
-      → room < length (image-bytes (image-of s)) → Compiles bytes work room (too-long (length (image-bytes (image-of s))))
-  success : (s : Sheet) → work-bytes ≤ work → Acceptable bytes room s → Compiles bytes work room (compiled (image-bytes (image-of s)))
+-- Questions 8 to 10, by what is computed.
+fault-is : (s : Sheet) → WithinLimits s → (f : Fault) → (type-fault (s .expression) ≡ some f) ↔ TypeFault (s .expression) (f .node) (f .number)
+fault-is s l = type-fault-is (s .tokens) (l .tokens-most) (s .expression) (l .closed)
 
 module _ (bytes : List ℕ) (work room : ℕ) where
-  room-question : (s : Sheet) → work-bytes ≤ work → Spells bytes s → ((k : ℕ) → WordOf (s .rules) k [] → ⊥) → HasType (s .expression)
+  room-question : (s : Sheet) → work-bytes ≤ work → Spells bytes s → NoEmptyRule (s .rules) → HasType (s .expression)
       → Compiles bytes work room (fitted room (image-bytes (image-of s)))
   unfolding fitted
   room-question s w h m t = go (leb (length (image-bytes (image-of s))) room) refl
@@ -77,19 +60,20 @@ module _ (bytes : List ℕ) (work room : ℕ) where
     type-question m (some f) e =
         let x = type-fault-first (c .sheet .expression) f e in
         let inside : f .node < size (c .sheet .expression) = omega (arith, x .among, nodes-count (c .sheet .expression)) in
-        untyped (c .sheet) f (getD (c .node-places) (f .node) 0) w h (none-empty (c .sheet .rules) .0 m) x (p .node-stands (f .node) inside)
+        untyped (c .sheet) (f .node) (f .number) (getD (c .node-places) (f .node) 0) w h (none-empty (c .sheet .rules) .0 m)
+        (fault-is (c .sheet) (h .limits) f .0 e) (p .node-stands (f .node) inside)
 
     rule-question : (o : Option ℕ) → empty-match (c .sheet .rules) 0 ≡ o → Compiles bytes work room (after-rules room c o)
     unfolding after-rules
     rule-question none e = type-question e (type-fault (c .sheet .expression)) refl
     rule-question (some k) e =
-        let x = first-empty-rule (c .sheet .rules) k e in
-        empty-rule (c .sheet) k (getD (c .action-places) k 0) w h (x .0) (x .1) (p .action-stands k (rule-below (x .0 .1)))
+        let x = first-empty-iff (c .sheet .rules) k .0 e in
+        empty-rule (c .sheet) k (getD (c .action-places) k 0) w h x (p .action-stands k (rule-below (x .matches .1)))
 
   reading-questions : Bytes bytes → work-bytes ≤ work → length bytes ≤ most-sheet-bytes → (r : Reading Contents) → read-sheet bytes ≡ r
       → Compiles bytes work room (after-reading room r)
   unfolding after-reading
-  reading-questions b w l (stop question place) e = unreadable question place w l (read-refused bytes b e) (refused-not-well-formed bytes e)
+  reading-questions b w l (stop question place) e = unreadable question place w l (read-refused bytes b e)
   reading-questions b w l (got c end) e =
       let a = read-accepted bytes b l e in
       rule-question c w (a .spells) (a .places) (empty-match (c .sheet .rules) 0) refl
@@ -110,6 +94,83 @@ module _ (bytes : List ℕ) (work room : ℕ) where
       first true e = short-work (ltb-true work work-bytes e)
       first false e = second (ltb-false work work-bytes e) (ltb most-sheet-bytes (length bytes)) refl
 
+-- ---- there is no other answer
+
+module _ (bytes : List ℕ) (work room : ℕ) (w : work-bytes ≤ work) where
+  after-questions : length bytes ≤ most-sheet-bytes → compile bytes work room ≡ after-reading room (read-sheet bytes)
+  unfolding compile
+  after-questions l = rw (le-ltb work work-bytes w, le-ltb most-sheet-bytes (length bytes) l)
+
+  -- Compiling a sheet that the bytes spell, from question 7 on.
+  record FromRules (s : Sheet) : Type 0 where
+    what : Contents
+    stands : ContentsOf bytes s what
+    same : compile bytes work room ≡ after-rules room what (empty-match (s .rules) 0)
+
+  from-rules : (s : Sheet) → Spells bytes s → FromRules s
+  unfolding after-reading
+  from-rules s h =
+      let r = spelled-read bytes s h in record {
+        what = r .0;
+        stands = r .2;
+        same = after-questions (h .bytes-most) ∙ ap (after-reading room) (r .1)
+            ∙ ap (λ (t : Sheet). after-rules room (r .0) (empty-match (t .rules) 0)) (r .2 .same-sheet);
+      }
+
+  empty-refused : (s : Sheet) (k place : ℕ) → Spells bytes s → FirstEmptyRule (s .rules) k
+      → NumbersAt bytes 0 (numbers-before-rule s k) place → compile bytes work room ≡ refused 7 place
+  unfolding after-rules
+  empty-refused s k place h x p =
+      let r = from-rules s h in
+      let here = r .stands .action-stands k (rule-below (x .matches .1)) in
+      r .same ∙ rw (first-empty-iff (s .rules) k .1 x) (ap (refused 7) (numbers-once here p))
+
+  -- From questions 8 to 10 on.
+  from-types : (s : Sheet) (h : Spells bytes s) → NoEmptyRule (s .rules)
+      → compile bytes work room ≡ after-types room (from-rules s h .what) (type-fault (s .expression))
+  unfolding after-rules
+  from-types s h m =
+      let r = from-rules s h in
+      r .same ∙ rw (none-empty (s .rules) .1 m) (ap (λ (t : Sheet). after-types room (r .what) (type-fault (t .expression))) (r .stands .same-sheet))
+
+  untyped-refused : (s : Sheet) (node question place : ℕ) → Spells bytes s → NoEmptyRule (s .rules) → TypeFault (s .expression) node question
+      → NumbersAt bytes 0 (numbers-before-node s node) place → compile bytes work room ≡ refused question place
+  unfolding after-types
+  untyped-refused s node question place h m x p =
+      let found = fault-is s (h .limits) (record { number = question; node = node }) .1 x in
+      let first = type-fault-first (s .expression) (record { number = question; node = node }) found in
+      let inside : node < size (s .expression) = omega (arith, first .among, nodes-count (s .expression)) in
+      let here = from-rules s h .stands .node-stands node inside in
+      from-types s h m ∙ rw found (ap (refused question) (numbers-once here p))
+
+  -- From question 11 on.
+  pub from-room : (s : Sheet) → Spells bytes s → NoEmptyRule (s .rules) → HasType (s .expression)
+      → compile bytes work room ≡ fitted room (image-bytes (image-of s))
+  unfolding after-types
+  from-room s h m t =
+      from-types s h m ∙ rw (sheet-typed-iff s (h .limits) .1 t)
+      (ap (λ (u : Sheet). fitted room (image-bytes (image-of u))) (from-rules s h .stands .same-sheet))
+
+-- Whatever compiling ends with in the page's terms is what `compile` answers.
+pub compiles-only : {bytes : List ℕ} → Bytes bytes → {work room : ℕ} {c : Compiled} → Compiles bytes work room c → compile bytes work room ≡ c
+unfolding compile fitted after-reading
+compiles-only b {work} {room} (short-work h) = rw (lt-ltb work work-bytes h)
+compiles-only {bytes} b {work} {room} (long-sheet w h) = rw (le-ltb work work-bytes w, lt-ltb most-sheet-bytes (length bytes) h)
+compiles-only {bytes} b {work} {room} (unreadable question place w l h) =
+    after-questions bytes work room w l ∙ ap (after-reading room) (refused-read bytes b h)
+compiles-only {bytes} b {work} {room} (empty-rule s k place w h x p) = empty-refused bytes work room w s k place h x p
+compiles-only {bytes} b {work} {room} (untyped s node question place w h m x p) = untyped-refused bytes work room w s node question place h m x p
+compiles-only {bytes} b {work} {room} (no-room s w h m t l) =
+    from-room bytes work room w s h m t ∙ rw (lt-leb (length (image-bytes (image-of s))) room l)
+compiles-only {bytes} b {work} {room} (success s w a) =
+    from-room bytes work room w s (a .well-formed) (a .no-empty-text) (a .has-type)
+    ∙ rw (le-leb (length (image-bytes (image-of s))) room (a .fits))
+
+-- So there is one answer.
+pub compiles-one : {bytes : List ℕ} → Bytes bytes → {work room : ℕ} {c d : Compiled} → Compiles bytes work room c → Compiles bytes work room d
+    → c ≡ d
+compiles-one b h k = sym (compiles-only b h) ∙ compiles-only b k
+
 -- ---- room
 
 -- Of 11: the image does not fit, and it is not longer than any image is.
@@ -117,9 +178,9 @@ too-long-from : {bytes : List ℕ} {work room : ℕ} {c : Compiled} → Compiles
     → (room < n) × (n ≤ most-image-bytes)
 too-long-from (short-work h) n e = let z : _≡_ {A = ℕ} 0 1 = cc in absurd (omega arith)
 too-long-from (long-sheet w h) n e = let z : _≡_ {A = ℕ} 0 1 = cc in absurd (omega arith)
-too-long-from (unreadable question place w l h f) n e = let z : _≡_ {A = ℕ} 0 1 = cc in absurd (omega arith)
-too-long-from (empty-rule s k p w h x f q) n e = let z : _≡_ {A = ℕ} 0 1 = cc in absurd (omega arith)
-too-long-from (untyped s f p w h m x q) n e = let z : _≡_ {A = ℕ} 0 1 = cc in absurd (omega arith)
+too-long-from (unreadable question place w l h) n e = let z : _≡_ {A = ℕ} 0 1 = cc in absurd (omega arith)
+too-long-from (empty-rule s k p w h x q) n e = let z : _≡_ {A = ℕ} 0 1 = cc in absurd (omega arith)
+too-long-from (untyped s node q p w h m x o) n e = let z : _≡_ {A = ℕ} 0 1 = cc in absurd (omega arith)
 too-long-from (no-room s w h m t l) n e =
     let same : length (image-bytes (image-of s)) ≡ n = cc in
     let fits = image-fits s (h .limits) (none-empty (s .rules) .1 m) (t .1) in

@@ -8,6 +8,7 @@ pub mod ImageFields
 pub mod ImageReading
 pub mod Unfolding
 pub mod Compile
+pub mod Compiles
 pub mod Computing
 pub mod FusionLaws
 pub mod MetNodes

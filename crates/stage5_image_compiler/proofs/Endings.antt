@@ -12,7 +12,7 @@ use Rattle.stage0_buffers.specs.Cleared.{cleared, cleared-front}
 use Rattle.stage1_sheet.specs.Limits.{most-sheet-bytes}
 use Rattle.stage1_sheet.specs.Sheet.{Sheet}
 use Rattle.stage1_sheet.specs.Field.{got}
-use Rattle.stage1_sheet.specs.FieldLaws.{Bytes}
+use Rattle.stage1_sheet.specs.Spelling.{Bytes}
 use Rattle.stage1_sheet.specs.Reading.{Contents, read-sheet}
 use Rattle.stage1_sheet.specs.ReadingLaws.{read-accepted}
 use Rattle.stage1_sheet_columns.specs.declared.RuleColumns.{RuleColumns}
@@ -39,7 +39,7 @@ use Rattle.stage4_lexer_sets.specs.declared.RulePositions.{RulePositions}
 use Rattle.stage4_lexer_sets.specs.declared.EmptyRule.the-variants as sets
 use Rattle.stage5_image.specs.Compile as page
 use Rattle.stage5_image.specs.Compile.{work-bytes, fitted, after-types, after-rules, after-reading, compile}
-use Rattle.stage5_image.specs.Compile.{compile-answer, image-after, work-after}
+use Rattle.stage5_image.specs.Compile.{image-after, work-after}
 use Rattle.stage5_image.specs.Fusion.{fused}
 use Rattle.stage5_image.specs.Image.{image-of, image-bytes}
 use Rattle.stage5_image.specs.Numbering.{reached}
@@ -47,14 +47,14 @@ use Rattle.stage5_image_numbering.specs.Grammar.{Numbers}
 use Rattle.stage5_image_numbering.specs.declared.Grammar.{Grammar}
 use Rattle.stage5_image_numbering.specs.declared.Numbering.{Numbering}
 use Rattle.stage5_image_writer.specs.Parts.{PartsOf}
-use Rattle.stage5_image_compiler.specs.Answer.{answer-of, case-of, case-answer, Ends}
-use Rattle.stage5_image_compiler.specs.Steps.{SheetOf, PositionsHeld, Accepted, after-work, work-first}
+use Rattle.stage5_image_compiler.specs.Answer.{case-of, Ends}
+use Rattle.stage5_image_compiler.specs.Steps.{SheetOf, PositionsHeld, MadeFrom, after-work, work-first}
 use Rattle.stage5_image_compiler.specs.declared.Compiled.{Compiled}
 use Rattle.stage5_image_compiler.specs.declared.Compiled.the-variants.{Done, TooLong, Refused}
 
 -- ---- question 11
 
-pub parts-of : (s : Sheet) (g : Grammar) (p : PositionColumns) (n : Numbering) → Accepted s g p
+pub parts-of : (s : Sheet) (g : Grammar) (p : PositionColumns) (n : Numbering) → MadeFrom s g p
     → Numbers n (reached (fused (s .rules) (normal-form (s .expression)))) → PartsOf g p n s
 parts-of s g p n a m = record {
   grammar = a .grammar;
@@ -218,11 +218,11 @@ module _ (sheet : List ℕ) where
 -- What compiling promises, with the work area that it leaves.
 abbrev pub Promised : page.Compiled → Compiled → List ℕ → List ℕ → List ℕ → List ℕ → Type 0
 Promised m r entry exit work after =
-    (answer-of r ≡ compile-answer m) × (exit ≡ image-after m entry) × (after ≡ work-after work) × (r ≡ case-of m)
+    (r ≡ case-of m) × (exit ≡ image-after m entry) × (after ≡ work-after work)
 
 promised : {m : page.Compiled} {r : Compiled} {entry exit after : List ℕ} (work : List ℕ) → Ends m r entry exit → after ≡ work-after work
     → Promised m r entry exit work after
-promised {m} work h w = (ap answer-of (h .answer) ∙ case-answer m, h .image, w, h .answer)
+promised work h w = (h .answer, h .image, w)
 
 module _ (sheet work buffer : List ℕ) where
   pub work-short : length work < work-bytes → Promised (compile sheet (length work) (length buffer)) (Refused 1 0) buffer buffer work work

@@ -6,8 +6,8 @@ use native.Mathlib.Omega.{arith}
 use lib.ListN.{length, take, drop, length-append}
 use lib.Seq.{take-append-seam}
 use Rattle.stage5_image.specs.Compile as page
-use Rattle.stage5_image.specs.Compile.{compile-answer, image-after, written-part}
-use Rattle.stage5_image_compiler.specs.Answer.{answer-numbers, case-of, case-done, case-too-long, case-refused}
+use Rattle.stage5_image.specs.Compile.{compile-answer, answer-numbers, image-after, written-part}
+use Rattle.stage5_image_compiler.specs.Answer.{case-of, case-done, case-too-long, case-refused}
 use Rattle.stage5_image_compiler.specs.declared.Compiled.the-variants.{Done, TooLong, Refused}
 
 module _ (m : page.Compiled) where

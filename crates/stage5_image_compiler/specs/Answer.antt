@@ -1,7 +1,7 @@
 -- What the code's answer stands for: document 01's number, place and length for each of its cases, and the case for each way in
 -- which compiling ends. When it ends so is not said here.
 use mathlib.Core.Path.{_≡_, refl}
-use mathlib.Core.List.{List, [], _∷_}
+use mathlib.Core.List.{List}
 use Prim.Native.Nat.{ℕ}
 use native.Mathlib.Omega.{arith}
 use lib.ListN.{length}
@@ -15,10 +15,6 @@ unfoldable pub answer-of : Compiled → CompileAnswer
 answer-of (Done written) = record { number = 0; place = 0; length = written }
 answer-of (TooLong needed) = record { number = 11; place = 0; length = needed }
 answer-of (Refused number place) = record { number = number; place = place; length = 0 }
-
--- The three numbers of an answer, one after the other.
-unfoldable pub answer-numbers : CompileAnswer → List ℕ
-answer-numbers a = a .number ∷ a .place ∷ a .length ∷ []
 
 -- The case of each way to end. It keeps the length of the image and not its bytes, which are in the buffer.
 unfoldable pub case-of : page.Compiled → Compiled

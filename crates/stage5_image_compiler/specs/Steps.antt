@@ -33,7 +33,7 @@ pub record PositionsHeld (rules : List Rule) (p : PositionColumns) : Type 0 wher
   pub count-most : p .count ≤ 64
 
 -- All that an image is made from, of a sheet that questions 3 to 10 let pass.
-pub record Accepted (s : Sheet) (g : Grammar) (p : PositionColumns) : Type 0 where
+pub record MadeFrom (s : Sheet) (g : Grammar) (p : PositionColumns) : Type 0 where
   pub grammar : GrammarOf g (s .rules) (s .expression)
   pub held : PositionsHeld (s .rules) p
 

@@ -19,10 +19,10 @@ ghost use Rattle.stage2_types_checker.specs.Checking.{CheckedOf};
 ghost use Rattle.stage4_lexer.specs.Positions.{empty-match};
 ghost use Rattle.stage5_image.specs.Image.{image-of, image-bytes};
 ghost use Rattle.stage5_image.specs.Compile.{fitted, after-types, after-rules, compile};
-ghost use Rattle.stage5_image.specs.Compile.{compile-answer, image-after, written-part, work-after};
+ghost use Rattle.stage5_image.specs.Compile.{compile-answer, answer-numbers, image-after, written-part, work-after};
 ghost use Rattle.stage5_image_numbering.specs.Grammar.{GrammarOf};
-ghost use Rattle.stage5_image_compiler.specs.Answer.{answer-of, answer-numbers, case-of, Ends};
-ghost use Rattle.stage5_image_compiler.specs.Steps.{SheetOf, PositionsHeld, Accepted, after-work};
+ghost use Rattle.stage5_image_compiler.specs.Answer.{case-of, Ends};
+ghost use Rattle.stage5_image_compiler.specs.Steps.{SheetOf, PositionsHeld, MadeFrom, after-work};
 
 const WORK_BYTES: usize = 65536;
 
@@ -38,8 +38,8 @@ pub enum Compiled {
 
 // Question 11, asked before the first byte is written, and the image.
 fn write_if_fits(grammar: Grammar, positions: PositionColumns, image: &mut [u8]) -> Compiled
-    requires { ⌜ ((s : Sheet) × Accepted s grammar positions) ⌝ }
-    ensures { λ r. ⌜ ((s : Sheet) → Accepted s grammar positions
+    requires { ⌜ ((s : Sheet) × MadeFrom s grammar positions) ⌝ }
+    ensures { λ r. ⌜ ((s : Sheet) → MadeFrom s grammar positions
         → Ends (fitted (length (now (image .entry))) (image-bytes (image-of s))) r (now (image .entry)) (now (image .exit))) ⌝ }
 {
     let numbering = stage5_image_numbering::number_nodes(grammar);
@@ -133,14 +133,13 @@ fn compile_sheet(sheet: &[u8], image: &mut [u8]) -> Compiled
 }
 
 // Compiles a sheet into the image buffer. The work area is asked for and cleared; what compiling keeps is small enough to be held
-// by value.
+// by value. `answer-of` has document 01's number, place and length for each case of the answer (`case-answer`).
 pub fn compile(sheet: &[u8], work: &mut [u8], image: &mut [u8]) -> Compiled
     ensures { λ r.
-        ⌜ (answer-of r ≡ compile-answer (compile (now (sheet .entry)) (length (now (work .entry))) (length (now (image .entry)))))
+        ⌜ (r ≡ case-of (compile (now (sheet .entry)) (length (now (work .entry))) (length (now (image .entry)))))
         × (now (image .exit) ≡ image-after
         (compile (now (sheet .entry)) (length (now (work .entry))) (length (now (image .entry)))) (now (image .entry)))
-        × (now (work .exit) ≡ work-after (now (work .entry)))
-        × (r ≡ case-of (compile (now (sheet .entry)) (length (now (work .entry))) (length (now (image .entry))))) ⌝ }
+        × (now (work .exit) ≡ work-after (now (work .entry))) ⌝ }
 {
     if work.len() < WORK_BYTES {
         return Compiled::Refused(1, 0);

@@ -13,12 +13,12 @@ use Rattle.stage1_sheet.specs.WellFormed.{Spells}
 use Rattle.stage1_sheet.specs.FieldLaws.{Bytes, all-bytes, tested-bytes}
 use Rattle.stage1_sheet.specs.Field.{Reading, got}
 use Rattle.stage1_sheet.specs.Reading.{Contents, read-sheet}
-use Rattle.stage1_sheet.specs.ReadingLaws.{Accepted, read-accepted}
+use Rattle.stage1_sheet.specs.ReadingLaws.{SheetAccepted, read-accepted}
 use Rattle.stage1_sheet.specs.Expression.{token, sequence, fixed-point, variable}
 use Rattle.stage1_sheet.specs.SheetD.{sheet-D, bytes-of-D}
 use Rattle.stage2_types.specs.Denotation.{Denotes, denotation, iterate}
 use Rattle.stage5_image.specs.Compile.{work-bytes, Compiled, compiled, compile, written-part}
-use Rattle.stage5_image.specs.CompileLaws.{Acceptable}
+use Rattle.stage5_image.specs.Compiles.{Acceptable}
 use Rattle.stage6_machine.specs.Answer.{Answer, answer}
 use Rattle.stage6_machine.specs.Run.{most-text-bytes, run, long-enough}
 use Rattle.stage6_machine.specs.OwnAnswer.{OwnAnswer}

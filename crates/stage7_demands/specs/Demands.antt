@@ -1,23 +1,23 @@
 -- The three demands, each as one statement to be held against the page, over the definitions that the code's contracts cite.
 -- The proofs are elsewhere: `Proofs` puts them together. The contracts:
---   `stage5_image_compiler`: `compile` equals `compile` here, and leaves `image-after` and `work-after`;
+--   `stage5_image_compiler`: `compile` answers what the function `compile` does, for which the demands are proved, and leaves
+--   `image-after` and `work-after`;
 --   `stage6_machine_runner`: `run` equals `run` here, and leaves `stack-after`;
 --   `stage7_engine`: `read_text` has `OwnAnswer` itself in its contract, and all three buffers;
 --   `vinzagew`: `sheet_compile` and `image_run` hand on the first two.
 use mathlib.Core.Path.{_≡_}
-use mathlib.Core.List.{List}
+use mathlib.Core.List.{List, []}
 use mathlib.Core.Logic.{_↔_, _⊎_}
-use Prim.Native.Nat.{ℕ, _≤_}
-use lib.ListN.{length, replicate}
+use Prim.Native.Nat.{ℕ, _≤_, _<_}
+use lib.ListN.{length, take, drop, replicate}
 use Rattle.stage1_sheet.specs.Sheet.{Sheet}
 use Rattle.stage1_sheet.specs.WellFormed.{Spells}
-use Rattle.stage1_sheet.specs.FieldLaws.{Bytes}
+use Rattle.stage1_sheet.specs.Spelling.{Bytes}
 use Rattle.stage5_image.specs.Image.{image-of, image-bytes}
 use Rattle.stage5_image.specs.ImageFields.{ReadableAs}
 use Rattle.stage5_image.specs.Unfolding.{StartUnfolds, DenotedRules}
-use Rattle.stage5_image.specs.Compile.{work-bytes, compiled, compile, image-after, work-after}
-use Rattle.stage5_image.specs.CompileLaws.{Acceptable}
-use Rattle.stage5_image.specs.CompileQuestions.{Compiles}
+use Rattle.stage5_image.specs.Compile.{work-bytes, Compiled, refused, too-long, compiled, compile-answer, written-part, image-after, work-after}
+use Rattle.stage5_image.specs.Compiles.{Acceptable, Compiles}
 use Rattle.stage6_machine.specs.Answer.{Answer}
 use Rattle.stage6_machine.specs.Run.{most-text-bytes, long-enough, stack-after}
 use Rattle.stage6_machine.specs.OwnAnswer.{OwnAnswer}
@@ -25,17 +25,35 @@ use Rattle.stage6_machine.specs.Runs.{Runs}
 
 -- Demand 1. "A caller may hand over any sheet, image, text and buffers, of any length and content, and always gets an answer that
 -- document 01 fixes: a result, or the number and place of the first question that fails, and what every lent buffer then holds."
--- Compiling and running are functions of all that is handed over (`compile`, `run`), and so are the buffers at the end
--- (`image-after`, `work-after`, `stack-after`): the code's contracts are equations with them. Here, that compiling ends at the first
--- question that fails, in the page's terms; that running gives the one answer which the page's terms (`Runs`) allow; and what the
--- buffers hold. `run` is handed to the record, so that nothing of its definition is to be believed.
-pub record Demand1 (run : List ℕ → List ℕ → ℕ → Answer) : Type 0 where
+-- `compile` and `run` are the functions that the code's contracts cite. What they answer is said here, by relations in the page's terms
+-- that have one answer each, so that their own definitions need not be read; then what is returned, and what every buffer holds.
+pub record Demand1 (compile : List ℕ → ℕ → ℕ → Compiled) (run : List ℕ → List ℕ → ℕ → Answer) : Type 0 where
   pub compiling : (sheet : List ℕ) → Bytes sheet → (work room : ℕ) → Compiles sheet work room (compile sheet work room)
-  pub running : (image text : List ℕ) → Bytes image → (entries : ℕ) → Runs image text entries (run image text entries)
-  pub one-running : (image text : List ℕ) → Bytes image → (entries : ℕ) (a b : Answer) → Runs image text entries a → Runs image text entries b → a ≡ b
+  pub one-ending : (sheet : List ℕ) → Bytes sheet → (work room : ℕ) (c d : Compiled) → Compiles sheet work room c → Compiles sheet work room d
+      → c ≡ d
+  -- "Compiling returns number, place and length: 0, 0 and bytes written on success; after 11 the bytes needed, otherwise length 0."
+  pub returned : (question place needed : ℕ) (image : List ℕ)
+      → (compile-answer (refused question place) ≡ record { number = question; place = place; length = 0 })
+      × (compile-answer (too-long needed) ≡ record { number = 11; place = 0; length = needed })
+      × (compile-answer (compiled image) ≡ record { number = 0; place = 0; length = length image })
+  -- "Success also hands back the written part of the image buffer, empty on refusal."
+  pub handed-back : (question place needed : ℕ) (image : List ℕ)
+      → (written-part (refused question place) ≡ []) × (written-part (too-long needed) ≡ []) × (written-part (compiled image) ≡ image)
+  -- "A refused compile leaves the image buffer untouched; success leaves the bytes past the image."
+  pub image-untouched : (question place needed : ℕ) (buffer : List ℕ)
+      → (image-after (refused question place) buffer ≡ buffer) × (image-after (too-long needed) buffer ≡ buffer)
+  pub image-written : (image buffer : List ℕ) → (take (length image) (image-after (compiled image) buffer) ≡ image)
+      × (drop (length image) (image-after (compiled image) buffer) ≡ drop (length image) buffer)
   pub image-kept : (sheet : List ℕ) (work : ℕ) (buffer : List ℕ)
       → length (image-after (compile sheet work (length buffer)) buffer) ≡ length buffer
+  -- "The first 65,536 work bytes end as zero, except after 1, when none changes; the rest never change."
+  pub work-short : (work : List ℕ) → length work < work-bytes → work-after work ≡ work
+  pub work-cleared : (work : List ℕ) → work-bytes ≤ length work → take work-bytes (work-after work) ≡ replicate work-bytes 0
+  pub work-rest : (work : List ℕ) → drop work-bytes (work-after work) ≡ drop work-bytes work
   pub work-kept : (work : List ℕ) → length (work-after work) ≡ length work
+  pub running : (image text : List ℕ) → Bytes image → (entries : ℕ) → Runs image text entries (run image text entries)
+  pub one-running : (image text : List ℕ) → Bytes image → (entries : ℕ) (a b : Answer) → Runs image text entries a
+      → Runs image text entries b → a ≡ b
   -- "The stack ends all zero, untouched after 12 and 13."
   pub stack-untouched : (a : Answer) (stack : List ℕ) → (a .number ≡ 12) ⊎ (a .number ≡ 13) → stack-after a stack ≡ stack
   pub stack-zero : (a : Answer) (stack : List ℕ) → (a .number ≡ 12 → ⊥) → (a .number ≡ 13 → ⊥)
@@ -45,7 +63,7 @@ pub record Demand1 (run : List ℕ → List ℕ → ℕ → Answer) : Type 0 whe
 -- empty text, its expression has a type under the published typing rules, and the image fits. The image is then the one normal
 -- form that document 01 sets out, and its start unfolds to exactly the rule sequences that spell a token sequence which the
 -- expression denotes, each token spelled by any rule that returns it."
-pub record Demand2 : Type 0 where
+pub record Demand2 (compile : List ℕ → ℕ → ℕ → Compiled) : Type 0 where
   pub accepted-exactly : (sheet : List ℕ) → Bytes sheet → (work room : ℕ) → work-bytes ≤ work
       → ((image : List ℕ) × (compile sheet work room ≡ compiled image)) ↔ ((s : Sheet) × Acceptable sheet room s)
   pub normal-form : (sheet : List ℕ) → Bytes sheet → (work room : ℕ) (image : List ℕ) → compile sheet work room ≡ compiled image
@@ -58,7 +76,7 @@ pub record Demand2 : Type 0 where
 -- exactly the sheet's own answer .. Only, the text must be within the limit and the stack have at least 1 + 30 × its length entries."
 -- Running gives the answer that `Runs` allows (demand 1). What follows from it by name is in `Corollaries`: `text-accepted-iff`,
 -- `accepted-answer`, `refused-place`, `nothing-accepted`, `stack-never-short`.
-pub record Demand3 : Type 0 where
+pub record Demand3 (compile : List ℕ → ℕ → ℕ → Compiled) : Type 0 where
   pub own-answer : (sheet : List ℕ) → Bytes sheet → (work room : ℕ) (image : List ℕ) → compile sheet work room ≡ compiled image
       → (s : Sheet) → Spells sheet s
       → (text : List ℕ) (entries : ℕ) → length text ≤ most-text-bytes → long-enough text ≤ entries

@@ -1,5 +1,5 @@
 -- The demands hold: their parts put together.
-use mathlib.Core.Path.{_≡_, refl, sym, ap, subst, _∙_}
+use mathlib.Core.Path.{_≡_, refl, sym, subst}
 use mathlib.Core.Bool.{Bool, true, false, cond, _||_}
 use mathlib.Core.List.{List, _++_}
 use mathlib.Core.Logic.{_↔_, _⊎_, ⊎-elim}
@@ -11,7 +11,7 @@ use lib.Dec.{eqb, ltb}
 use borrow.Author.Tests.{le-ltb, ltb-false}
 use Rattle.stage1_sheet.specs.Sheet.{Sheet}
 use Rattle.stage1_sheet.specs.WellFormed.{Spells}
-use Rattle.stage1_sheet.specs.FieldLaws.{Bytes}
+use Rattle.stage1_sheet.specs.Spelling.{Bytes}
 use Rattle.stage1_sheet.specs.ReadingLaws.{spelled-once}
 use Rattle.stage4_lexer.specs.Positions.{empty-match}
 use Rattle.stage4_lexer.specs.EmptyWord.{none-empty}
@@ -22,8 +22,10 @@ use Rattle.stage5_image.specs.FieldsLaws.{readable-one, image-readable}
 use Rattle.stage5_image.specs.Unfolding.{StartUnfolds, DenotedRules}
 use Rattle.stage5_image.specs.ImageLaws.{image-denotes, image-in-range}
 use Rattle.stage5_image.specs.Compile.{work-bytes, Compiled, refused, too-long, compiled, compile, image-after, work-after}
-use Rattle.stage5_image.specs.CompileLaws.{Acceptable, acceptable-compiles, compiled-acceptable, compiled-fits}
-use Rattle.stage5_image.specs.CompileQuestions.{compile-answers}
+use Rattle.stage5_image.specs.Compiles.{Acceptable}
+use Rattle.stage5_image.specs.CompileLaws.{acceptable-compiles, compiled-acceptable, compiled-fits}
+use Rattle.stage5_image.specs.CompileQuestions.{compile-answers, compiles-one}
+use Rattle.stage5_image.specs.BufferLaws.{answers, handed-back, refused-untouched, image-written, image-rest, work-short, work-cleared, work-rest}
 use Rattle.stage6_machine.specs.Answer.{Answer}
 use Rattle.stage6_machine.specs.Run.{most-text-bytes, run, long-enough, stack-after}
 use Rattle.stage6_machine.specs.Runs.{Runs, long-text, unreadable, no-entry, started}
@@ -64,13 +66,21 @@ work-kept work = go (ltb (length work) work-bytes) refl
 stack-untouched : (a : Answer) (stack : List ℕ) → (a .number ≡ 12) ⊎ (a .number ≡ 13) → stack-after a stack ≡ stack
 stack-untouched a stack h = ⊎-elim (stack-untouched-12 a stack) (stack-untouched-13 a stack) h
 
-pub demand-1 : Demand1 run
+pub demand-1 : Demand1 compile run
 demand-1 = record {
   compiling = λ sheet bytes work room. compile-answers sheet work room bytes;
+  one-ending = λ sheet bytes work room c d. compiles-one bytes;
+  returned = answers;
+  handed-back = handed-back;
+  image-untouched = refused-untouched;
+  image-written = λ image buffer. (image-written image buffer, image-rest image buffer);
+  image-kept = image-kept;
+  work-short = work-short;
+  work-cleared = work-cleared;
+  work-rest = work-rest;
+  work-kept = work-kept;
   running = λ image text bytes entries. run-runs image text entries bytes;
   one-running = λ image text bytes entries a b. runs-one image text entries bytes;
-  image-kept = image-kept;
-  work-kept = work-kept;
   stack-untouched = stack-untouched;
   stack-zero = stack-zero;
 }
@@ -109,7 +119,7 @@ unfolds-exactly sheet bytes work room image e s spells =
     let a = accepted-sheet sheet bytes work room image e s spells in
     image-denotes s ((spells .limits) .closed) (((a .0) .has-type) .1)
 
-pub demand-2 : Demand2
+pub demand-2 : Demand2 compile
 demand-2 = record { accepted-exactly = accepted-exactly; normal-form = accepted-normal-form; unfolds-exactly = unfolds-exactly }
 
 -- ---- demand 3
@@ -134,7 +144,7 @@ own-answer sheet bytes work room image e s spells text entries short long a runs
         runs-own-answer s text i entries (StandsFor s (spells .limits) typed)
         (subst (λ (j : Image). Faithful s j (StandsFor s (spells .limits) typed)) same faithful) long (start-stands s (spells .limits) typed) x
 
-pub demand-3 : Demand3
+pub demand-3 : Demand3 compile
 demand-3 = record { own-answer = own-answer; exactly = λ s text a b. own-answer-one s text }
 
 -- What `run` answers over the image that compiling made.

@@ -10,7 +10,8 @@ use Rattle.stage1_sheet.specs.Sheet.{Sheet}
 use Rattle.stage1_sheet.specs.FieldLaws.{Bytes}
 use Rattle.stage5_image.specs.Compile.{refused, too-long, compiled, compile, image-after}
 use Rattle.stage5_image.specs.Compile as page
-use Rattle.stage5_image.specs.CompileLaws.{Acceptable, acceptable-compiles, compiled-fits}
+use Rattle.stage5_image.specs.Compiles.{Acceptable}
+use Rattle.stage5_image.specs.CompileLaws.{acceptable-compiles, compiled-fits}
 use Rattle.stage5_image.specs.BufferLaws.{image-written}
 use Rattle.stage5_image.specs.ImageLength.{image-fits}
 use Rattle.stage4_lexer.specs.EmptyWord.{none-empty}
@@ -102,7 +103,6 @@ module _ (limit : ℕ) (text stack : List ℕ) {m : page.Compiled} where
 
 -- The part of the image buffer that was written is the image.
 pub written-image : (m : page.Compiled) (image buffer exit : List ℕ) → m ≡ compiled image → exit ≡ image-after m buffer → take (length image) exit ≡ image
-unfolding page.written-part
 written-image m image buffer exit e f = ap (take (length image)) (f ∙ ap (λ (x : page.Compiled). image-after x buffer) e) ∙ image-written image buffer
 
 -- The program's line.

@@ -7,7 +7,7 @@ use lib.ListN.{length}
 use Rattle.stage1_sheet.specs.Sheet.{Sheet}
 use Rattle.stage3_normal_form.specs.Productions.{most-growth}
 use Rattle.stage5_image.specs.Compile.{work-bytes, compile}
-use Rattle.stage5_image.specs.CompileLaws.{Acceptable}
+use Rattle.stage5_image.specs.Compiles.{Acceptable}
 use Rattle.stage6_machine.specs.Answer.{Answer}
 use Rattle.stage6_machine.specs.OwnAnswer.{OwnAnswer}
 use Rattle.stage7_engine.specs.declared.Line.{Line}

@@ -8,7 +8,7 @@ use lib.Dec.{ltb, eqb}
 use lib.ListN.{length}
 use Rattle.stage1_sheet.specs.Sheet.{Sheet}
 use Rattle.stage5_image.specs.Compile.{work-bytes, Compiled, refused, too-long, compiled}
-use Rattle.stage5_image.specs.CompileLaws.{Acceptable}
+use Rattle.stage5_image.specs.Compiles.{Acceptable}
 use Rattle.stage6_machine.specs.Answer.{Answer, answer}
 use Rattle.stage6_machine.specs.Run.{most-text-bytes, run, stack-after, long-enough}
 use Rattle.stage6_machine.specs.OwnAnswer.{OwnAnswer}

@@ -8,10 +8,6 @@ use Rattle.stage5_image.specs.Compile.{CompileAnswer}
 use Rattle.stage6_machine.specs.Answer.{Answer}
 use Rattle.vinzagew.specs.declared.Numbers.{Numbers}
 
--- "Compiling returns number, place and length"
-unfoldable pub compile-numbers : CompileAnswer → List ℕ
-compile-numbers a = a .number ∷ a .place ∷ a .length ∷ []
-
 -- The answer that three numbers hold.
 unfoldable pub numbers-held : Numbers → CompileAnswer
 numbers-held n = record { number = n .number; place = n .place; length = n .length }

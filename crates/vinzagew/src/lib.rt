@@ -3,10 +3,10 @@
 use stage5_image_compiler::Compiled;
 ghost use mathlib.Core.Path.{_≡_};
 ghost use lib.ListN.{length};
-ghost use Rattle.stage5_image.specs.Compile.{compile, compile-answer, image-after, work-after};
+ghost use Rattle.stage5_image.specs.Compile.{compile, compile-answer, answer-numbers, image-after, work-after};
 ghost use Rattle.stage6_machine.specs.Run.{run, stack-after};
 ghost use Rattle.stage5_image_compiler.specs.Answer.{answer-of};
-ghost use Rattle.vinzagew.specs.Out.{numbers-held, compile-numbers, run-numbers, out-after, if-room};
+ghost use Rattle.vinzagew.specs.Out.{numbers-held, run-numbers, out-after, if-room};
 
 // Document 01's number, place and length for each way in which compiling ends.
 struct Numbers {
@@ -43,7 +43,7 @@ fn numbers_of(made: Compiled) -> Numbers
 pub extern "C" fn sheet_compile(sheet: &[u8], work: &mut [u8], image: &mut [u8], out: &mut [u64])
     ensures { λ r.
         ⌜ (now (out .exit) ≡ out-after
-        (compile-numbers (compile-answer (compile (now (sheet .entry)) (length (now (work .entry))) (length (now (image .entry))))))
+        (answer-numbers (compile-answer (compile (now (sheet .entry)) (length (now (work .entry))) (length (now (image .entry))))))
         (now (out .entry)))
         × (now (image .exit) ≡ if-room (now (out .entry))
         (image-after (compile (now (sheet .entry)) (length (now (work .entry))) (length (now (image .entry)))) (now (image .entry)))

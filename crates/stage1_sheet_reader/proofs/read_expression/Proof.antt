@@ -10,14 +10,14 @@ use Rattle.stage1_sheet.specs.Reading.{expression-nodes}
 use Rattle.stage1_sheet_reader.specs.Put.{with-read-node, no-nodes}
 use Rattle.stage1_sheet_reader.specs.Answers.{PendingFit}
 use Rattle.stage1_sheet_reader.proofs.Leading.{Leads, leads-start, leads-next, leads-stop, leads-end}
-use Rattle.stage1_sheet_reader.proofs.ExpressionTurns.{node-stopped, start-fits, nodes-from, nodes-whole, nodes-stop, nodes-end, node-again}
+use Rattle.stage1_sheet_reader.proofs.ExpressionTurns.{node-stopped, start-fits, nodes-still, nodes-whole, nodes-stop, nodes-end, node-again}
 use Rattle.stage1_sheet_reader.proofs.read_expression.Statement.{statement}
 use Rattle.stage1_sheet_reader.proofs.read_expression.Tie as tie
 
 abbrev Inv-loop : tie.InvT-loop
 Inv-loop sheet at tokens place₀ nodes₀ pending₀ place nodes pending =
     (place ≤ length sheet) × PendingFit nodes pending
-    × Leads with-read-node (length sheet) (nodes-from sheet tokens nodes pending place) nodes
+    × Leads with-read-node (length sheet) (nodes-still sheet tokens nodes pending place) nodes
     (expression-nodes sheet tokens 64 (0 ∷ []) at) no-nodes
 
 abbrev μ-loop : tie.MeasureT-loop

@@ -79,7 +79,7 @@ returns-3 c =
     let h = head-told told in
     let x = called .read-rules .ensures in
     let w = was-read (x .answers) (stepped .step2 .given .1) in
-    sheet-rest (now (z .args .sheet)) _ (h .read) (bytes-told told) (h .inside) (w .inside) (w .read) (w .columns) (x .fits) (c .read-rest .ensures)
+    sheet-rest (now (z .args .sheet)) _ (h .read) (bytes-told told) (w .read) (w .columns) (x .fits) (c .read-rest .ensures)
 
 pub read-sheet-spec : {M : Type 1} → statement M
 read-sheet-spec =

@@ -25,7 +25,7 @@ slice-aggregate-result c =
     let called = told .before .before .before .before .before .before in
     let z = called .before .before .before .before .before .before in
     let r = called .compile in
-    let e = sym (r .ensures .3) ∙ told .compiled .given .1 in
+    let e = sym (r .ensures .0) ∙ told .compiled .given .1 in
     sym (length-take-le _ (r .last .1 .1 .0) (part-done (made z) (now (z .args .image)) (r .last .1 .1 .0) e (r .ensures .1) .0))
 
 enum-known-compiled-2 : tie.Need-enum-known-compiled-2
@@ -52,7 +52,7 @@ returns c =
     let called = told .before .before .before .before .before .before in
     let z = called .before .before .before .before .before .before in
     let r = called .compile in
-    let e = sym (r .ensures .3) ∙ told .compiled .given .1 in
+    let e = sym (r .ensures .0) ∙ told .compiled .given .1 in
     let p = part-done (made z) (now (z .args .image)) (r .last .1 .1 .0) e (r .ensures .1) in (p .1, p .2, r .ensures .2)
 
 same-length-2 : tie.Need-same-length-2
@@ -64,7 +64,7 @@ returns-2 c =
     let called = told .before .before .before .before .before .before in
     let z = called .before .before .before .before .before .before in
     let r = called .compile in
-    let e = sym (r .ensures .3) ∙ told .compiled2 .given .1 in
+    let e = sym (r .ensures .0) ∙ told .compiled2 .given .1 in
     let p = part-too-long (made z) e in (p .0, p .1, r .ensures .2)
 
 same-length-3 : tie.Need-same-length-3
@@ -76,7 +76,7 @@ returns-3 c =
     let called = told .before .before .before .before .before .before in
     let z = called .before .before .before .before .before .before in
     let r = called .compile in
-    let e = sym (r .ensures .3) ∙ told .compiled3 .given .1 in
+    let e = sym (r .ensures .0) ∙ told .compiled3 .given .1 in
     let p = part-refused (made z) e in (p .0, p .1, r .ensures .2)
 
 pub compile-part-spec : {M : Type 1} → statement M

@@ -56,7 +56,7 @@ returns c =
     let z = c .before .before .before .before .before .before .before .before .before .before .before .before .before .before .before .before .args in
     let k = c .before .before .before .before .before .before .before .before .compile in
     let m = compile (now (z .sheet)) (length (now (z .work))) (length (now (z .image))) in
-    let d = case-done m _ (sym (k .ensures .3) ∙ c .before .before .made2 .given .1) in
+    let d = case-done m _ (sym (k .ensures .0) ∙ c .before .before .made2 .given .1) in
     let t = told-over (z .limit) (now (z .text)) (now (z .stack)) (length (now (z .stack))) (d .0) (d .1) (c .if1 .taken) in (
       t .0,
       k .ensures .1,
@@ -71,7 +71,7 @@ slice-reshare-prefix-run c =
     let z = c .before .before .before .before .before .before .before .before .before .before .before .before .before .before .before .before .args in
     let k = c .before .before .before .before .before .before .before .before .compile in
     let m = compile (now (z .sheet)) (length (now (z .work))) (length (now (z .image))) in
-    let d = case-done m _ (sym (k .ensures .3) ∙ c .before .before .made2 .given .1) in
+    let d = case-done m _ (sym (k .ensures .0) ∙ c .before .before .made2 .given .1) in
     let f = compiled-fits (now (z .sheet)) (length (now (z .work))) (length (now (z .image))) (d .0) (d .1) in
     let l = ap length (k .ensures .1) ∙ demand-1 .image-kept (now (z .sheet)) (length (now (z .work))) (now (z .image)) in
     omega (arith, d .2, f, l)
@@ -82,7 +82,7 @@ slice-aggregate-run c =
     let z = c .before .before .before .before .before .before .before .before .before .before .before .before .before .before .before .before .before .args in
     let k = c .before .before .before .before .before .before .before .before .before .compile in
     let m = compile (now (z .sheet)) (length (now (z .work))) (length (now (z .image))) in
-    let d = case-done m _ (sym (k .ensures .3) ∙ c .before .before .before .made2 .given .1) in
+    let d = case-done m _ (sym (k .ensures .0) ∙ c .before .before .before .made2 .given .1) in
     let f = compiled-fits (now (z .sheet)) (length (now (z .work))) (length (now (z .image))) (d .0) (d .1) in
     let l = ap length (k .ensures .1) ∙ demand-1 .image-kept (now (z .sheet)) (length (now (z .work))) (now (z .image)) in
     sym (length-take-le (c .before .before .before .made2 .given .0 .0) (k .last .1 .1 .0) (omega (arith, d .2, f, l)))
@@ -105,7 +105,7 @@ returns-2 c =
     let z = c .before .before .before .before .before .before .before .before .before .before .before .before .before .before .before .args in
     let k = c .before .before .before .before .before .before .before .compile in
     let m = compile (now (z .sheet)) (length (now (z .work))) (length (now (z .image))) in
-    let e = case-refused m _ _ (sym (k .ensures .3) ∙ c .before .made .given .1) in
+    let e = case-refused m _ _ (sym (k .ensures .0) ∙ c .before .made .given .1) in
     let t = told-refused (z .limit) (now (z .text)) (now (z .stack)) (length (now (z .stack))) _ _ e in (
       t .0,
       k .ensures .1,
@@ -128,7 +128,7 @@ returns-3 c =
     let z = c .before .before .before .before .before .before .before .before .before .before .before .before .before .before .args in
     let k = c .before .before .before .before .before .before .compile in
     let m = compile (now (z .sheet)) (length (now (z .work))) (length (now (z .image))) in
-    let e = case-long m _ (sym (k .ensures .3) ∙ c .enum-told .given .1) in
+    let e = case-long m _ (sym (k .ensures .0) ∙ c .enum-told .given .1) in
     let t = told-long (z .limit) (now (z .text)) (now (z .stack)) (length (now (z .stack))) _ e in (
       t .0,
       k .ensures .1,
@@ -156,7 +156,7 @@ returns-4 c =
     let z = c .before .before .before .before .before .before .before .before .before .before .before .before .before .before .before .before .before .before .before .before .before .args in
     let k = c .before .before .before .before .before .before .before .before .before .before .before .before .before .compile in
     let m = compile (now (z .sheet)) (length (now (z .work))) (length (now (z .image))) in
-    let d = case-done m _ (sym (k .ensures .3) ∙ c .before .before .before .before .before .before .before .made2 .given .1) in
+    let d = case-done m _ (sym (k .ensures .0) ∙ c .before .before .before .before .before .before .before .made2 .given .1) in
     let r = c .before .before .run in
     let bytes : Bytes (now (z .sheet)) = λ i. c .before .before .before .before .before .before .before .before .before .before .before .before .before .before .before .before .before .before .before .before .shared-slice-known .given i .fits in
     let w = written-image m (d .0) (now (z .image)) _ (d .1) (k .ensures .1) in

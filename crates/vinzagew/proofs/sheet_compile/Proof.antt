@@ -2,7 +2,9 @@
 use mathlib.Core.Path.{_≡_, ap, _∙_}
 use native.Mathlib.Omega.{arith}
 use lib.ListN.{length-set}
-use Rattle.vinzagew.specs.Out.{compile-numbers, numbers-held}
+use Rattle.stage5_image.specs.Compile.{answer-numbers}
+use Rattle.stage5_image_compiler.specs.Answer.{answer-of, case-answer}
+use Rattle.vinzagew.specs.Out.{numbers-held}
 use Rattle.vinzagew.proofs.Laws.{out-short, out-long, same-short, after-long}
 use borrow.Author.Needs.{needs}
 use Rattle.vinzagew.proofs.sheet_compile.Statement.{statement}
@@ -56,13 +58,13 @@ same-length-3 c = search needs
 
 -- src/lib.rt:43:1
 returns-2 : tie.Need-returns-2
-unfolding compile-numbers numbers-held
+unfolding answer-numbers numbers-held
 returns-2 c =
     let z = c .before .before .before .before .before .before .before .before .before .before .before .before .before .args in
     let long = c .before .before .before .before .before .before .before .before .if1 .left in
     let k = c .before .before .before .before .before .compile in
-    let e = c .numbers-of .ensures ∙ k .ensures .0 in (
-      out-long (z .out .now) _ _ _ (ap compile-numbers e) long,
+    let e = c .numbers-of .ensures ∙ ap answer-of (k .ensures .0) ∙ case-answer _ in (
+      out-long (z .out .now) _ _ _ (ap answer-numbers e) long,
       k .ensures .1 ∙ after-long (z .out .now) _ (z .image .now) long,
       k .ensures .2 ∙ after-long (z .out .now) _ (z .work .now) long,
     )
