@@ -1,7 +1,7 @@
 -- The three demands, each as one statement to be held against the page, over the definitions that the code's contracts cite.
 -- The proofs are elsewhere: `Proofs` puts them together. The contracts:
 --   `stage5_image_compiler`: `compile` equals `compile` here, and leaves `image-after` and `work-after`;
---   `stage6_machine_runner`: `run` equals `run` here, and leaves `stack-after`;
+--   `stage6_machine_runner`: `run` equals stage6_machine's `run`, and leaves its `stack-after`, of which demand 1 is proved;
 --   `stage7_engine`: `read_text` has `OwnAnswer` itself in its contract, and all three buffers;
 --   `vinzagew`: `sheet_compile` and `image_run` hand on the first two.
 use mathlib.Core.Path.{_≡_}
@@ -19,7 +19,7 @@ use Rattle.stage5_image.specs.Compile.{work-bytes, compiled, compile, image-aft
 use Rattle.stage5_image.specs.CompileLaws.{Acceptable}
 use Rattle.stage5_image.specs.CompileQuestions.{Compiles}
 use Rattle.stage6_machine.specs.Answer.{Answer}
-use Rattle.stage6_machine.specs.Run.{most-text-bytes, long-enough, stack-after}
+use Rattle.stage6_machine.specs.Run.{most-text-bytes, long-enough}
 use Rattle.stage6_machine.specs.OwnAnswer.{OwnAnswer}
 use Rattle.stage6_machine.specs.Runs.{Runs}
 
@@ -28,8 +28,8 @@ use Rattle.stage6_machine.specs.Runs.{Runs}
 -- Compiling and running are functions of all that is handed over (`compile`, `run`), and so are the buffers at the end
 -- (`image-after`, `work-after`, `stack-after`): the code's contracts are equations with them. Here, that compiling ends at the first
 -- question that fails, in the page's terms; that running gives the one answer which the page's terms (`Runs`) allow; and what the
--- buffers hold. `run` is handed to the record, so that nothing of its definition is to be believed.
-pub record Demand1 (run : List ℕ → List ℕ → ℕ → Answer) : Type 0 where
+-- buffers hold. `run` and `stack-after` are handed to the record, so that nothing of their definitions is to be believed.
+pub record Demand1 (run : List ℕ → List ℕ → ℕ → Answer) (stack-after : Answer → List ℕ → List ℕ) : Type 0 where
   pub compiling : (sheet : List ℕ) → Bytes sheet → (work room : ℕ) → Compiles sheet work room (compile sheet work room)
   pub running : (image text : List ℕ) → Bytes image → (entries : ℕ) → Runs image text entries (run image text entries)
   pub one-running : (image text : List ℕ) → Bytes image → (entries : ℕ) (a b : Answer) → Runs image text entries a → Runs image text entries b → a ≡ b
@@ -57,7 +57,7 @@ pub record Demand2 : Type 0 where
 -- Demand 3. "Whatever bytes a text holds, for every sheet that demand 2 accepts, running the image fixed there over the text gives
 -- exactly the sheet's own answer .. Only, the text must be within the limit and the stack have at least 1 + 30 × its length entries."
 -- Running gives the answer that `Runs` allows (demand 1). What follows from it by name is in `Corollaries`: `text-accepted-iff`,
--- `accepted-answer`, `refused-place`, `nothing-accepted`, `stack-never-short`.
+-- `text-accepted-answer`, `text-refused-place`, `nothing-accepted`, `stack-never-short`.
 pub record Demand3 : Type 0 where
   pub own-answer : (sheet : List ℕ) → Bytes sheet → (work room : ℕ) (image : List ℕ) → compile sheet work room ≡ compiled image
       → (s : Sheet) → Spells sheet s

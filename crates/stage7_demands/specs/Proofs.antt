@@ -61,7 +61,7 @@ work-kept work = go (ltb (length work) work-bytes) refl
 stack-untouched : (a : Answer) (stack : List ℕ) → (a .number ≡ 12) ⊎ (a .number ≡ 13) → stack-after a stack ≡ stack
 stack-untouched a stack h = ⊎-elim (stack-untouched-12 a stack) (stack-untouched-13 a stack) h
 
-pub demand-1 : Demand1 run
+pub demand-1 : Demand1 run stack-after
 demand-1 = record {
   compiling = λ sheet bytes work room. compile-answers sheet work room bytes;
   running = λ image text bytes entries. run-runs image text entries bytes;
