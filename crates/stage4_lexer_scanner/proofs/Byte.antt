@@ -21,12 +21,12 @@ use Rattle.stage4_lexer_scanner.specs.declared.Ended.{Ended}
 use Rattle.stage4_lexer_scanner.specs.declared.Ended.the-variants.{NoRule, Lowest}
 use Rattle.stage4_lexer_scanner.specs.declared.AfterByte.{AfterByte}
 use Rattle.stage4_lexer_scanner.specs.Meaning.{rule-of, LeadsTo}
-use Rattle.stage4_lexer_scanner.specs.Turn.{lowest, position, turn}
+use Rattle.stage4_lexer_scanner.specs.Turn.{lowest, position, with-position}
 
 -- The turns from position i on.
 unfoldable pub turns : List Position → ℕ → ℕ → ℕ → AfterByte → AfterByte
 turns [] i held b s = s
-turns (p ∷ ps) i held b s = turns ps (suc i) held b (turn p (bit held i) b s)
+turns (p ∷ ps) i held b s = turns ps (suc i) held b (with-position p (bit held i) b s)
 
 -- The state before the first turn.
 abbrev pub start : AfterByte
@@ -43,7 +43,7 @@ one-next one i h e =
 
 -- Where the set is below 2^i, no position from i on is held.
 none-left : (ps : List Position) (i held b : ℕ) (s : AfterByte) → held < 2 ^ i → turns ps i held b s ≡ s
-unfolding turns turn
+unfolding turns with-position
 none-left [] i held b s h = refl
 none-left (p ∷ ps) i held b s h =
     rw (bit-high i held i h (omega arith)) (none-left ps (suc i) held b s (omega (arith, pow-suc 2 i)))
@@ -55,7 +55,7 @@ module _ (low high rule follow : List ℕ) (last count held b : ℕ) where
 
   pub turns-more : (i one : ℕ) (s next : AfterByte) → i < count → one ≡ 2 ^ i
       → next
-      ≡ turn
+      ≡ with-position
       (position (getD low i 0) (getD high i 0) (getD rule i 0) (not (eqb (bitAnd last one) 0)) (getD follow i 0))
       (not (eqb (bitAnd held one) 0))
       b
@@ -150,11 +150,11 @@ ended-first p ps i kept x e =
 turns-are : (ps : List Position) (i held b kept : ℕ) (s : AfterByte) → ((j : ℕ) → i ≤ j → bit kept j ≡ bit (keep ps i held b) j)
     → (turns ps i held b s .held ≡ bitOr (s .held) (follows ps i kept))
     × (rule-of (turns ps i held b s .ended) ≡ joined (rule-of (s .ended)) (ended ps i kept))
-unfolding turns turn follows ended
+unfolding turns with-position follows ended
 turns-are [] i held b kept s f = (sym (or-zero-r (s .held)), joined-none (rule-of (s .ended)))
 turns-are (p ∷ ps) i held b kept s f =
     let e : bit kept i ≡ (bit held i && has-byte p b) = f i (omega arith) ∙ keep-here p ps i held b in
-    let rest = turns-are ps (suc i) held b kept (turn p (bit held i) b s)
+    let rest = turns-are ps (suc i) held b kept (with-position p (bit held i) b s)
     (λ j l. f j (omega arith) ∙ keep-other p ps i held b j (λ q. omega arith)) in (
       rest .0 ∙ rw e (held-turn (bit held i && has-byte p b) p s _ (follows ps (suc i) kept)),
       rest .1

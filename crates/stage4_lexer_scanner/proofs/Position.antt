@@ -10,7 +10,7 @@ use Rattle.stage4_lexer.specs.Walk.{has-byte}
 use Rattle.stage4_lexer_scanner.specs.declared.Ended.{Ended}
 use Rattle.stage4_lexer_scanner.specs.declared.Ended.the-variants.{NoRule, Lowest}
 use Rattle.stage4_lexer_scanner.specs.declared.AfterByte.{AfterByte}
-use Rattle.stage4_lexer_scanner.specs.Turn.{lowest, turn}
+use Rattle.stage4_lexer_scanner.specs.Turn.{lowest, with-position}
 
 -- The lower of two rules.
 pub lowest-first : (rule : ℕ) → Lowest rule ≡ lowest rule NoRule
@@ -34,25 +34,25 @@ not-false x e = sym (Bool·not-not x) ∙ ap not e
 
 -- The ways through one position.
 module _ (p : Position) (is-held : Bool) (b : ℕ) (s : AfterByte) where
-  pub turn-not-held : not is-held ≡ true → s ≡ turn p is-held b s
-  unfolding turn
+  pub turn-not-held : not is-held ≡ true → s ≡ with-position p is-held b s
+  unfolding with-position
   turn-not-held e = rw (not-true is-held e)
 
-  pub turn-below : not is-held ≡ false → b < p .low → s ≡ turn p is-held b s
-  unfolding turn has-byte
+  pub turn-below : not is-held ≡ false → b < p .low → s ≡ with-position p is-held b s
+  unfolding with-position has-byte
   turn-below e h = rw (not-false is-held e, lt-leb (p .low) b h)
 
-  pub turn-above : not is-held ≡ false → p .low ≤ b → p .high < b → s ≡ turn p is-held b s
-  unfolding turn has-byte
+  pub turn-above : not is-held ≡ false → p .low ≤ b → p .high < b → s ≡ with-position p is-held b s
+  unfolding with-position has-byte
   turn-above e l h = rw (not-false is-held e, le-leb (p .low) b l, lt-leb b (p .high) h)
 
   pub turn-kept : not is-held ≡ false → p .low ≤ b → b ≤ p .high → not (p .last) ≡ true
-      → record { held = bitOr (s .held) (p .follow); ended = s .ended } ≡ turn p is-held b s
-  unfolding turn has-byte
+      → record { held = bitOr (s .held) (p .follow); ended = s .ended } ≡ with-position p is-held b s
+  unfolding with-position has-byte
   turn-kept e l h k = rw (not-false is-held e, le-leb (p .low) b l, le-leb b (p .high) h, not-true (p .last) k)
 
   pub turn-last : not is-held ≡ false → p .low ≤ b → b ≤ p .high → not (p .last) ≡ false → (ended : Ended)
       → ended ≡ lowest (p .rule) (s .ended)
-      → record { held = bitOr (s .held) (p .follow); ended = ended } ≡ turn p is-held b s
-  unfolding turn has-byte
+      → record { held = bitOr (s .held) (p .follow); ended = ended } ≡ with-position p is-held b s
+  unfolding with-position has-byte
   turn-last e l h k ended d = rw (d, not-false is-held e, le-leb (p .low) b l, le-leb b (p .high) h, not-false (p .last) k)

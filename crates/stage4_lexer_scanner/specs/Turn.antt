@@ -20,8 +20,8 @@ position low high rule last follow = record { low = low; high = high; rule = rul
 
 -- The state with one more position looked at: where it is held and its class has the byte, its follow set joins, and where it is
 -- last as well, its rule has ended.
-unfoldable pub turn : Position → Bool → ℕ → AfterByte → AfterByte
-turn p is-held b s =
+unfoldable pub with-position : Position → Bool → ℕ → AfterByte → AfterByte
+with-position p is-held b s =
     cond (is-held && has-byte p b)
     (record { held = bitOr (s .held) (p .follow); ended = cond (p .last) (lowest (p .rule) (s .ended)) (s .ended) })
     s

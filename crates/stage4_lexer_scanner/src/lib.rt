@@ -6,7 +6,7 @@ ghost use Rattle.stage4_lexer.specs.Match.{longer};
 ghost use Rattle.stage4_lexer.specs.Walk.{longest-match};
 ghost use Rattle.stage4_lexer_columns.specs.Held.{held-from};
 ghost use Rattle.stage4_lexer_scanner.specs.Meaning.{match-of, rule-of, LeadsTo};
-ghost use Rattle.stage4_lexer_scanner.specs.Turn.{lowest, position, turn};
+ghost use Rattle.stage4_lexer_scanner.specs.Turn.{lowest, position, with-position};
 
 // The longest match: the lowest rule that has it, and its length.
 pub enum Found {
@@ -53,7 +53,7 @@ fn at_position(
     is_last: bool,
     follow: u64,
 ) -> AfterByte
-    ensures { λ r. ⌜ r ≡ turn (position low high rule «is_last» follow) «is_held» byte «so_far» ⌝ }
+    ensures { λ r. ⌜ r ≡ with-position (position low high rule «is_last» follow) «is_held» byte «so_far» ⌝ }
 {
     if !is_held {
         return so_far;

@@ -2,29 +2,24 @@
 -- leaves the bytes past the image. The first 65,536 work bytes end as zero, except after 1, when none changes; the rest never
 -- change."
 use mathlib.Core.Path.{_≡_, refl}
-use mathlib.Core.List.{List, []}
+use mathlib.Core.List.{List, [], _++_}
 use Prim.Native.Nat.{ℕ, _≤_, _<_}
-use lib.ListN.{length, take, drop, replicate, length-replicate}
-use lib.Seq.{take-at, drop-at}
+use lib.ListN.{length, take, drop, replicate}
+use lib.Seq.{take-at}
 use borrow.Author.Tests.{lt-ltb, le-ltb}
-use Rattle.stage0_laws.specs.Order.{lt-or-le}
-use mathlib.Core.Logic.{⊎-elim}
 use Rattle.stage5_image.specs.Compile.{work-bytes, refused, too-long, compiled, compile-answer, image-after, written-part, work-after}
 
--- Refused: nothing is written.
-pub refused-untouched : (question place needed : ℕ) (buffer : List ℕ)
+-- "A refused compile leaves the image buffer untouched; success leaves the bytes past the image."
+pub image-buffer : (question place needed : ℕ) (image buffer : List ℕ)
     → (image-after (refused question place) buffer ≡ buffer) × (image-after (too-long needed) buffer ≡ buffer)
+    × (image-after (compiled image) buffer ≡ image ++ drop (length image) buffer)
 unfolding image-after
-refused-untouched question place needed buffer = (refl, refl)
+image-buffer question place needed image buffer = (refl, refl, refl)
 
--- Success: the image, and then what was there.
+-- The written part is the image.
 pub image-written : (image buffer : List ℕ) → take (length image) (image-after (compiled image) buffer) ≡ image
 unfolding image-after
 image-written image buffer = take-at image (drop (length image) buffer) (length image) refl
-
-pub image-rest : (image buffer : List ℕ) → drop (length image) (image-after (compiled image) buffer) ≡ drop (length image) buffer
-unfolding image-after
-image-rest image buffer = drop-at image (drop (length image) buffer) (length image) refl
 
 -- "Success also hands back the written part of the image buffer, empty on refusal."
 pub handed-back : (question place needed : ℕ) (image : List ℕ)
@@ -45,13 +40,6 @@ pub work-short : (work : List ℕ) → length work < work-bytes → work-after w
 unfolding work-after
 work-short work h = rw (lt-ltb (length work) work-bytes h)
 
-pub work-cleared : (work : List ℕ) → work-bytes ≤ length work → take work-bytes (work-after work) ≡ replicate work-bytes 0
+pub work-cleared : (work : List ℕ) → work-bytes ≤ length work → work-after work ≡ replicate work-bytes 0 ++ drop work-bytes work
 unfolding work-after
-work-cleared work h = rw (le-ltb (length work) work-bytes h) (take-at (replicate work-bytes 0) (drop work-bytes work) work-bytes (length-replicate {A = ℕ} work-bytes 0))
-
-pub work-rest : (work : List ℕ) → drop work-bytes (work-after work) ≡ drop work-bytes work
-unfolding work-after
-work-rest work =
-    ⊎-elim (λ h. rw (lt-ltb (length work) work-bytes h))
-    (λ h. rw (le-ltb (length work) work-bytes h) (drop-at (replicate work-bytes 0) (drop work-bytes work) work-bytes (length-replicate {A = ℕ} work-bytes 0)))
-    (lt-or-le (length work) work-bytes)
+work-cleared work h = rw (le-ltb (length work) work-bytes h)

@@ -22,7 +22,7 @@ use Rattle.stage5_image.specs.Image.{Image}
 use Rattle.stage6_machine.specs.Answer.{Answer, answer}
 use Rattle.stage6_machine.specs.Turn.{take-rule, all-nullable}
 use Rattle.stage6_machine.specs.Run.{match-at, run-image, long-enough}
-use Rattle.stage6_machine.specs.Runs.{RunsFrom, nullable-at-end, pending-at-end, unmatched, skipped, untaken, overflowed, taken}
+use Rattle.stage6_machine.specs.Runs.{RunsFrom, nullable-at-end, pending-at-end, nothing-matched, rule-skipped, rule-untaken, stack-overflowed, rule-taken}
 use Rattle.stage6_machine.specs.RunsLaws.{start-runs}
 use Rattle.stage6_machine.specs.OwnAnswer.{Allowed, ActionOf, AnswersFrom, accepts, ends-early, no-rule, skips, takes, refuses, OwnAnswer}
 
@@ -52,14 +52,14 @@ module _ (s : Sheet) (text : List ℕ) (image : Image) (entries : ℕ) (StandsFo
     earlier : count ≤ p
 
   -- A match that the image finds is the sheet's, with the action of its rule.
-  record Found (p rule n : ℕ) : Type 0 where
+  record MatchFound (p rule n : ℕ) : Type 0 where
     longest : LongestMatch (s .rules) (drop p text) rule n
     some-bytes : 0 < n
     further : p + n ≤ length text
     action : ℕ
     acts : ActionOf s rule action
 
-  found : (p rule n : ℕ) → p < length text → match-at image text p ≡ matched rule n → Found p rule n
+  found : (p rule n : ℕ) → p < length text → match-at image text p ≡ matched rule n → MatchFound p rule n
   found p rule n l e =
       let m = subst (Right (s .rules) (drop p text)) e (faithful .matching (drop p text)) in
       let w = (m .0) .matches in
@@ -98,8 +98,8 @@ module _ (s : Sheet) (text : List ℕ) (image : Image) (entries : ℕ) (StandsFo
       rw (h .counted) (accepts e (faithful .ending pending tokens (h .stands) .0 n))
   runs-answer (pending-at-end {pending = pending} e n) tokens h =
       rw (h .counted) (ends-early e (λ d. true≢false (sym (faithful .ending pending tokens (h .stands) .1 d) ∙ n)))
-  runs-answer (unmatched {p = p} l m) tokens h = rw (h .counted) (no-rule l (not-found p m))
-  runs-answer (skipped {p = p} rule n l m k r) tokens h =
+  runs-answer (nothing-matched {p = p} l m) tokens h = rw (h .counted) (no-rule l (not-found p m))
+  runs-answer (rule-skipped {p = p} rule n l m k r) tokens h =
       let f = found p rule n l m in
       skips rule n l (f .longest) (skipping rule (f .action) (f .acts) k)
       (runs-answer r tokens (record {
@@ -109,18 +109,18 @@ module _ (s : Sheet) (text : List ℕ) (image : Image) (entries : ℕ) (StandsFo
         few = h .few;
         earlier = (let c = h .earlier in omega arith);
       }))
-  runs-answer (untaken {p = p} {pending = pending} rule n l m k t) tokens h =
+  runs-answer (rule-untaken {p = p} {pending = pending} rule n l m k t) tokens h =
       let f = found p rule n l m in
       let token = returning rule (f .action) (f .acts) k in
       let x = subst (TakenIs s StandsFor pending tokens (token .0)) t (faithful .taking pending tokens rule (token .0) (h .stands) (token .1)) in
       rw (h .counted) (refuses rule n (token .0) l (f .longest) (token .1) x)
-  runs-answer (overflowed {p = p} {pending = pending} {count = count} rule n next l m k t o) tokens h =
+  runs-answer (stack-overflowed {p = p} {pending = pending} {count = count} rule n next l m k t o) tokens h =
       let f = found p rule n l m in
       let token = returning rule (f .action) (f .acts) k in
       let x = subst (TakenIs s StandsFor pending tokens (token .0)) t (faithful .taking pending tokens rule (token .0) (h .stands) (token .1)) in
       let fits = few-next p count pending next l (h .earlier) (h .few) (x .2) in
       absurd (omega (arith, fits .1))
-  runs-answer (taken {p = p} {pending = pending} {count = count} rule n next l m k t o r) tokens h =
+  runs-answer (rule-taken {p = p} {pending = pending} {count = count} rule n next l m k t o r) tokens h =
       let f = found p rule n l m in
       let token = returning rule (f .action) (f .acts) k in
       let x = subst (TakenIs s StandsFor pending tokens (token .0)) t (faithful .taking pending tokens rule (token .0) (h .stands) (token .1)) in

@@ -22,23 +22,23 @@ pub data RunsFrom (image : Image) (text : List ℕ) (entries : ℕ) : ℕ → Li
   pending-at-end : {p : ℕ} {pending : List ℕ} {count : ℕ}
       → p ≡ length text → all-nullable (image .rows) pending ≡ false → RunsFrom image text entries p pending count (answer 16 p count)
   -- "Does a rule match here? No: 14."
-  unmatched : {p : ℕ} {pending : List ℕ} {count : ℕ}
+  nothing-matched : {p : ℕ} {pending : List ℕ} {count : ℕ}
       → p < length text → match-at image text p ≡ no-match → RunsFrom image text entries p pending count (answer 14 p count)
   -- "A skip moves on."
-  skipped : {p : ℕ} {pending : List ℕ} {count : ℕ} {a : Answer} (rule n : ℕ)
+  rule-skipped : {p : ℕ} {pending : List ℕ} {count : ℕ} {a : Answer} (rule n : ℕ)
       → p < length text → match-at image text p ≡ matched rule n → getD (image .skips) rule false ≡ true
       → RunsFrom image text entries (p + n) pending count a → RunsFrom image text entries p pending count a
   -- "Does a pending nonterminal take it? No: 15."
-  untaken : {p : ℕ} {pending : List ℕ} {count : ℕ} (rule n : ℕ)
+  rule-untaken : {p : ℕ} {pending : List ℕ} {count : ℕ} (rule n : ℕ)
       → p < length text → match-at image text p ≡ matched rule n → getD (image .skips) rule false ≡ false
       → take-rule (image .rows) pending rule ≡ none → RunsFrom image text entries p pending count (answer 15 p count)
   -- "Does the stack hold all pending nonterminals .. after each take? No: 17, at .. that token's start."
-  overflowed : {p : ℕ} {pending : List ℕ} {count : ℕ} (rule n : ℕ) (next : List ℕ)
+  stack-overflowed : {p : ℕ} {pending : List ℕ} {count : ℕ} (rule n : ℕ) (next : List ℕ)
       → p < length text → match-at image text p ≡ matched rule n → getD (image .skips) rule false ≡ false
       → take-rule (image .rows) pending rule ≡ some next → entries < length next
       → RunsFrom image text entries p pending count (answer 17 p count)
   -- "One with a production for that rule takes it, its tail replaces it, and the text moves on."
-  taken : {p : ℕ} {pending : List ℕ} {count : ℕ} {a : Answer} (rule n : ℕ) (next : List ℕ)
+  rule-taken : {p : ℕ} {pending : List ℕ} {count : ℕ} {a : Answer} (rule n : ℕ) (next : List ℕ)
       → p < length text → match-at image text p ≡ matched rule n → getD (image .skips) rule false ≡ false
       → take-rule (image .rows) pending rule ≡ some next → length next ≤ entries
       → RunsFrom image text entries (p + n) next (suc count) a → RunsFrom image text entries p pending count a

@@ -19,10 +19,10 @@ use Rattle.stage5_image.specs.FieldsLaws.{first-offence-one, stop-offends, read
 use Rattle.stage6_machine.specs.Answer.{Answer, answer}
 use Rattle.stage6_machine.specs.Turn.{State, state, Turn, goes-on, ends, turn, all-nullable, at-text-end}
 use Rattle.stage6_machine.specs.Run.{most-text-bytes, match-at, text-turn, run-from, first-state, run-image, run-reading, run}
-use Rattle.stage6_machine.specs.TurnLaws.{TurnGoes, finds-none, skips, refuses, overflows, takes, turn-goes}
+use Rattle.stage6_machine.specs.TurnLaws.{TurnGoes, by-no-match, by-skip, by-refusal, by-overflow, by-taking, turn-goes}
 use Rattle.stage6_machine.specs.TurnLaws.{turn-unmatched, turn-skips, turn-refuses, turn-overflows, turn-takes}
 use Rattle.stage6_machine.specs.TurnLaws.{turn-at-end, turn-before-end, run-goes-on, run-stops, run-at-end, Onward, turn-onward}
-use Rattle.stage6_machine.specs.Runs.{RunsFrom, nullable-at-end, pending-at-end, unmatched, skipped, untaken, overflowed, taken}
+use Rattle.stage6_machine.specs.Runs.{RunsFrom, nullable-at-end, pending-at-end, nothing-matched, rule-skipped, rule-untaken, stack-overflowed, rule-taken}
 use Rattle.stage6_machine.specs.Runs.{Runs, long-text, unreadable, no-entry, started}
 
 module _ (image : Image) (text : List ℕ) (entries : ℕ) where
@@ -50,19 +50,19 @@ module _ (image : Image) (text : List ℕ) (entries : ℕ) where
       by-way : ((next : State) → next .place ≤ length text → length text ≤ next .place + turns → Gives next (run-from image entries text turns next))
           → s .place < length text → {m : Match} {t : Turn} → TurnGoes image entries s m t → match-at image text (s .place) ≡ m
           → text-turn image entries text s ≡ t → Gives s (run-from image entries text (suc turns) s)
-      by-way later l finds-none f e = rw (run-stops image entries text turns s _ e) (unmatched l f)
-      by-way later l (skips rule n k) f e =
+      by-way later l by-no-match f e = rw (run-stops image entries text turns s _ e) (nothing-matched l f)
+      by-way later l (by-skip rule n k) f e =
           let next = state (s .place + n) (s .pending) (s .count) in
           let o = turn-onward image entries text s next e in
           rw (run-goes-on image entries text turns s next e)
-          (skipped rule n l f k (later next (o .within) (omega (arith, o .further))))
-      by-way later l (refuses rule n k t) f e = rw (run-stops image entries text turns s _ e) (untaken rule n l f k t)
-      by-way later l (overflows rule n more k t o) f e = rw (run-stops image entries text turns s _ e) (overflowed rule n more l f k t o)
-      by-way later l (takes rule n more k t fits) f e =
+          (rule-skipped rule n l f k (later next (o .within) (omega (arith, o .further))))
+      by-way later l (by-refusal rule n k t) f e = rw (run-stops image entries text turns s _ e) (rule-untaken rule n l f k t)
+      by-way later l (by-overflow rule n more k t o) f e = rw (run-stops image entries text turns s _ e) (stack-overflowed rule n more l f k t o)
+      by-way later l (by-taking rule n more k t fits) f e =
           let next = state (s .place + n) more (suc (s .count)) in
           let o = turn-onward image entries text s next e in
           rw (run-goes-on image entries text turns s next e)
-          (taken rule n more l f k t fits (later next (o .within) (omega (arith, o .further))))
+          (rule-taken rule n more l f k t fits (later next (o .within) (omega (arith, o .further))))
 
   -- From the start.
   pub start-runs : RunsFrom image text entries 0 (0 ∷ []) 0 (run-from image entries text (length text) first-state)
@@ -98,19 +98,19 @@ module _ (image : Image) (text : List ℕ) (entries : ℕ) where
       run-at-end image entries text turns (state p pending count) (omega arith) ∙ rw n
   runs-from-only (pending-at-end {p = p} {pending = pending} {count = count} e n) = λ turns h.
       run-at-end image entries text turns (state p pending count) (omega arith) ∙ rw n
-  runs-from-only (unmatched {p = p} {pending = pending} {count = count} l m) =
+  runs-from-only (nothing-matched {p = p} {pending = pending} {count = count} l m) =
       let s = state p pending count in
       only-stops s _ l (by-match s no-match _ m (turn-unmatched image entries s))
-  runs-from-only (skipped {p = p} {pending = pending} {count = count} rule n l m k r) =
+  runs-from-only (rule-skipped {p = p} {pending = pending} {count = count} rule n l m k r) =
       let s = state p pending count in
       only-goes-on s _ _ l (by-match s (matched rule n) _ m (turn-skips image entries s rule n k)) (runs-from-only r)
-  runs-from-only (untaken {p = p} {pending = pending} {count = count} rule n l m k t) =
+  runs-from-only (rule-untaken {p = p} {pending = pending} {count = count} rule n l m k t) =
       let s = state p pending count in
       only-stops s _ l (by-match s (matched rule n) _ m (turn-refuses image entries s rule n k t))
-  runs-from-only (overflowed {p = p} {pending = pending} {count = count} rule n next l m k t o) =
+  runs-from-only (stack-overflowed {p = p} {pending = pending} {count = count} rule n next l m k t o) =
       let s = state p pending count in
       only-stops s _ l (by-match s (matched rule n) _ m (turn-overflows image entries s rule n k next t o))
-  runs-from-only (taken {p = p} {pending = pending} {count = count} rule n next l m k t o r) =
+  runs-from-only (rule-taken {p = p} {pending = pending} {count = count} rule n next l m k t o r) =
       let s = state p pending count in
       only-goes-on s _ _ l (by-match s (matched rule n) _ m (turn-takes image entries s rule n k next t o)) (runs-from-only r)
 

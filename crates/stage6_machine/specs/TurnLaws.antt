@@ -32,36 +32,36 @@ module _ (image : Image) (entries : ℕ) (s : State) where
     turn-skips e = rw e
 
     module _ (returns : getD (image .skips) rule false ≡ false) where
-      by-take : turn image entries (matched rule n) s ≡ after-take entries n s (take-rule (image .rows) (s .pending) rule)
+      not-skipping : turn image entries (matched rule n) s ≡ after-take entries n s (take-rule (image .rows) (s .pending) rule)
       unfolding turn
-      by-take = rw returns
+      not-skipping = rw returns
 
       pub turn-refuses : take-rule (image .rows) (s .pending) rule ≡ none
           → turn image entries (matched rule n) s ≡ ends (answer 15 (s .place) (s .count))
       unfolding after-take
-      turn-refuses e = by-take ∙ ap (after-take entries n s) e
+      turn-refuses e = not-skipping ∙ ap (after-take entries n s) e
 
       pub turn-overflows : (next : List ℕ) → take-rule (image .rows) (s .pending) rule ≡ some next → entries < length next
           → turn image entries (matched rule n) s ≡ ends (answer 17 (s .place) (s .count))
       unfolding after-take
-      turn-overflows next e o = by-take ∙ ap (after-take entries n s) e ∙ rw (lt-ltb entries (length next) o)
+      turn-overflows next e o = not-skipping ∙ ap (after-take entries n s) e ∙ rw (lt-ltb entries (length next) o)
 
       pub turn-takes : (next : List ℕ) → take-rule (image .rows) (s .pending) rule ≡ some next → length next ≤ entries
           → turn image entries (matched rule n) s ≡ goes-on (state (s .place + n) next (suc (s .count)))
       unfolding after-take
-      turn-takes next e o = by-take ∙ ap (after-take entries n s) e ∙ rw (le-ltb entries (length next) o)
+      turn-takes next e o = not-skipping ∙ ap (after-take entries n s) e ∙ rw (le-ltb entries (length next) o)
 
 -- Every turn goes one of these ways.
 pub data TurnGoes (image : Image) (entries : ℕ) (s : State) : Match → Turn → Type 0 where
-  finds-none : TurnGoes image entries s no-match (ends (answer 14 (s .place) (s .count)))
-  skips : (rule n : ℕ) → getD (image .skips) rule false ≡ true
+  by-no-match : TurnGoes image entries s no-match (ends (answer 14 (s .place) (s .count)))
+  by-skip : (rule n : ℕ) → getD (image .skips) rule false ≡ true
       → TurnGoes image entries s (matched rule n) (goes-on (state (s .place + n) (s .pending) (s .count)))
-  refuses : (rule n : ℕ) → getD (image .skips) rule false ≡ false → take-rule (image .rows) (s .pending) rule ≡ none
+  by-refusal : (rule n : ℕ) → getD (image .skips) rule false ≡ false → take-rule (image .rows) (s .pending) rule ≡ none
       → TurnGoes image entries s (matched rule n) (ends (answer 15 (s .place) (s .count)))
-  overflows : (rule n : ℕ) (next : List ℕ) → getD (image .skips) rule false ≡ false
+  by-overflow : (rule n : ℕ) (next : List ℕ) → getD (image .skips) rule false ≡ false
       → take-rule (image .rows) (s .pending) rule ≡ some next → entries < length next
       → TurnGoes image entries s (matched rule n) (ends (answer 17 (s .place) (s .count)))
-  takes : (rule n : ℕ) (next : List ℕ) → getD (image .skips) rule false ≡ false
+  by-taking : (rule n : ℕ) (next : List ℕ) → getD (image .skips) rule false ≡ false
       → take-rule (image .rows) (s .pending) rule ≡ some next → length next ≤ entries
       → TurnGoes image entries s (matched rule n) (goes-on (state (s .place + n) next (suc (s .count))))
 
@@ -70,24 +70,24 @@ module _ (image : Image) (entries : ℕ) (s : State) where
   Goes m = TurnGoes image entries s m (turn image entries m s)
 
   pub turn-goes : (m : Match) → Goes m
-  turn-goes no-match = rw (turn-unmatched image entries s) finds-none
+  turn-goes no-match = rw (turn-unmatched image entries s) by-no-match
   turn-goes (matched rule n) = by-flag (getD (image .skips) rule false) refl
     where
       by-room : (next : List ℕ) → getD (image .skips) rule false ≡ false → take-rule (image .rows) (s .pending) rule ≡ some next
           → Goes (matched rule n)
       by-room next f e =
           ⊎-elim
-          (λ l. rw (turn-overflows image entries s rule n f next e l) (overflows rule n next f e l))
-          (λ l. rw (turn-takes image entries s rule n f next e l) (takes rule n next f e l))
+          (λ l. rw (turn-overflows image entries s rule n f next e l) (by-overflow rule n next f e l))
+          (λ l. rw (turn-takes image entries s rule n f next e l) (by-taking rule n next f e l))
           (lt-or-le entries (length next))
 
       by-taker : (o : Option (List ℕ)) → getD (image .skips) rule false ≡ false → take-rule (image .rows) (s .pending) rule ≡ o
           → Goes (matched rule n)
-      by-taker none f e = rw (turn-refuses image entries s rule n f e) (refuses rule n f e)
+      by-taker none f e = rw (turn-refuses image entries s rule n f e) (by-refusal rule n f e)
       by-taker (some next) f e = by-room next f e
 
       by-flag : (b : Bool) → getD (image .skips) rule false ≡ b → Goes (matched rule n)
-      by-flag true f = rw (turn-skips image entries s rule n f) (skips rule n f)
+      by-flag true f = rw (turn-skips image entries s rule n f) (by-skip rule n f)
       by-flag false f = by-taker (take-rule (image .rows) (s .pending) rule) f refl
 
 -- ---- turns in a row
@@ -137,14 +137,14 @@ module _ (image : Image) (entries : ℕ) (text : List ℕ) where
           (w .0, omega (arith, w .0, w .1, length-drop (s .place) text))
 
       by-way : {m : Match} {t : Turn} → TurnGoes image entries s m t → match-at image text (s .place) ≡ m → t ≡ goes-on next → Onward s next
-      by-way finds-none f g = let z : _≡_ {A = ℕ} 0 1 = cc in absurd (omega arith)
-      by-way (skips rule n k) f g =
+      by-way by-no-match f g = let z : _≡_ {A = ℕ} 0 1 = cc in absurd (omega arith)
+      by-way (by-skip rule n k) f g =
           let w = past rule n f in
           let same : state (s .place + n) (s .pending) (s .count) ≡ next = cc in
           subst (Onward s) same (record { further = omega (arith, w .0); within = w .1; counted = omega arith })
-      by-way (refuses rule n k t) f g = let z : _≡_ {A = ℕ} 0 1 = cc in absurd (omega arith)
-      by-way (overflows rule n more k t l) f g = let z : _≡_ {A = ℕ} 0 1 = cc in absurd (omega arith)
-      by-way (takes rule n more k t l) f g =
+      by-way (by-refusal rule n k t) f g = let z : _≡_ {A = ℕ} 0 1 = cc in absurd (omega arith)
+      by-way (by-overflow rule n more k t l) f g = let z : _≡_ {A = ℕ} 0 1 = cc in absurd (omega arith)
+      by-way (by-taking rule n more k t l) f g =
           let w = past rule n f in
           let same : state (s .place + n) more (suc (s .count)) ≡ next = cc in
           subst (Onward s) same (record { further = omega (arith, w .0); within = w .1; counted = omega arith })

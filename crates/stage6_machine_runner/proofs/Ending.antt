@@ -12,7 +12,7 @@ use Rattle.stage5_image.specs.Image.{Image}
 use Rattle.stage5_image.specs.ImageReading.{read-image}
 use Rattle.stage6_machine.specs.Answer.{Answer, answer}
 use Rattle.stage6_machine.specs.Run.{run-from, first-state, run-image, run-reading, run, stack-after}
-use Rattle.stage6_machine.specs.Runs.{RunsFrom, nullable-at-end, pending-at-end, unmatched, skipped, untaken, overflowed, taken}
+use Rattle.stage6_machine.specs.Runs.{RunsFrom, nullable-at-end, pending-at-end, nothing-matched, rule-skipped, rule-untaken, stack-overflowed, rule-taken}
 use Rattle.stage6_machine.specs.RunsLaws.{start-runs}
 
 -- The answer is one after which the stack is cleared.
@@ -22,11 +22,11 @@ Clears a = (eqb (a .number) 12 || eqb (a .number) 13) ≡ false
 from-clears : {i : Image} {text : List ℕ} {entries p : ℕ} {l : List ℕ} {count : ℕ} {a : Answer} → RunsFrom i text entries p l count a → Clears a
 from-clears (nullable-at-end e n) = refl
 from-clears (pending-at-end e n) = refl
-from-clears (unmatched l m) = refl
-from-clears (skipped rule n l m k r) = from-clears r
-from-clears (untaken rule n l m k t) = refl
-from-clears (overflowed rule n next l m k t o) = refl
-from-clears (taken rule n next l m k t o r) = from-clears r
+from-clears (nothing-matched l m) = refl
+from-clears (rule-skipped rule n l m k r) = from-clears r
+from-clears (rule-untaken rule n l m k t) = refl
+from-clears (stack-overflowed rule n next l m k t o) = refl
+from-clears (rule-taken rule n next l m k t o r) = from-clears r
 
 image-clears : (i : Image) (entries : ℕ) (text : List ℕ) → Clears (run-image i entries text)
 unfolding run-image

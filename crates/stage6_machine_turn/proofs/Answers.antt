@@ -12,7 +12,7 @@ use Rattle.stage4_lexer_scanner.specs.declared.Found.{Found}
 use Rattle.stage4_lexer_scanner.specs.declared.Found.the-variants as found
 use Rattle.stage6_machine_turn.specs.Stack.{pushed}
 use Rattle.stage6_machine_turn.specs.Steps.{part, taker, TakeStep, replaced, replace-taker, take-step}
-use Rattle.stage6_machine_turn.specs.Steps.{run-answer, state-at, all-members, end-answer, after-take, turn-by, TurnStep, turn-step}
+use Rattle.stage6_machine_turn.specs.Steps.{run-answer, state-at, all-members, end-answer, step-after-take, turn-by, TurnStep, turn-step}
 use Rattle.stage6_machine_turn.specs.declared.RunAnswer.{RunAnswer}
 use Rattle.stage6_machine_turn.specs.declared.Taker.the-variants.{Nothing, At}
 use Rattle.stage6_machine_turn.specs.declared.Taken.{Taken}
@@ -55,10 +55,10 @@ module _ (bytes productions : List ℕ) (empty skips : ℕ) (stack : List ℕ) (
   abbrev whole-turn : TurnStep
   whole-turn = turn-step bytes productions empty skips stack f s
 
-  pub turn-unmatched : f ≡ found.Nothing → (a : RunAnswer) → a ≡ run-answer 14 (s .place) (s .count)
+  pub step-unmatched : f ≡ found.Nothing → (a : RunAnswer) → a ≡ run-answer 14 (s .place) (s .count)
       → (Done a ≡ whole-turn .outcome) × (stack ≡ whole-turn .stack)
   unfolding turn-step
-  turn-unmatched e a g = rw e (ap Done g, refl)
+  step-unmatched e a g = rw e (ap Done g, refl)
 
   module _ (rule n : ℕ) (matched : f ≡ found.Rule rule n) where
     abbrev take-of-turn : TakeStep
@@ -68,30 +68,30 @@ module _ (bytes productions : List ℕ) (empty skips : ℕ) (stack : List ℕ) (
     unfolding turn-step
     by-match = ap (λ (x : Found). turn-step bytes productions empty skips stack x s) matched
 
-    pub turn-skips : bit skips rule ≡ true
+    pub step-skips : bit skips rule ≡ true
         → (Next (state-at (s .place + n) (s .depth) (s .count)) ≡ whole-turn .outcome) × (stack ≡ whole-turn .stack)
     unfolding turn-by
-    turn-skips e =
+    step-skips e =
         let w = by-match ∙ ap (λ (b : Bool). turn-by b stack n s take-of-turn) e in
         (sym (ap (λ (x : TurnStep). x .outcome) w), sym (ap (λ (x : TurnStep). x .stack) w))
 
-    pub turn-takes : bit skips rule ≡ false → (r : Taken) (stack' : List ℕ)
+    pub step-takes : bit skips rule ≡ false → (r : Taken) (stack' : List ℕ)
         → (r ≡ take-of-turn .outcome) × (stack' ≡ take-of-turn .stack) → (o : Taken) → r ≡ o
-        → (after-take n s o ≡ whole-turn .outcome) × (stack' ≡ whole-turn .stack)
+        → (step-after-take n s o ≡ whole-turn .outcome) × (stack' ≡ whole-turn .stack)
     unfolding turn-by
-    turn-takes e r stack' h o g =
+    step-takes e r stack' h o g =
         let w = by-match ∙ ap (λ (b : Bool). turn-by b stack n s take-of-turn) e in (
-          ap (after-take n s) (sym g ∙ h .0) ∙ sym (ap (λ (x : TurnStep). x .outcome) w),
+          ap (step-after-take n s) (sym g ∙ h .0) ∙ sym (ap (λ (x : TurnStep). x .outcome) w),
           h .1 ∙ sym (ap (λ (x : TurnStep). x .stack) w),
         )
 
     -- A turn that ends with an answer.
-    pub turn-answers : bit skips rule ≡ false → (r : Taken) (stack' : List ℕ)
+    pub step-answers : bit skips rule ≡ false → (r : Taken) (stack' : List ℕ)
         → (r ≡ take-of-turn .outcome) × (stack' ≡ take-of-turn .stack) → (o : Taken) → r ≡ o
-        → (a b : RunAnswer) → a ≡ b → after-take n s o ≡ Done b
+        → (a b : RunAnswer) → a ≡ b → step-after-take n s o ≡ Done b
         → (Done a ≡ whole-turn .outcome) × (stack' ≡ whole-turn .stack)
-    turn-answers e r stack' h o g a b k l =
-        let t = turn-takes e r stack' h o g in (ap Done k ∙ sym l ∙ t .0, t .1)
+    step-answers e r stack' h o g a b k l =
+        let t = step-takes e r stack' h o g in (ap Done k ∙ sym l ∙ t .0, t .1)
 
 -- At the text's end.
 module _ (empty : ℕ) (l : List ℕ) (p count : ℕ) where

@@ -85,15 +85,15 @@ pub record TurnStep : Type 0 where
   pub stack : List ℕ
 
 -- The turn of a match of n bytes that a take ends: "a token that meets 15 or 17 is not counted".
-unfoldable pub after-take : ℕ → State → Taken → Turn
-after-take n s (Depth depth) = Next (state-at (s .place + n) depth (s .count + 1))
-after-take n s NoTaker = Done (run-answer 15 (s .place) (s .count))
-after-take n s TooDeep = Done (run-answer 17 (s .place) (s .count))
+unfoldable pub step-after-take : ℕ → State → Taken → Turn
+step-after-take n s (Depth depth) = Next (state-at (s .place + n) depth (s .count + 1))
+step-after-take n s NoTaker = Done (run-answer 15 (s .place) (s .count))
+step-after-take n s TooDeep = Done (run-answer 17 (s .place) (s .count))
 
 -- The turn of a rule that skips, or of a take.
 unfoldable pub turn-by : Bool → List ℕ → ℕ → State → TakeStep → TurnStep
 turn-by true stack n s t = record { outcome = Next (state-at (s .place + n) (s .depth) (s .count)); stack = stack }
-turn-by false stack n s t = record { outcome = after-take n s (t .outcome); stack = t .stack }
+turn-by false stack n s t = record { outcome = step-after-take n s (t .outcome); stack = t .stack }
 
 -- A turn, given what matched at the state's place.
 unfoldable pub turn-step : List ℕ → List ℕ → ℕ → ℕ → List ℕ → Found → State → TurnStep

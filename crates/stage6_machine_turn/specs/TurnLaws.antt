@@ -17,7 +17,7 @@ use Rattle.stage6_machine.specs.Turn.{take-rule, all-nullable, at-text-end}
 use Rattle.stage6_machine.specs.TurnLaws.{turn-unmatched, turn-skips, turn-refuses, turn-overflows, turn-takes}
 use Rattle.stage6_machine_turn.specs.Stack.{pending, Ready}
 use Rattle.stage6_machine_turn.specs.Steps.{answer-held, run-answer, state-at, state-held, turn-held, all-members, end-answer}
-use Rattle.stage6_machine_turn.specs.Steps.{take-step, after-take, turn-by, TurnStep, turn-step, Fits}
+use Rattle.stage6_machine_turn.specs.Steps.{take-step, step-after-take, turn-by, TurnStep, turn-step, Fits}
 use Rattle.stage6_machine_turn.specs.StackLaws.{length-pending}
 use Rattle.stage6_machine_turn.specs.TakingLaws.{TakeLeads, take-leads}
 use Rattle.stage6_machine_turn.specs.declared.RunAnswer.{RunAnswer}
@@ -44,8 +44,8 @@ module _ (i : Image) (bytes : List ℕ) (t : ImageTables) (decoded : Decoded byt
     by-take : (stack' : List ℕ) (o : Taken) → getD (i .skips) rule false ≡ false
         → TakeLeads bytes (t .productions) (t .empty) (i .rows) (t .nonterminals) stack
         (take-rule (i .rows) (pending stack (s .depth)) rule) stack' o
-        → TurnIs (machine-turn (found.Rule rule n)) stack' (after-take n s o)
-    unfolding after-take match-of answer-held
+        → TurnIs (machine-turn (found.Rule rule n)) stack' (step-after-take n s o)
+    unfolding step-after-take match-of answer-held
     by-take stack' NoTaker f x = (turn-refuses i (length stack) (state-held stack s) rule n f x, tt)
     by-take stack' TooDeep f x = (turn-overflows i (length stack) (state-held stack s) rule n f (x .0) (x .1) (x .2), tt)
     by-take stack' (Depth depth) f x =

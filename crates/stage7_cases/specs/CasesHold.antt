@@ -23,8 +23,8 @@ use Rattle.stage6_machine.specs.Answer.{Answer, answer}
 use Rattle.stage6_machine.specs.Run.{most-text-bytes, run, long-enough}
 use Rattle.stage6_machine.specs.OwnAnswer.{OwnAnswer}
 use Rattle.stage6_machine.specs.Computing.{computing-machine}
-use Rattle.stage7_demands.specs.Demands.{Demand2}
-use Rattle.stage7_demands.specs.Proofs.{demand-2, run-own-answer}
+use Rattle.stage7_demands.specs.Demands.{Demand2, Demand3}
+use Rattle.stage7_demands.specs.Proofs.{demand-2, demand-3}
 use Rattle.stage7_cases.specs.ImageD.{image-D, D-compiles}
 use Rattle.stage7_cases.specs.Cases.{Case, compiles, reads, denotes-nothing, compiled-sheet, run-of-sheet, Holds, endless, cases}
 
@@ -50,7 +50,7 @@ holds (reads sheet text a) h =
       s .0,
       spells,
       subst (OwnAnswer (s .0) text) (h .2)
-          (run-own-answer sheet bytes work-bytes 65536 (h .0) (h .1) (s .0) spells text (long-enough text)
+          (demand-3 .own-answer sheet bytes work-bytes 65536 (h .0) (h .1) (s .0) spells text (long-enough text)
           (leb→le (length text) most-text-bytes (h .4)) (omega arith)),
     )
 holds (denotes-nothing sheet) h =

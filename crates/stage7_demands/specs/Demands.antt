@@ -1,84 +1,89 @@
--- The three demands, each as one statement to be held against the page, over the definitions that the code's contracts cite.
--- The proofs are elsewhere: `Proofs` puts them together. The contracts:
---   `stage5_image_compiler`: `compile` answers what the function `compile` does, for which the demands are proved, and leaves
---   `image-after` and `work-after`;
---   `stage6_machine_runner`: `run` equals `run` here, and leaves `stack-after`;
+-- The three demands, each as one statement to be held against the page. They are said of any functions with these types, and proved
+-- of those that the code's contracts cite (`Proofs`): so the definitions of these functions need not be read. The contracts:
+--   `stage5_image_compiler`: `compile` answers `compile`, and leaves `image-after` and `work-after`;
+--   `stage6_machine_runner`: `run` answers `run`, and leaves `stack-after`;
 --   `stage7_engine`: `read_text` has `OwnAnswer` itself in its contract, and all three buffers;
 --   `vinzagew`: `sheet_compile` and `image_run` hand on the first two.
 use mathlib.Core.Path.{_≡_}
-use mathlib.Core.List.{List, []}
+use mathlib.Core.List.{List, [], _++_}
 use mathlib.Core.Logic.{_↔_, _⊎_}
 use Prim.Native.Nat.{ℕ, _≤_, _<_}
-use lib.ListN.{length, take, drop, replicate}
+use lib.ListN.{length, drop, replicate}
 use Rattle.stage1_sheet.specs.Sheet.{Sheet}
 use Rattle.stage1_sheet.specs.WellFormed.{Spells}
 use Rattle.stage1_sheet.specs.Spelling.{Bytes}
 use Rattle.stage5_image.specs.Image.{image-of, image-bytes}
 use Rattle.stage5_image.specs.ImageFields.{ReadableAs}
 use Rattle.stage5_image.specs.Unfolding.{StartUnfolds, DenotedRules}
-use Rattle.stage5_image.specs.Compile.{work-bytes, Compiled, refused, too-long, compiled, compile-answer, written-part, image-after, work-after}
+use Rattle.stage5_image.specs.Compile.{work-bytes, Compiled, refused, too-long, compiled, CompileAnswer}
 use Rattle.stage5_image.specs.Compiles.{Acceptable, Compiles}
 use Rattle.stage6_machine.specs.Answer.{Answer}
-use Rattle.stage6_machine.specs.Run.{most-text-bytes, long-enough, stack-after}
+use Rattle.stage6_machine.specs.Run.{most-text-bytes, long-enough}
 use Rattle.stage6_machine.specs.OwnAnswer.{OwnAnswer}
 use Rattle.stage6_machine.specs.Runs.{Runs}
 
+-- What compiling and running answer, and what the lent buffers hold at the end, as functions of all that is handed over.
+pub record Functions : Type 0 where
+  pub compile : List ℕ → ℕ → ℕ → Compiled
+  pub compile-answer : Compiled → CompileAnswer
+  pub written-part : Compiled → List ℕ
+  pub image-after : Compiled → List ℕ → List ℕ
+  pub work-after : List ℕ → List ℕ
+  pub run : List ℕ → List ℕ → ℕ → Answer
+  pub stack-after : Answer → List ℕ → List ℕ
+
 -- Demand 1. "A caller may hand over any sheet, image, text and buffers, of any length and content, and always gets an answer that
 -- document 01 fixes: a result, or the number and place of the first question that fails, and what every lent buffer then holds."
--- `compile` and `run` are the functions that the code's contracts cite. What they answer is said here, by relations in the page's terms
--- that have one answer each, so that their own definitions need not be read; then what is returned, and what every buffer holds.
-pub record Demand1 (compile : List ℕ → ℕ → ℕ → Compiled) (run : List ℕ → List ℕ → ℕ → Answer) : Type 0 where
-  pub compiling : (sheet : List ℕ) → Bytes sheet → (work room : ℕ) → Compiles sheet work room (compile sheet work room)
+-- The answers are those of two relations in the page's terms, which have one answer each.
+pub record Demand1 (f : Functions) : Type 0 where
+  pub compiling : (sheet : List ℕ) → Bytes sheet → (work room : ℕ) → Compiles sheet work room (f .compile sheet work room)
   pub one-ending : (sheet : List ℕ) → Bytes sheet → (work room : ℕ) (c d : Compiled) → Compiles sheet work room c → Compiles sheet work room d
       → c ≡ d
+  pub running : (image text : List ℕ) → Bytes image → (entries : ℕ) → Runs image text entries (f .run image text entries)
+  pub one-answer : (image text : List ℕ) → Bytes image → (entries : ℕ) (a b : Answer) → Runs image text entries a → Runs image text entries b
+      → a ≡ b
   -- "Compiling returns number, place and length: 0, 0 and bytes written on success; after 11 the bytes needed, otherwise length 0."
   pub returned : (question place needed : ℕ) (image : List ℕ)
-      → (compile-answer (refused question place) ≡ record { number = question; place = place; length = 0 })
-      × (compile-answer (too-long needed) ≡ record { number = 11; place = 0; length = needed })
-      × (compile-answer (compiled image) ≡ record { number = 0; place = 0; length = length image })
+      → (f .compile-answer (refused question place) ≡ record { number = question; place = place; length = 0 })
+      × (f .compile-answer (too-long needed) ≡ record { number = 11; place = 0; length = needed })
+      × (f .compile-answer (compiled image) ≡ record { number = 0; place = 0; length = length image })
   -- "Success also hands back the written part of the image buffer, empty on refusal."
   pub handed-back : (question place needed : ℕ) (image : List ℕ)
-      → (written-part (refused question place) ≡ []) × (written-part (too-long needed) ≡ []) × (written-part (compiled image) ≡ image)
+      → (f .written-part (refused question place) ≡ []) × (f .written-part (too-long needed) ≡ []) × (f .written-part (compiled image) ≡ image)
   -- "A refused compile leaves the image buffer untouched; success leaves the bytes past the image."
-  pub image-untouched : (question place needed : ℕ) (buffer : List ℕ)
-      → (image-after (refused question place) buffer ≡ buffer) × (image-after (too-long needed) buffer ≡ buffer)
-  pub image-written : (image buffer : List ℕ) → (take (length image) (image-after (compiled image) buffer) ≡ image)
-      × (drop (length image) (image-after (compiled image) buffer) ≡ drop (length image) buffer)
+  pub image-buffer : (question place needed : ℕ) (image buffer : List ℕ)
+      → (f .image-after (refused question place) buffer ≡ buffer) × (f .image-after (too-long needed) buffer ≡ buffer)
+      × (f .image-after (compiled image) buffer ≡ image ++ drop (length image) buffer)
   pub image-kept : (sheet : List ℕ) (work : ℕ) (buffer : List ℕ)
-      → length (image-after (compile sheet work (length buffer)) buffer) ≡ length buffer
+      → length (f .image-after (f .compile sheet work (length buffer)) buffer) ≡ length buffer
   -- "The first 65,536 work bytes end as zero, except after 1, when none changes; the rest never change."
-  pub work-short : (work : List ℕ) → length work < work-bytes → work-after work ≡ work
-  pub work-cleared : (work : List ℕ) → work-bytes ≤ length work → take work-bytes (work-after work) ≡ replicate work-bytes 0
-  pub work-rest : (work : List ℕ) → drop work-bytes (work-after work) ≡ drop work-bytes work
-  pub work-kept : (work : List ℕ) → length (work-after work) ≡ length work
-  pub running : (image text : List ℕ) → Bytes image → (entries : ℕ) → Runs image text entries (run image text entries)
-  pub one-running : (image text : List ℕ) → Bytes image → (entries : ℕ) (a b : Answer) → Runs image text entries a
-      → Runs image text entries b → a ≡ b
+  pub work-short : (work : List ℕ) → length work < work-bytes → f .work-after work ≡ work
+  pub work-cleared : (work : List ℕ) → work-bytes ≤ length work → f .work-after work ≡ replicate work-bytes 0 ++ drop work-bytes work
   -- "The stack ends all zero, untouched after 12 and 13."
-  pub stack-untouched : (a : Answer) (stack : List ℕ) → (a .number ≡ 12) ⊎ (a .number ≡ 13) → stack-after a stack ≡ stack
+  pub stack-untouched : (a : Answer) (stack : List ℕ) → (a .number ≡ 12) ⊎ (a .number ≡ 13) → f .stack-after a stack ≡ stack
   pub stack-zero : (a : Answer) (stack : List ℕ) → (a .number ≡ 12 → ⊥) → (a .number ≡ 13 → ⊥)
-      → stack-after a stack ≡ replicate (length stack) 0
+      → f .stack-after a stack ≡ replicate (length stack) 0
 
 -- Demand 2. "Given the work area that document 01 names, a sheet is accepted exactly if it is well formed, no lexer rule matches the
 -- empty text, its expression has a type under the published typing rules, and the image fits. The image is then the one normal
 -- form that document 01 sets out, and its start unfolds to exactly the rule sequences that spell a token sequence which the
 -- expression denotes, each token spelled by any rule that returns it."
-pub record Demand2 (compile : List ℕ → ℕ → ℕ → Compiled) : Type 0 where
+pub record Demand2 (f : Functions) : Type 0 where
   pub accepted-exactly : (sheet : List ℕ) → Bytes sheet → (work room : ℕ) → work-bytes ≤ work
-      → ((image : List ℕ) × (compile sheet work room ≡ compiled image)) ↔ ((s : Sheet) × Acceptable sheet room s)
-  pub normal-form : (sheet : List ℕ) → Bytes sheet → (work room : ℕ) (image : List ℕ) → compile sheet work room ≡ compiled image
+      → ((image : List ℕ) × (f .compile sheet work room ≡ compiled image)) ↔ ((s : Sheet) × Acceptable sheet room s)
+  pub normal-form : (sheet : List ℕ) → Bytes sheet → (work room : ℕ) (image : List ℕ) → f .compile sheet work room ≡ compiled image
       → (s : Sheet) → Spells sheet s
       → (image ≡ image-bytes (image-of s)) × ReadableAs image (image-of s)
-  pub unfolds-exactly : (sheet : List ℕ) → Bytes sheet → (work room : ℕ) (image : List ℕ) → compile sheet work room ≡ compiled image
+  pub unfolds-exactly : (sheet : List ℕ) → Bytes sheet → (work room : ℕ) (image : List ℕ) → f .compile sheet work room ≡ compiled image
       → (s : Sheet) → Spells sheet s → (rules : List ℕ) → StartUnfolds ((image-of s) .rows) rules ↔ DenotedRules s rules
 
 -- Demand 3. "Whatever bytes a text holds, for every sheet that demand 2 accepts, running the image fixed there over the text gives
 -- exactly the sheet's own answer .. Only, the text must be within the limit and the stack have at least 1 + 30 × its length entries."
--- Running gives the answer that `Runs` allows (demand 1). What follows from it by name is in `Corollaries`: `text-accepted-iff`,
--- `accepted-answer`, `refused-place`, `nothing-accepted`, `stack-never-short`.
-pub record Demand3 (compile : List ℕ → ℕ → ℕ → Compiled) : Type 0 where
-  pub own-answer : (sheet : List ℕ) → Bytes sheet → (work room : ℕ) (image : List ℕ) → compile sheet work room ≡ compiled image
+-- What follows from it by name is in `Corollaries`: `text-accepted-iff`, `text-accepted-answer`, `text-refused-place`, `nothing-accepted`,
+-- `stack-never-short`.
+pub record Demand3 (f : Functions) : Type 0 where
+  pub own-answer : (sheet : List ℕ) → Bytes sheet → (work room : ℕ) (image : List ℕ) → f .compile sheet work room ≡ compiled image
       → (s : Sheet) → Spells sheet s
       → (text : List ℕ) (entries : ℕ) → length text ≤ most-text-bytes → long-enough text ≤ entries
-      → (a : Answer) → Runs image text entries a → OwnAnswer s text a
+      → OwnAnswer s text (f .run image text entries)
   pub exactly : (s : Sheet) (text : List ℕ) (a b : Answer) → OwnAnswer s text a → OwnAnswer s text b → a ≡ b

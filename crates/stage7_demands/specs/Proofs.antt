@@ -21,11 +21,11 @@ use Rattle.stage5_image.specs.ImageRoundTrip.{image-are-bytes}
 use Rattle.stage5_image.specs.FieldsLaws.{readable-one, image-readable}
 use Rattle.stage5_image.specs.Unfolding.{StartUnfolds, DenotedRules}
 use Rattle.stage5_image.specs.ImageLaws.{image-denotes, image-in-range}
-use Rattle.stage5_image.specs.Compile.{work-bytes, Compiled, refused, too-long, compiled, compile, image-after, work-after}
+use Rattle.stage5_image.specs.Compile.{work-bytes, Compiled, refused, too-long, compiled, compile, compile-answer, written-part, image-after, work-after}
 use Rattle.stage5_image.specs.Compiles.{Acceptable}
 use Rattle.stage5_image.specs.CompileLaws.{acceptable-compiles, compiled-acceptable, compiled-fits}
 use Rattle.stage5_image.specs.CompileQuestions.{compile-answers, compiles-one}
-use Rattle.stage5_image.specs.BufferLaws.{answers, handed-back, refused-untouched, image-written, image-rest, work-short, work-cleared, work-rest}
+use Rattle.stage5_image.specs.BufferLaws.{answers, handed-back, image-buffer, work-short, work-cleared}
 use Rattle.stage6_machine.specs.Answer.{Answer}
 use Rattle.stage6_machine.specs.Run.{most-text-bytes, run, long-enough, stack-after}
 use Rattle.stage6_machine.specs.Runs.{Runs, long-text, unreadable, no-entry, started}
@@ -35,7 +35,19 @@ use Rattle.stage6_machine.specs.OwnAnswer.{OwnAnswer}
 use Rattle.stage6_machine.specs.OwnAnswerLaws.{own-answer-one}
 use Rattle.stage6_machine.specs.RunAnswers.{Faithful, runs-own-answer}
 use Rattle.stage6_machine.specs.FaithfulImage.{StandsFor, start-stands, image-faithful}
-use Rattle.stage7_demands.specs.Demands.{Demand1, Demand2, Demand3}
+use Rattle.stage7_demands.specs.Demands.{Functions, Demand1, Demand2, Demand3}
+
+-- The functions that the code's contracts cite.
+abbrev pub cited : Functions
+cited = record {
+  compile = compile;
+  compile-answer = compile-answer;
+  written-part = written-part;
+  image-after = image-after;
+  work-after = work-after;
+  run = run;
+  stack-after = stack-after;
+}
 
 -- ---- demand 1
 
@@ -50,37 +62,21 @@ image-kept sheet work buffer = go (compile sheet work (length buffer)) refl
         let fits = compiled-fits sheet work (length buffer) image e in
         omega (arith, length-append image (drop (length image) buffer), length-drop (length image) buffer)
 
--- Said of any number of bytes: a list of 65,536 zeros is never to be written out.
-cleared-kept : (n : ℕ) (work : List ℕ) → n ≤ length work → length (replicate n 0 ++ drop n work) ≡ length work
-cleared-kept n work l =
-    omega (arith, length-append (replicate n 0) (drop n work), length-replicate {A = ℕ} n 0, length-drop n work)
-
-work-kept : (work : List ℕ) → length (work-after work) ≡ length work
-unfolding work-after
-work-kept work = go (ltb (length work) work-bytes) refl
-  where
-    go : (b : Bool) → ltb (length work) work-bytes ≡ b → length (cond b work (replicate work-bytes 0 ++ drop work-bytes work)) ≡ length work
-    go true e = refl
-    go false e = cleared-kept work-bytes work (ltb-false (length work) work-bytes e)
-
 stack-untouched : (a : Answer) (stack : List ℕ) → (a .number ≡ 12) ⊎ (a .number ≡ 13) → stack-after a stack ≡ stack
 stack-untouched a stack h = ⊎-elim (stack-untouched-12 a stack) (stack-untouched-13 a stack) h
 
-pub demand-1 : Demand1 compile run
+pub demand-1 : Demand1 cited
 demand-1 = record {
   compiling = λ sheet bytes work room. compile-answers sheet work room bytes;
   one-ending = λ sheet bytes work room c d. compiles-one bytes;
+  running = λ image text bytes entries. run-runs image text entries bytes;
+  one-answer = λ image text bytes entries a b. runs-one image text entries bytes;
   returned = answers;
   handed-back = handed-back;
-  image-untouched = refused-untouched;
-  image-written = λ image buffer. (image-written image buffer, image-rest image buffer);
+  image-buffer = image-buffer;
   image-kept = image-kept;
   work-short = work-short;
   work-cleared = work-cleared;
-  work-rest = work-rest;
-  work-kept = work-kept;
-  running = λ image text bytes entries. run-runs image text entries bytes;
-  one-running = λ image text bytes entries a b. runs-one image text entries bytes;
   stack-untouched = stack-untouched;
   stack-zero = stack-zero;
 }
@@ -119,16 +115,16 @@ unfolds-exactly sheet bytes work room image e s spells =
     let a = accepted-sheet sheet bytes work room image e s spells in
     image-denotes s ((spells .limits) .closed) (((a .0) .has-type) .1)
 
-pub demand-2 : Demand2 compile
+pub demand-2 : Demand2 cited
 demand-2 = record { accepted-exactly = accepted-exactly; normal-form = accepted-normal-form; unfolds-exactly = unfolds-exactly }
 
 -- ---- demand 3
 
-own-answer : (sheet : List ℕ) → Bytes sheet → (work room : ℕ) (image : List ℕ) → compile sheet work room ≡ compiled image
+runs-own : (sheet : List ℕ) → Bytes sheet → (work room : ℕ) (image : List ℕ) → compile sheet work room ≡ compiled image
     → (s : Sheet) → Spells sheet s
     → (text : List ℕ) (entries : ℕ) → length text ≤ most-text-bytes → long-enough text ≤ entries
     → (a : Answer) → Runs image text entries a → OwnAnswer s text a
-own-answer sheet bytes work room image e s spells text entries short long a runs = by-question runs
+runs-own sheet bytes work room image e s spells text entries short long a runs = by-question runs
   where
     acceptable : Acceptable sheet room s
     acceptable = (accepted-sheet sheet bytes work room image e s spells) .0
@@ -144,15 +140,15 @@ own-answer sheet bytes work room image e s spells text entries short long a runs
         runs-own-answer s text i entries (StandsFor s (spells .limits) typed)
         (subst (λ (j : Image). Faithful s j (StandsFor s (spells .limits) typed)) same faithful) long (start-stands s (spells .limits) typed) x
 
-pub demand-3 : Demand3 compile
-demand-3 = record { own-answer = own-answer; exactly = λ s text a b. own-answer-one s text }
-
--- What `run` answers over the image that compiling made.
-pub run-own-answer : (sheet : List ℕ) → Bytes sheet → (work room : ℕ) (image : List ℕ) → compile sheet work room ≡ compiled image
+-- What `run` answers is an answer of `Runs`.
+run-own-answer : (sheet : List ℕ) → Bytes sheet → (work room : ℕ) (image : List ℕ) → compile sheet work room ≡ compiled image
     → (s : Sheet) → Spells sheet s
     → (text : List ℕ) (entries : ℕ) → length text ≤ most-text-bytes → long-enough text ≤ entries
     → OwnAnswer s text (run image text entries)
 run-own-answer sheet bytes work room image e s spells text entries short long =
     let r = accepted-normal-form sheet bytes work room image e s spells in
-    own-answer sheet bytes work room image e s spells text entries short long (run image text entries)
+    runs-own sheet bytes work room image e s spells text entries short long (run image text entries)
     (run-runs image text entries (subst Bytes (sym (r .0)) (image-are-bytes (image-of s))))
+
+pub demand-3 : Demand3 cited
+demand-3 = record { own-answer = run-own-answer; exactly = λ s text a b. own-answer-one s text }

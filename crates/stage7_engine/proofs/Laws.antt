@@ -20,7 +20,8 @@ use Rattle.stage5_image_compiler.specs.declared.Compiled.{Compiled}
 use Rattle.stage5_image_compiler.specs.declared.Compiled.the-variants.{Done, TooLong, Refused}
 use Rattle.stage6_machine.specs.Answer.{Answer, answer}
 use Rattle.stage6_machine.specs.Run.{run, stack-after}
-use Rattle.stage7_demands.specs.Proofs.{run-own-answer}
+use Rattle.stage7_demands.specs.Demands.{Demand3}
+use Rattle.stage7_demands.specs.Proofs.{demand-3}
 use Rattle.stage6_machine_turn.specs.Steps.{answer-held}
 use Rattle.stage6_machine_turn.specs.declared.RunAnswer.{RunAnswer}
 use Rattle.stage7_engine.specs.declared.TextRead.{TextRead}
@@ -74,7 +75,7 @@ module _ (limit : ℕ) (sheet text : List ℕ) (work room : ℕ) where
   pub own-run : (entries : ℕ) (image : List ℕ) → Bytes sheet → compile sheet work room ≡ compiled image
       → OwnReading limit sheet text work room entries (text-answered (run image text entries))
   own-run entries image bytes e = record {
-    own-answer = λ s a w l m k. (run image text entries, run-own-answer sheet bytes work room image e s (a .well-formed) text entries m k, refl);
+    own-answer = λ s a w l m k. (run image text entries, demand-3 .own-answer sheet bytes work room image e s (a .well-formed) text entries m k, refl);
   }
 
 -- What is told and what the stack holds, by cases.

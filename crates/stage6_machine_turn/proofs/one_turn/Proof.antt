@@ -3,9 +3,9 @@ use mathlib.Core.Path.{_≡_, refl, sym, subst, _∙_}
 use Prim.Native.Nat.{_+_, _<_}
 use native.Mathlib.Omega.{arith}
 use Rattle.stage4_lexer_scanner.specs.declared.Found.{Found}
-use Rattle.stage6_machine_turn.specs.Steps.{after-take, Fits}
+use Rattle.stage6_machine_turn.specs.Steps.{step-after-take, Fits}
 use Rattle.stage6_machine_turn.specs.declared.Taken.the-variants.{Depth, NoTaker, TooDeep}
-use Rattle.stage6_machine_turn.proofs.Answers.{turn-unmatched, turn-skips, turn-takes, turn-answers}
+use Rattle.stage6_machine_turn.proofs.Answers.{step-unmatched, step-skips, step-takes, step-answers}
 use borrow.Author.Needs.{needs}
 use Rattle.stage6_machine_turn.proofs.one_turn.Statement.{statement}
 use Rattle.stage6_machine_turn.proofs.one_turn.Tie as tie
@@ -29,7 +29,7 @@ answer-requires : tie.Need-answer-requires
 answer-requires c κs = search needs
 
 returns : tie.Need-returns
-returns c = turn-unmatched _ _ _ _ _ _ _ (c .before .enum-told .given .1) _ (c .answer .ensures)
+returns c = step-unmatched _ _ _ _ _ _ _ (c .before .enum-told .given .1) _ (c .answer .ensures)
 
 is-member-requires : tie.Need-is-member-requires
 is-member-requires c κs = let w = fits (c .before) in omega (arith, w .0)
@@ -41,7 +41,7 @@ returns-2 : tie.Need-returns-2
 returns-2 c =
     let tested = c .before in
     let found = tested .before .before .before in
-    turn-skips _ _ _ _ _ _ _ _ _ (found .found .given .1) (sym (tested .before .is-member .ensures) ∙ tested .if1 .taken)
+    step-skips _ _ _ _ _ _ _ _ _ (found .found .given .1) (sym (tested .before .is-member .ensures) ∙ tested .if1 .taken)
 
 take-rule-requires : tie.Need-take-rule-requires
 take-rule-requires c κs =
@@ -59,13 +59,13 @@ same-length : tie.Need-same-length
 same-length c = search needs
 
 returns-3 : tie.Need-returns-3
-unfolding after-take
+unfolding step-after-take
 returns-3 c =
     let take = c .before .before .before .before .before in
     let tested = take .before .before in
     let found = tested .before .before .before in
     let s = sym (tested .before .is-member .ensures) ∙ tested .if1 .left in
-    turn-answers _ _ _ _ _ _ _ _ _ (found .found .given .1) s _ _ (take .take-rule .ensures) NoTaker (c .before .enum-told2 .given .1) _ _
+    step-answers _ _ _ _ _ _ _ _ _ (found .found .given .1) s _ _ (take .take-rule .ensures) NoTaker (c .before .enum-told2 .given .1) _ _
     (c .answer2 .ensures) refl
 
 enum-told-3 : tie.Need-enum-told-3
@@ -78,13 +78,13 @@ same-length-2 : tie.Need-same-length-2
 same-length-2 c = search needs
 
 returns-4 : tie.Need-returns-4
-unfolding after-take
+unfolding step-after-take
 returns-4 c =
     let take = c .before .before .before .before .before in
     let tested = take .before .before in
     let found = tested .before .before .before in
     let s = sym (tested .before .is-member .ensures) ∙ tested .if1 .left in
-    turn-answers _ _ _ _ _ _ _ _ _ (found .found .given .1) s _ _ (take .take-rule .ensures) TooDeep (c .before .enum-told3 .given .1) _ _
+    step-answers _ _ _ _ _ _ _ _ _ (found .found .given .1) s _ _ (take .take-rule .ensures) TooDeep (c .before .enum-told3 .given .1) _ _
     (c .answer3 .ensures) refl
 
 enum-known-taken : tie.Need-enum-known-taken
@@ -104,14 +104,14 @@ same-length-3 : tie.Need-same-length-3
 same-length-3 c = search needs
 
 returns-5 : tie.Need-returns-5
-unfolding after-take
+unfolding step-after-take
 returns-5 c =
     let take = c .before .before .before .before .before .before .before in
     let tested = take .before .before in
     let found = tested .before .before .before in
     let s = sym (tested .before .is-member .ensures) ∙ tested .if1 .left in
     let known = c .before .before .before in
-    turn-takes _ _ _ _ _ _ _ _ _ (found .found .given .1) s _ _ (take .take-rule .ensures) (Depth (known .taken .given .0 .0)) (known .taken .given .1)
+    step-takes _ _ _ _ _ _ _ _ _ (found .found .given .1) s _ _ (take .take-rule .ensures) (Depth (known .taken .given .0 .0)) (known .taken .given .1)
 
 pub one-turn-spec : {M : Type 1} → statement M
 one-turn-spec =
