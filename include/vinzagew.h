@@ -30,7 +30,7 @@ extern "C" {
 /* The most bytes that a text may have. */
 #define VINZAGEW_TEXT_LIMIT 1048576
 
-/* The most members that a production's tail has. A take removes one pending nonterminal and adds a tail. */
+/* The most members that a production's tail has. A take removes one pending nonterminal at least and adds a tail. */
 #define VINZAGEW_TAIL_LIMIT 31
 
 /* The length of a stack that is enough for every text of n bytes. */

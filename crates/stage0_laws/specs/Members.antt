@@ -8,6 +8,11 @@ use native.Mathlib.Nat.{not-suc-le-zero}
 use lib.ListN.{getD, length}
 use Rattle.stage0_laws.specs.Lists.{All}
 
+-- The first member's fact, and those of the members after it.
+infixr 20 _&_
+abbrev pub _&_ : {X Y : Type 0} → X → Y → X × Y
+_&_ x y = (x, y)
+
 pub all-append : {A : Type 0} (P : A → Type 0) (k l : List A) → All P k → All P l → All P (k ++ l)
 all-append P [] l a b = b
 all-append P (x ∷ k) l a b = (a .0, all-append P k l (a .1) b)

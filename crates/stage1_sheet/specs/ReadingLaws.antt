@@ -1,6 +1,5 @@
--- The laws of reading a sheet: a sheet that bytes spell is read from them, whatever is read is spelled, and a refusal has one of
--- reading's four numbers and a place within the bytes. So bytes are well formed exactly where reading accepts, and they spell
--- one sheet only.
+-- The laws of reading a sheet: a sheet that bytes spell is read from them, whatever is read is spelled, and reading refuses exactly as
+-- questions 3 to 6 do. So bytes are well formed exactly where reading accepts, and they spell one sheet only.
 use mathlib.Core.Path.{_≡_, refl, sym, ap, ap₂, subst, _∙_}
 use mathlib.Core.List.{List}
 use mathlib.Core.Logic.{_↔_}

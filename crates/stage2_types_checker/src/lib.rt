@@ -20,8 +20,10 @@ ghost use Rattle.stage2_types_checker.specs.TypeBy.{type-by, fault-by};
 ghost use Rattle.stage2_types_checker.specs.Found.{language-type, fault-of, asked};
 ghost use Rattle.stage2_types_checker.specs.Checking.{CheckedOf};
 
-// How often a node's type can grow: once to nullable, and by each of 24 tokens in each of two sets.
-const TYPE_HEIGHT: usize = 49;
+const MOST_TOKENS: usize = 24;
+
+// How often a node's type can grow: once to nullable, and by each token in each of two sets.
+const TYPE_HEIGHT: usize = 1 + 2 * MOST_TOKENS;
 
 // The type of one node.
 pub struct NodeType {

@@ -17,7 +17,7 @@ use Rattle.stage2_types.specs.Questions.{Fault, type-fault}
 use Rattle.stage4_lexer.specs.Positions.{empty-match}
 use Rattle.stage5_image.specs.Image.{image-of, image-bytes}
 use Rattle.stage5_image.specs.Compile.{work-bytes, Compiled, refused, too-long, compiled, fitted, after-types, after-rules, after-reading, compile}
-use Rattle.stage5_image.specs.Compiles.{Acceptable, Compiles, short-work, long-sheet, unreadable, empty-rule, untyped, no-room, success}
+use Rattle.stage5_image.specs.Compiles.{Acceptable, Compiles, short-work, long-sheet, not-a-sheet, empty-rule, untyped, no-room, success}
 use Rattle.stage5_image.specs.CompileQuestions.{compile-answers, from-room}
 
 -- Compiling accepts every sheet that demand 2 accepts, and makes its image.
@@ -43,7 +43,7 @@ made : {sheet : List ℕ} {work room : ℕ} {c : Compiled} → Compiles sheet wo
     → Made sheet work room image
 made (short-work h) image e = not-compiled e
 made (long-sheet w h) image e = not-compiled e
-made (unreadable question place w l h) image e = not-compiled e
+made (not-a-sheet question place w l h) image e = not-compiled e
 made (empty-rule s k place w h x p) image e = not-compiled e
 made (untyped s node question place w h m x p) image e = not-compiled e
 made (no-room s w h m t l) image e = not-long e

@@ -9,7 +9,7 @@ use Rattle.stage2_types.specs.Types.{LanguageType}
 use Rattle.stage2_types.specs.Nodes.{Node}
 use Rattle.stage2_types.specs.TypeFaults.{Fails, not-guarded, not-separable, not-apart}
 use Rattle.stage5_image.specs.Compile.{Compiled, refused, too-long, compiled, compile}
-use Rattle.stage5_image.specs.Compiles.{Compiles, short-work, long-sheet, unreadable, empty-rule, untyped, no-room, success}
+use Rattle.stage5_image.specs.Compiles.{Compiles, short-work, long-sheet, not-a-sheet, empty-rule, untyped, no-room, success}
 use Rattle.stage5_image.specs.CompileQuestions.{compile-answers}
 
 fault-number : {types : List LanguageType} {x : Node} {question : ℕ} → Fails types x question → (8 ≤ question) × (question ≤ 10)
@@ -25,7 +25,7 @@ Numbered (compiled image) = Unit
 numbered : {bytes : List ℕ} {work room : ℕ} {c : Compiled} → Compiles bytes work room c → Numbered c
 numbered (short-work l) = (omega arith, omega arith)
 numbered (long-sheet l m) = (omega arith, omega arith)
-numbered (unreadable question place l m r) = let a = refused-number (r .fails) in (omega arith, omega arith)
+numbered (not-a-sheet question place l m r) = let a = refused-number (r .fails) in (omega arith, omega arith)
 numbered (empty-rule s k p l m w q) = (omega arith, omega arith)
 numbered (untyped s node q p l m n x o) = let z = fault-number (x .fails) in (omega arith, omega arith)
 numbered (no-room s l m n t r) = tt

@@ -33,7 +33,7 @@ use Rattle.stage4_lexer.specs.Positions.{empty-match}
 use Rattle.stage4_lexer.specs.Words.{FirstEmptyRule, NoEmptyRule}
 use Rattle.stage5_image.specs.Compile.{work-bytes, Compiled, refused, too-long, compiled, fitted, after-types, after-rules, after-reading, compile}
 use Rattle.stage5_image.specs.Image.{image-of, image-bytes}
-use Rattle.stage5_image.specs.Compiles.{Compiles, short-work, long-sheet, unreadable, empty-rule, untyped, no-room, success}
+use Rattle.stage5_image.specs.Compiles.{Compiles, short-work, long-sheet, not-a-sheet, empty-rule, untyped, no-room, success}
 use Rattle.stage5_image.specs.RowRanges.{rule-below}
 use Rattle.stage5_image.specs.ImageLength.{most-image-bytes, image-fits}
 
@@ -73,7 +73,7 @@ module _ (bytes : List ℕ) (work room : ℕ) where
   reading-questions : Bytes bytes → work-bytes ≤ work → length bytes ≤ most-sheet-bytes → (r : Reading Contents) → read-sheet bytes ≡ r
       → Compiles bytes work room (after-reading room r)
   unfolding after-reading
-  reading-questions b w l (stop question place) e = unreadable question place w l (read-refused bytes b e)
+  reading-questions b w l (stop question place) e = not-a-sheet question place w l (read-refused bytes b e)
   reading-questions b w l (got c end) e =
       let a = read-accepted bytes b l e in
       rule-question c w (a .spells) (a .places) (empty-match (c .sheet .rules) 0) refl
@@ -156,7 +156,7 @@ pub compiles-only : {bytes : List ℕ} → Bytes bytes → {work room : ℕ} {c 
 unfolding compile fitted after-reading
 compiles-only b {work} {room} (short-work h) = rw (lt-ltb work work-bytes h)
 compiles-only {bytes} b {work} {room} (long-sheet w h) = rw (le-ltb work work-bytes w, lt-ltb most-sheet-bytes (length bytes) h)
-compiles-only {bytes} b {work} {room} (unreadable question place w l h) =
+compiles-only {bytes} b {work} {room} (not-a-sheet question place w l h) =
     after-questions bytes work room w l ∙ ap (after-reading room) (refused-read bytes b h)
 compiles-only {bytes} b {work} {room} (empty-rule s k place w h x p) = empty-refused bytes work room w s k place h x p
 compiles-only {bytes} b {work} {room} (untyped s node question place w h m x p) = untyped-refused bytes work room w s node question place h m x p
@@ -178,7 +178,7 @@ too-long-from : {bytes : List ℕ} {work room : ℕ} {c : Compiled} → Compiles
     → (room < n) × (n ≤ most-image-bytes)
 too-long-from (short-work h) n e = let z : _≡_ {A = ℕ} 0 1 = cc in absurd (omega arith)
 too-long-from (long-sheet w h) n e = let z : _≡_ {A = ℕ} 0 1 = cc in absurd (omega arith)
-too-long-from (unreadable question place w l h) n e = let z : _≡_ {A = ℕ} 0 1 = cc in absurd (omega arith)
+too-long-from (not-a-sheet question place w l h) n e = let z : _≡_ {A = ℕ} 0 1 = cc in absurd (omega arith)
 too-long-from (empty-rule s k p w h x q) n e = let z : _≡_ {A = ℕ} 0 1 = cc in absurd (omega arith)
 too-long-from (untyped s node q p w h m x o) n e = let z : _≡_ {A = ℕ} 0 1 = cc in absurd (omega arith)
 too-long-from (no-room s w h m t l) n e =

@@ -28,7 +28,7 @@ pub data Compiles (bytes : List ℕ) (work room : ℕ) : Compiled → Type 0 whe
   short-work : work < work-bytes → Compiles bytes work room (refused 1 0)
   long-sheet : work-bytes ≤ work → most-sheet-bytes < length bytes → Compiles bytes work room (refused 2 0)
   -- 3 to 6
-  unreadable : (question place : ℕ) → work-bytes ≤ work → length bytes ≤ most-sheet-bytes → SheetRefused bytes question place
+  not-a-sheet : (question place : ℕ) → work-bytes ≤ work → length bytes ≤ most-sheet-bytes → SheetRefused bytes question place
       → Compiles bytes work room (refused question place)
   -- 7: the first rule that matches the empty word, at its action
   empty-rule : (s : Sheet) (k place : ℕ) → work-bytes ≤ work → Spells bytes s → FirstEmptyRule (s .rules) k

@@ -27,7 +27,7 @@ use Rattle.stage5_image.specs.ImageRoundTrip.{read-back, image-are-bytes
 use Rattle.stage5_image.specs.ImageReading.{image-field, read-flag, read-list, read-position, read-production, read-row, image-end, read-image}
 use Rattle.stage5_image.specs.ImageFields.{most-positions, most-nonterminals, most-productions}
 use Rattle.stage5_image.specs.ImageFields.{Fields, nothing-after, field, flag-field, many-fields, position-fields, production-fields, row-fields, image-fields}
-use Rattle.stage5_image.specs.ImageFields.{Fills, none-yet, one-more, ReadableAs, Offends, leftover, no-number, FirstOffence}
+use Rattle.stage5_image.specs.ImageFields.{Fills, none-filled, one-filled, ReadableAs, Offends, leftover, none-allowed, FirstOffence}
 
 -- ---- one first offence
 
@@ -43,11 +43,11 @@ front-one m n a b s t e =
 offence-one : {A : Type 0} {f : Fields A} {ms ns : List ℕ} {x y : Fields A} → Fills f ms x → Fills f ns y → (a b : List ℕ) → Offends x a → Offends y b
     → spell ms ++ a ≡ spell ns ++ b → length (spell ms) ≡ length (spell ns)
 unfolding spell
-offence-one none-yet none-yet a b p q e = refl
-offence-one none-yet (one-more {n = n} {ns = ns} s h r) a b (no-number p) q e = absurd (p n (spell ns ++ b) s (e ∙ append-assoc (encode n) (spell ns) b) h)
-offence-one (one-more {n = m} {ns = ms} s h r) none-yet a b p (no-number q) e =
+offence-one none-filled none-filled a b p q e = refl
+offence-one none-filled (one-filled {n = n} {ns = ns} s h r) a b (none-allowed p) q e = absurd (p n (spell ns ++ b) s (e ∙ append-assoc (encode n) (spell ns) b) h)
+offence-one (one-filled {n = m} {ns = ms} s h r) none-filled a b p (none-allowed q) e =
     absurd (q m (spell ms ++ a) s (sym e ∙ append-assoc (encode m) (spell ms) a) h)
-offence-one (one-more {next = next} {n = m} {ns = ms} s h r) (one-more {n = n} {ns = ns} {left = y} t k v) a b p q e =
+offence-one (one-filled {next = next} {n = m} {ns = ms} s h r) (one-filled {n = n} {ns = ns} {left = y} t k v) a b p q e =
     let split = sym (append-assoc (encode m) (spell ms) a) ∙ e ∙ append-assoc (encode n) (spell ns) b in
     let same = front-one m n (spell ms ++ a) (spell ns ++ b) s t split in
     let rest = offence-one r (subst (λ (i : ℕ). Fills (next i) ns y) (sym (same .0)) v) a b p q (same .1) in
@@ -62,17 +62,17 @@ first-offence-one bytes p q x y =
 no-offence : {A : Type 0} {f : Fields A} {a : A} {ms ns : List ℕ} {y : Fields A} → Fills f ms (nothing-after a) → Fills f ns y → (b : List ℕ)
     → Offends y b → spell ms ≡ spell ns ++ b → ⊥
 unfolding spell
-no-offence none-yet none-yet b leftover e = let z : _≡_ {A = ℕ} 0 1 = cc in omega arith
-no-offence (one-more {n = m} {ns = ms} s h r) none-yet b (no-number q) e = q m (spell ms) s (sym e) h
-no-offence (one-more {next = next} {n = m} {ns = ms} s h r) (one-more {n = n} {ns = ns} {left = y} t k v) b q e =
+no-offence none-filled none-filled b leftover e = let z : _≡_ {A = ℕ} 0 1 = cc in omega arith
+no-offence (one-filled {n = m} {ns = ms} s h r) none-filled b (none-allowed q) e = q m (spell ms) s (sym e) h
+no-offence (one-filled {next = next} {n = m} {ns = ms} s h r) (one-filled {n = n} {ns = ns} {left = y} t k v) b q e =
     let same = front-one m n (spell ms) (spell ns ++ b) s t (e ∙ append-assoc (encode n) (spell ns) b) in
     no-offence r (subst (λ (i : ℕ). Fills (next i) ns y) (sym (same .0)) v) b q (same .1)
 
 filled-one : {A : Type 0} {f : Fields A} {a c : A} {ms ns : List ℕ} → Fills f ms (nothing-after a) → Fills f ns (nothing-after c)
     → spell ms ≡ spell ns → a ≡ c
 unfolding spell
-filled-one none-yet none-yet e = refl
-filled-one (one-more {next = next} {n = m} {ns = ms} s h r) (one-more {n = n} {ns = ns} {left = y} t k v) e =
+filled-one none-filled none-filled e = refl
+filled-one (one-filled {next = next} {n = m} {ns = ms} s h r) (one-filled {n = n} {ns = ns} {left = y} t k v) e =
     let same = front-one m n (spell ms) (spell ns) s t e in
     filled-one r (subst (λ (i : ℕ). Fills (next i) ns y) (sym (same .0)) v) (same .1)
 
@@ -95,19 +95,19 @@ then-same (got a end) e = e a end
 
 module _ (bytes : List ℕ) where
   -- The fields, read one by one.
-  walk : {A : Type 0} → Fields A → ℕ → Reading A
-  walk (nothing-after a) at = cond (eqb at (length bytes)) (got a at) (stop 13 at)
-  walk (field allowed next) at = and-then (image-field allowed bytes at) (λ v end. walk (next v) end)
+  read-fields : {A : Type 0} → Fields A → ℕ → Reading A
+  read-fields (nothing-after a) at = cond (eqb at (length bytes)) (got a at) (stop 13 at)
+  read-fields (field allowed next) at = and-then (image-field allowed bytes at) (λ v end. read-fields (next v) end)
 
-  flag-walk : {A : Type 0} (next : Bool → Fields A) (at : ℕ) → walk (flag-field next) at ≡ and-then (read-flag bytes at) (λ b end. walk (next b) end)
-  unfolding walk flag-field read-flag
+  flag-walk : {A : Type 0} (next : Bool → Fields A) (at : ℕ) → read-fields (flag-field next) at ≡ and-then (read-flag bytes at) (λ b end. read-fields (next b) end)
+  unfolding read-fields flag-field read-flag
   flag-walk next at = then-over (image-field (between 0 1) bytes at) _ _ (λ v end. refl)
 
   many-walk : {S T A : Type 0} (one : S → ℕ → Reading T) (fields : S → (T → Fields A) → Fields A) (update : S → T → S)
-      → ((s : S) (next : T → Fields A) (at : ℕ) → walk (fields s next) at ≡ and-then (one s at) (λ t end. walk (next t) end))
+      → ((s : S) (next : T → Fields A) (at : ℕ) → read-fields (fields s next) at ≡ and-then (one s at) (λ t end. read-fields (next t) end))
       → (n : ℕ) (s : S) (next : List T → Fields A) (at : ℕ)
-      → walk (many-fields fields update s n next) at ≡ and-then (read-many one update s n at) (λ ts end. walk (next ts) end)
-  unfolding walk many-fields read-many
+      → read-fields (many-fields fields update s n next) at ≡ and-then (read-many one update s n at) (λ ts end. read-fields (next ts) end)
+  unfolding read-fields many-fields read-many
   many-walk one fields update step zero s next at = refl
   many-walk one fields update step (suc n) s next at =
       step s _ at
@@ -115,8 +115,8 @@ module _ (bytes : List ℕ) where
       (λ t mid. many-walk one fields update step n (update s t) (λ ts. next (t ∷ ts)) mid ∙ sym (then-then (read-many one update (update s t) n mid) _ _))
 
   position-walk : {A : Type 0} (rules count before : ℕ) (next : Position → Fields A) (at : ℕ)
-      → walk (position-fields rules count before next) at ≡ and-then (read-position bytes rules count before at) (λ p end. walk (next p) end)
-  unfolding walk position-fields read-position
+      → read-fields (position-fields rules count before next) at ≡ and-then (read-position bytes rules count before at) (λ p end. read-fields (next p) end)
+  unfolding read-fields position-fields read-position
   position-walk rules count before next at =
       then-over (image-field (between 0 most-byte) bytes at) _ _
       (λ low m₁. then-over (image-field (between low most-byte) bytes m₁) _ _
@@ -126,16 +126,16 @@ module _ (bytes : List ℕ) where
       (λ last m₄. then-over (image-field (λ v. ltb v (2 ^ count)) bytes m₄) _ _ (λ follow m₅. refl)))))
 
   member-walk : {A : Type 0} (count size : ℕ) (next : List ℕ → Fields A) (at : ℕ)
-      → walk (many-fields (λ (s : Bool). field (λ v. ltb v count)) (λ s m. s) true size next) at
-      ≡ and-then (read-list (image-field (λ v. ltb v count) bytes) size at) (λ l end. walk (next l) end)
-  unfolding walk read-list
+      → read-fields (many-fields (λ (s : Bool). field (λ v. ltb v count)) (λ s m. s) true size next) at
+      ≡ and-then (read-list (image-field (λ v. ltb v count) bytes) size at) (λ l end. read-fields (next l) end)
+  unfolding read-fields read-list
   member-walk count size next at =
       many-walk (λ (s : Bool) at. image-field (λ v. ltb v count) bytes at) (λ (s : Bool). field (λ v. ltb v count)) (λ s m. s)
       (λ s next at. refl) size true next at
 
   production-walk : {A : Type 0} (skips : List Bool) (count least : ℕ) (next : Production → Fields A) (at : ℕ)
-      → walk (production-fields skips count least next) at ≡ and-then (read-production bytes skips count least at) (λ p end. walk (next p) end)
-  unfolding walk production-fields read-production
+      → read-fields (production-fields skips count least next) at ≡ and-then (read-production bytes skips count least at) (λ p end. read-fields (next p) end)
+  unfolding read-fields production-fields read-production
   production-walk skips count least next at =
       then-over (image-field (λ v. leb least v && (ltb v (length skips) && not (getD skips v true))) bytes at) _ _
       (λ rule m₁. then-over (image-field (between 0 most-tail) bytes m₁) _ _
@@ -143,8 +143,8 @@ module _ (bytes : List ℕ) where
       ∙ then-over (read-list (image-field (λ v. ltb v count) bytes) size m₂) _ _ (λ tail m₃. refl)))
 
   row-walk : {A : Type 0} (skips : List Bool) (count : ℕ) (next : Row → Fields A) (at : ℕ)
-      → walk (row-fields skips count next) at ≡ and-then (read-row bytes skips count at) (λ r end. walk (next r) end)
-  unfolding walk row-fields read-row
+      → read-fields (row-fields skips count next) at ≡ and-then (read-row bytes skips count at) (λ r end. read-fields (next r) end)
+  unfolding read-fields row-fields read-row
   row-walk skips count next at =
       flag-walk _ at
       ∙ then-over (read-flag bytes at) _ _
@@ -154,8 +154,8 @@ module _ (bytes : List ℕ) where
       ∙ then-over (read-many (read-production bytes skips count) (λ least p. suc (p .head)) 0 size m₂) _ _ (λ ps m₃. refl)))
 
   -- The fields of an image, read one by one, are the reader's answer.
-  image-walk : walk image-fields 0 ≡ read-image bytes
-  unfolding walk image-fields read-image read-list image-end
+  image-walk : read-fields image-fields 0 ≡ read-image bytes
+  unfolding read-fields image-fields read-image read-list image-end
   image-walk =
       then-same (image-field (between 1 1) bytes 0)
       (λ version m₁. then-same (image-field (between 1 most-rules) bytes m₁)
@@ -170,7 +170,7 @@ module _ (bytes : List ℕ) where
       (λ nonterminals m₇. many-walk (λ (s : Bool) at. read-row bytes skips nonterminals at) (λ (s : Bool). row-fields skips nonterminals)
       (λ s r. s) (λ s. row-walk skips nonterminals) nonterminals true _ m₇)))))))
 
-  -- ---- where the walk ends
+  -- ---- where the read-fields ends
 
   -- From a place on, the numbers that were read, and what stands after them.
   record Stopped {A : Type 0} (f : Fields A) (at question place : ℕ) : Type 0 where
@@ -191,15 +191,15 @@ module _ (bytes : List ℕ) where
   Ends f at r = Outcome (Stopped f at) (λ a end. Filled f at a) r
 
   module _ (b : Bytes bytes) where
-    end-gives : {A : Type 0} (a : A) (at : ℕ) → at ≤ length bytes → Ends (nothing-after a) at (walk (nothing-after a) at)
-    unfolding spell walk
+    end-gives : {A : Type 0} (a : A) (at : ℕ) → at ≤ length bytes → Ends (nothing-after a) at (read-fields (nothing-after a) at)
+    unfolding spell read-fields
     end-gives a at h = by-test (eqb at (length bytes)) refl
       where
         by-test : (c : Bool) → eqb at (length bytes) ≡ c
             → Ends (nothing-after a) at (cond c (got a at) (stop 13 at))
         by-test true e =
             let whole = eqb-true at (length bytes) e in
-            accepted a at (record { numbers = []; spelled = ap (λ (k : ℕ). drop k bytes) whole ∙ drop-length bytes; allowed = none-yet })
+            accepted a at (record { numbers = []; spelled = ap (λ (k : ℕ). drop k bytes) whole ∙ drop-length bytes; allowed = none-filled })
         by-test false e =
             let less : at < length bytes = omega (arith, eqb-false at (length bytes) e) in
             refused 13 at (record {
@@ -207,7 +207,7 @@ module _ (bytes : List ℕ) where
               rest = getD bytes at 0 ∷ drop (suc at) bytes;
               left = nothing-after a;
               spelled = drop-cons bytes at 0 less;
-              allowed = none-yet;
+              allowed = none-filled;
               offends = leftover;
               place-is = omega arith;
             })
@@ -225,8 +225,8 @@ module _ (bytes : List ℕ) where
       rest = drop at bytes;
       left = field allowed next;
       spelled = refl;
-      allowed = none-yet;
-      offends = no-number f;
+      allowed = none-filled;
+      offends = none-allowed f;
       place-is = omega arith;
     }
 
@@ -244,7 +244,7 @@ module _ (bytes : List ℕ) where
             rest = s .rest;
             left = s .left;
             spelled = goes-past ∙ ap (λ (l : List ℕ). encode v ++ l) (s .spelled) ∙ sym (append-assoc (encode v) (spell (s .numbers)) (s .rest));
-            allowed = one-more (decode-within bytes at e .below) h (s .allowed);
+            allowed = one-filled (decode-within bytes at e .below) h (s .allowed);
             offends = s .offends;
             place-is = (let p = s .place-is in omega (arith, length-append (encode v) (spell (s .numbers)), decode-width bytes at b e));
           })
@@ -252,16 +252,16 @@ module _ (bytes : List ℕ) where
           accepted u end (record {
             numbers = v ∷ f .numbers;
             spelled = goes-past ∙ ap (λ (l : List ℕ). encode v ++ l) (f .spelled);
-            allowed = one-more (decode-within bytes at e .below) h (f .allowed);
+            allowed = one-filled (decode-within bytes at e .below) h (f .allowed);
           })
 
-    walk-gives : {A : Type 0} (f : Fields A) (at : ℕ) → at ≤ length bytes → Ends f at (walk f at)
-    unfolding walk image-field read-field field-of
+    walk-gives : {A : Type 0} (f : Fields A) (at : ℕ) → at ≤ length bytes → Ends f at (read-fields f at)
+    unfolding read-fields image-field read-field field-of
     walk-gives (nothing-after a) at h = end-gives a at h
     walk-gives (field allowed next) at h = by-number (λ v. walk-gives (next v)) (decode bytes at) refl
       where
-        by-value : ((v at : ℕ) → at ≤ length bytes → Ends (next v) at (walk (next v) at)) → (v used : ℕ) → decode bytes at ≡ Read v used
-            → (c : Bool) → allowed v ≡ c → Ends (field allowed next) at (and-then (cond c (got v (at + used)) (stop 13 at)) (λ v end. walk (next v) end))
+        by-value : ((v at : ℕ) → at ≤ length bytes → Ends (next v) at (read-fields (next v) at)) → (v used : ℕ) → decode bytes at ≡ Read v used
+            → (c : Bool) → allowed v ≡ c → Ends (field allowed next) at (and-then (cond c (got v (at + used)) (stop 13 at)) (λ v end. read-fields (next v) end))
         by-value later v used e true a = longer allowed next at v used e a (later v (at + used) (decode-within bytes at e .inside))
         by-value later v used e false a =
             refused 13 at (stops-here allowed next at (λ n more s f g.
@@ -270,8 +270,8 @@ module _ (bytes : List ℕ) where
             let x : allowed v ≡ true = ap allowed value ∙ g in
             true≢false (sym x ∙ a)))
 
-        by-number : ((v at : ℕ) → at ≤ length bytes → Ends (next v) at (walk (next v) at)) → (n : Number) → decode bytes at ≡ n
-            → Ends (field allowed next) at (and-then (field-of 13 13 allowed at n) (λ v end. walk (next v) end))
+        by-number : ((v at : ℕ) → at ≤ length bytes → Ends (next v) at (read-fields (next v) at)) → (n : Number) → decode bytes at ≡ n
+            → Ends (field allowed next) at (and-then (field-of 13 13 allowed at n) (λ v end. read-fields (next v) end))
         by-number later Refused e =
             refused 13 at (stops-here allowed next at (λ n more s f g.
             let same = sym e ∙ front-decoded at n more s f in let z : _≡_ {A = ℕ} 0 1 = cc in omega arith))

@@ -82,8 +82,8 @@ image-fields =
 
 -- Numbers that are allowed in fields, one after the other, and the fields that are left.
 pub data Fills {A : Type 0} : Fields A → List ℕ → Fields A → Type 0 where
-  none-yet : {f : Fields A} → Fills f [] f
-  one-more : {allowed : ℕ → Bool} {next : ℕ → Fields A} {n : ℕ} {ns : List ℕ} {left : Fields A}
+  none-filled : {f : Fields A} → Fills f [] f
+  one-filled : {allowed : ℕ → Bool} {next : ℕ → Fields A} {n : ℕ} {ns : List ℕ} {left : Fields A}
       → n < 2 ^ 64 → allowed n ≡ true → Fills (next n) ns left → Fills (field allowed next) (n ∷ ns) left
 
 -- The bytes of an image whose values are all in range, with nothing after.
@@ -96,7 +96,7 @@ Readable bytes = (i : Image) × ReadableAs bytes i
 -- What stands where fields go on: a byte that is left over, or no number that is allowed.
 pub data Offends {A : Type 0} : Fields A → List ℕ → Type 0 where
   leftover : {a : A} {b : ℕ} {rest : List ℕ} → Offends (nothing-after a) (b ∷ rest)
-  no-number : {allowed : ℕ → Bool} {next : ℕ → Fields A} {rest : List ℕ}
+  none-allowed : {allowed : ℕ → Bool} {next : ℕ → Fields A} {rest : List ℕ}
       → ((n : ℕ) (more : List ℕ) → n < 2 ^ 64 → rest ≡ encode n ++ more → allowed n ≡ true → ⊥) → Offends (field allowed next) rest
 
 -- "at the first offending number or leftover byte": the numbers before it are allowed, and it is not.

@@ -21,7 +21,7 @@ pub record Returns (rules : List Rule) (k t : ℕ) : Type 0 where
 -- A rule sequence spells a token sequence, "each token spelled by any rule that returns it".
 pub data SpellsTokens (rules : List Rule) : List ℕ → List ℕ → Type 0 where
   no-tokens : SpellsTokens rules [] []
-  one-more : {k t : ℕ} {ks ts : List ℕ} → Returns rules k t → SpellsTokens rules ks ts → SpellsTokens rules (k ∷ ks) (t ∷ ts)
+  token-more : {k t : ℕ} {ks ts : List ℕ} → Returns rules k t → SpellsTokens rules ks ts → SpellsTokens rules (k ∷ ks) (t ∷ ts)
 
 -- Demand 2: "the rule sequences that spell a token sequence which the expression denotes"
 abbrev pub DenotedRules : Sheet → List ℕ → Type 0

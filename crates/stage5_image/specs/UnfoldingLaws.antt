@@ -18,7 +18,7 @@ use Rattle.stage0_laws.specs.Members.{all-append}
 use Rattle.stage5_image.specs.Numbering.{numbered}
 use Rattle.stage5_image.specs.NumberingLaws.{TailsInside}
 use Rattle.stage5_image.specs.Simulation.{Simulates, tail-of, tail-numbers, TailKnown, image-simulates}
-use Rattle.stage5_image.specs.Unfolding.{StartUnfolds, Returns, SpellsTokens, no-tokens, one-more}
+use Rattle.stage5_image.specs.Unfolding.{StartUnfolds, Returns, SpellsTokens, no-tokens, token-more}
 
 -- In each row at most one production begins with a token.
 abbrev pub OnePerToken : List Row → Type 0
@@ -52,7 +52,7 @@ module _ (rules : List Rule) (rows image : List Row) (number : ℕ → ℕ) (Kno
       let same : p .tail ++ rest' ≡ map number (q .tail ++ pending) =
       ap₂ _++_ (o .3) (tail-eq-of-cons-eq e) ∙ sym (map-append number (q .tail) pending) in
       let r = to-tokens u (q .tail ++ pending) same (all-append Known (q .tail) pending (o .4) (k .1)) in
-      (q .head ∷ r .0, unfold-production (o .1) (r .1), one-more (o .2) (r .2))
+      (q .head ∷ r .0, unfold-production (o .1) (r .1), token-more (o .2) (r .2))
 
   -- One production taken: the rule's production in the image is the token's, which is the only one.
   taken : OnePerToken rows → (n : ℕ) (q : Production) (r : ℕ) (pending ks : List ℕ) → Known n → All Known pending
@@ -85,7 +85,7 @@ module _ (rules : List Rule) (rows image : List Row) (number : ℕ → ℕ) (Kno
       → Unfolds image (map number pending) ks
   from-tokens one none-pending no-tokens k = none-pending
   from-tokens one (unfold-epsilon {n = n} empty u) sp k = unfold-epsilon (s .same-epsilon n (k .0) ∙ empty) (from-tokens one u sp (k .1))
-  from-tokens one (unfold-production {n = n} {pending = pending} {p = q} m u) (one-more {k = r} {ks = ks} h sp) k =
+  from-tokens one (unfold-production {n = n} {pending = pending} {p = q} m u) (token-more {k = r} {ks = ks} h sp) k =
       taken one n q r pending ks (k .0) (k .1) m h (λ known. from-tokens one u sp known)
 
   -- The image's start unfolds to the rule sequences that spell what the rows by token unfold to.

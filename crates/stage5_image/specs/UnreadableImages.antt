@@ -1,9 +1,14 @@
 -- Worked places of 13, "at the first offending number or leftover byte": one table, one theorem, by computing.
 use mathlib.Core.Path.{_≡_, refl}
-use mathlib.Core.List.{List, [], _∷_, _++_, map}
+use mathlib.Core.List.{List, [], _∷_, _++_}
 use Prim.Native.Nat.{ℕ}
-use Rattle.stage1_sheet.specs.Field.{Reading, stop}
-use Rattle.stage5_image.specs.Image.{Image}
+use lib.Dec.{T}
+use Rattle.stage0_laws.specs.Lists.{All}
+use Rattle.stage0_laws.specs.Members.{_&_}
+use Rattle.stage1_sheet.specs.Field.{stop}
+use Rattle.stage1_sheet.specs.FieldLaws.{all-bytes, tested-bytes}
+use Rattle.stage5_image.specs.ImageFields.{FirstOffence}
+use Rattle.stage5_image.specs.FieldsLaws.{stop-offends}
 use Rattle.stage5_image.specs.ImageReading.{read-image}
 use Rattle.stage5_image.specs.Computing.{computing-image}
 
@@ -11,8 +16,9 @@ pub record Offence : Type 0 where
   pub bytes : List ℕ
   pub place : ℕ
 
-abbrev pub refused-at : Offence → Reading Image
-refused-at x = stop 13 (x .place)
+-- The bytes first offend at the place.
+abbrev pub OffendsAt : Offence → Type 0
+OffendsAt x = FirstOffence (x .bytes) (x .place)
 
 abbrev offence : List ℕ → ℕ → Offence
 offence bytes place = record { bytes = bytes; place = place }
@@ -51,6 +57,18 @@ offences =
     ∷ offence start 10
     ∷ []
 
-pub offences-found : map (λ (x : Offence). read-image (x .bytes)) offences ≡ map refused-at offences
+-- What is computed of a row: its list is of bytes, and the reader stops there.
+abbrev Computed : Offence → Type 0
+Computed x = T (all-bytes (x .bytes)) × (read-image (x .bytes) ≡ stop 13 (x .place))
+
+all-offend : (xs : List Offence) → All Computed xs → All OffendsAt xs
+all-offend [] h = tt
+all-offend (x ∷ xs) h = (stop-offends (x .bytes) (tested-bytes (x .bytes) (h .0 .0)) 13 (x .place) (h .0 .1), all-offend xs (h .1))
+
+-- Every row holds.
+pub offences-found : All OffendsAt offences
 unfolding offences computing-image
-offences-found = refl
+offences-found =
+    all-offend offences
+    ((tt, refl) & (tt, refl) & (tt, refl) & (tt, refl) & (tt, refl) & (tt, refl) & (tt, refl) &
+    (tt, refl) & (tt, refl) & (tt, refl) & (tt, refl) & (tt, refl) & (tt, refl) & tt)

@@ -218,11 +218,11 @@ module _ (sheet : List ℕ) where
 -- What compiling promises, with the work area that it leaves.
 abbrev pub Promised : page.Compiled → Compiled → List ℕ → List ℕ → List ℕ → List ℕ → Type 0
 Promised m r entry exit work after =
-    (r ≡ case-of m) × (exit ≡ image-after m entry) × (after ≡ work-after work)
+    (r ≡ case-of m) × (exit ≡ image-after m entry) × (after ≡ work-after work) × (answer-of r ≡ compile-answer m)
 
 promised : {m : page.Compiled} {r : Compiled} {entry exit after : List ℕ} (work : List ℕ) → Ends m r entry exit → after ≡ work-after work
     → Promised m r entry exit work after
-promised work h w = (h .answer, h .image, w)
+promised {m} work h w = (h .answer, h .image, w, ap answer-of (h .answer) ∙ case-answer m)
 
 module _ (sheet work buffer : List ℕ) where
   pub work-short : length work < work-bytes → Promised (compile sheet (length work) (length buffer)) (Refused 1 0) buffer buffer work work

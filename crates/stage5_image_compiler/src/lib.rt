@@ -26,7 +26,7 @@ ghost use Rattle.stage5_image_compiler.specs.Steps.{SheetOf, PositionsHe
 
 const WORK_BYTES: usize = 65536;
 
-const MOST_SHEET_BYTES: usize = 4096;
+pub const MOST_SHEET_BYTES: usize = 4096;
 
 // How compiling ends: the bytes written; the bytes needed, where the image does not fit (11); the question that fails, 1 to 10, and
 // its place.
@@ -133,13 +133,14 @@ fn compile_sheet(sheet: &[u8], image: &mut [u8]) -> Compiled
 }
 
 // Compiles a sheet into the image buffer. The work area is asked for and cleared; what compiling keeps is small enough to be held
-// by value. `answer-of` has document 01's number, place and length for each case of the answer (`case-answer`).
+// by value. `answer-of` has document 01's number, place and length for each case of the answer.
 pub fn compile(sheet: &[u8], work: &mut [u8], image: &mut [u8]) -> Compiled
     ensures { λ r.
         ⌜ (r ≡ case-of (compile (now (sheet .entry)) (length (now (work .entry))) (length (now (image .entry)))))
         × (now (image .exit) ≡ image-after
         (compile (now (sheet .entry)) (length (now (work .entry))) (length (now (image .entry)))) (now (image .entry)))
-        × (now (work .exit) ≡ work-after (now (work .entry))) ⌝ }
+        × (now (work .exit) ≡ work-after (now (work .entry)))
+        × (answer-of r ≡ compile-answer (compile (now (sheet .entry)) (length (now (work .entry))) (length (now (image .entry))))) ⌝ }
 {
     if work.len() < WORK_BYTES {
         return Compiled::Refused(1, 0);

@@ -131,7 +131,7 @@ pub tail-at : (bytes : List ℕ) (n place size at-tail : ℕ) (tail : List ℕ) 
     → image-field (between 0 most-tail) bytes place ≡ got size at-tail → length tail ≡ size → Members bytes at-tail n tail
     → TailAt bytes n place tail
 tail-at bytes n place size at-tail tail hb e l m =
-    let r = field-range 0 31 bytes place e in
+    let r = field-range 0 most-tail bytes place e in
     let o = field-one-byte (between 0 most-tail) bytes place hb e (omega arith) in
     record {
       size = o .byte ∙ sym l;

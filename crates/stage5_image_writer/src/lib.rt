@@ -18,7 +18,8 @@ ghost use Rattle.stage5_image.specs.Fusion.{fused-from};
 ghost use Rattle.stage5_image.specs.Image.{flag, production-numbers, image-of, image-numbers, image-bytes};
 ghost use Rattle.stage5_image_numbering.specs.Grammar.{GrammarOf};
 ghost use Rattle.stage5_image_writer.specs.Emitted.{Emitted};
-ghost use Rattle.stage5_image_writer.specs.Parts.{rules-part, positions-part, production-part, productions-part, row-part, rows-part, PartsOf};
+ghost use Rattle.stage5_image_writer.specs.Parts.{rules-part, positions-part, production-part, productions-part};
+ghost use Rattle.stage5_image_writer.specs.Parts.{row-part, rows-part, PartsOf};
 
 // Writes a number into what remains of a buffer from a cursor on, if it fits, and answers where the next number starts.
 // The bounds on cursors, here and below, leave room for all numbers of an image, of ten bytes at most each.

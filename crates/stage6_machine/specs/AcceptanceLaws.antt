@@ -10,7 +10,7 @@ use Rattle.stage2_types.specs.Denotation.{Denotes}
 use Rattle.stage6_machine.specs.Answer.{Answer, answer}
 use Rattle.stage6_machine.specs.OwnAnswer.{AnswersFrom, accepts, ends-early, no-rule, skips, takes, refuses, OwnAnswer}
 use Rattle.stage6_machine.specs.OwnAnswerLaws.{own-answer-one}
-use Rattle.stage6_machine.specs.Lexes.{Lexes, to-the-end, past-skip, past-token, Reaches, from-start, over-skip, over-token}
+use Rattle.stage6_machine.specs.Lexes.{Lexes, to-the-end, past-skip, past-token, LexesTo, from-start, over-skip, over-token}
 use Rattle.stage6_machine.specs.Lexes.{GoesNoFurther, no-rule-matches, token-not-allowed, not-denoted}
 
 module _ (s : Sheet) (text : List ℕ) where
@@ -46,8 +46,8 @@ module _ (s : Sheet) (text : List ℕ) where
       → a ≡ answer 0 (length text) (length tokens)
   accepted-answer a own tokens l d = own-answer-one s text own (accepting l [] d)
 
-  refused-from : {p : ℕ} {before : List ℕ} {a : Answer} → AnswersFrom s text p before a → Reaches s text p before → (a .number ≡ 0 → ⊥)
-      → (tokens : List ℕ) × Reaches s text (a .place) tokens × GoesNoFurther s text (a .place) tokens (a .number) × (a .count ≡ length tokens)
+  refused-from : {p : ℕ} {before : List ℕ} {a : Answer} → AnswersFrom s text p before a → LexesTo s text p before → (a .number ≡ 0 → ⊥)
+      → (tokens : List ℕ) × LexesTo s text (a .place) tokens × GoesNoFurther s text (a .place) tokens (a .number) × (a .count ≡ length tokens)
   refused-from (accepts e d) h z = absurd (z refl)
   refused-from (ends-early {tokens = u} e d) h z = (u, h, not-denoted e d, refl)
   refused-from (no-rule {tokens = u} l m) h z = (u, h, no-rule-matches l m, refl)
@@ -58,7 +58,7 @@ module _ (s : Sheet) (text : List ℕ) where
   -- "Otherwise the place named is the first where no rule matches, or whose token no denoted sequence allows after those before, or the
   -- end, and the count is that of the tokens before it."
   pub refused-place : (a : Answer) → OwnAnswer s text a → (a .number ≡ 0 → ⊥)
-      → (tokens : List ℕ) × Reaches s text (a .place) tokens × GoesNoFurther s text (a .place) tokens (a .number) × (a .count ≡ length tokens)
+      → (tokens : List ℕ) × LexesTo s text (a .place) tokens × GoesNoFurther s text (a .place) tokens (a .number) × (a .count ≡ length tokens)
   refused-place a own = refused-from own from-start
 
   not-seventeen : {p : ℕ} {before : List ℕ} {a : Answer} → AnswersFrom s text p before a → a .number ≡ 17 → ⊥

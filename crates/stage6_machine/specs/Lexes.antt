@@ -19,13 +19,13 @@ pub data Lexes (s : Sheet) (text : List ℕ) : ℕ → List ℕ → Type 0 where
 
 -- A place that reading comes to from the text's start, and the tokens before it, each of which some denoted sequence allows after
 -- those before.
-pub data Reaches (s : Sheet) (text : List ℕ) : ℕ → List ℕ → Type 0 where
-  from-start : Reaches s text 0 []
-  over-skip : {p : ℕ} {tokens : List ℕ} (k n : ℕ) → Reaches s text p tokens
-      → p < length text → LongestMatch (s .rules) (drop p text) k n → ActionOf s k 0 → Reaches s text (p + n) tokens
-  over-token : {p : ℕ} {tokens : List ℕ} (k n t : ℕ) → Reaches s text p tokens
+pub data LexesTo (s : Sheet) (text : List ℕ) : ℕ → List ℕ → Type 0 where
+  from-start : LexesTo s text 0 []
+  over-skip : {p : ℕ} {tokens : List ℕ} (k n : ℕ) → LexesTo s text p tokens
+      → p < length text → LongestMatch (s .rules) (drop p text) k n → ActionOf s k 0 → LexesTo s text (p + n) tokens
+  over-token : {p : ℕ} {tokens : List ℕ} (k n t : ℕ) → LexesTo s text p tokens
       → p < length text → LongestMatch (s .rules) (drop p text) k n → ActionOf s k (suc t) → Allowed s tokens t
-      → Reaches s text (p + n) (tokens ++ (t ∷ []))
+      → LexesTo s text (p + n) (tokens ++ (t ∷ []))
 
 -- Why reading goes no further from a place, with these tokens before it, by the answer's number: "no rule matches, or whose token no
 -- denoted sequence allows after those before, or the end".

@@ -137,7 +137,3 @@ module _ (s : Sheet) (text : List ℕ) (image : Image) (entries : ℕ) (StandsFo
   pub runs-own-answer : StandsFor (0 ∷ []) [] → {a : Answer} → RunsFrom image text entries 0 (0 ∷ []) 0 a → OwnAnswer s text a
   runs-own-answer start r =
       runs-answer r [] (record { inside = omega arith; counted = refl; stands = start; few = omega arith; earlier = omega arith })
-
-  pub run-image-answers : StandsFor (0 ∷ []) [] → OwnAnswer s text (run-image image entries text)
-  unfolding run-image
-  run-image-answers start = rw (le-ltb entries 1 (omega (arith, room))) (runs-own-answer start (start-runs image text entries))

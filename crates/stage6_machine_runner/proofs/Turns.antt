@@ -22,7 +22,7 @@ use Rattle.stage6_machine.specs.Turn as machine
 use Rattle.stage6_machine.specs.Run.{match-at, text-turn, run-from, first-state}
 use Rattle.stage6_machine.specs.TurnLaws.{turn-before-end, run-goes-on, run-stops, run-at-end, Onward, turn-onward}
 use Rattle.stage6_machine_turn.specs.Stack.{pending, Ready}
-use Rattle.stage6_machine_turn.specs.Steps.{answer-held, state-at, state-held, end-answer, turn-step, Fits}
+use Rattle.stage6_machine_turn.specs.Steps.{answer-held, state-at, state-held, end-answer, turn-step, MatchFits}
 use Rattle.stage6_machine_turn.specs.TurnLaws.{turn-done, turn-next, end-is}
 use Rattle.stage6_machine_turn.specs.declared.RunAnswer.{RunAnswer}
 use Rattle.stage6_machine_turn.specs.declared.State.{State}
@@ -97,11 +97,11 @@ module _ (i : Image) (bytes : List ℕ) (t : ImageTables) (decoded : Decoded byt
         ∙ ap (λ (l : List ℕ). longest-match (i .positions) (i .first) l) rest
 
     -- The match is not empty, lies within the text, and its rule is one of the image's.
-    pub going-fits : Scanned → length text < 18446744073709551616 → Fits f s
+    pub going-fits : Scanned → length text < 18446744073709551616 → MatchFits f s
     unfolding match-of
     going-fits e small = by-match f (scanned e)
       where
-        by-match : (g : Found) → match-of g ≡ match-at i text (s .place) → Fits g s
+        by-match : (g : Found) → match-of g ≡ match-at i text (s .place) → MatchFits g s
         by-match found.Nothing e = tt
         by-match (found.Rule rule n) e =
             let w = match-within (i .positions) (i .first) (drop (s .place) text) rule n (sym e) in
@@ -109,7 +109,7 @@ module _ (i : Image) (bytes : List ℕ) (t : ImageTables) (decoded : Decoded byt
             let l = length-drop (s .place) text in
             (omega (arith, r, decoded .most-rules), omega (arith, w .1, l, more, small), omega (arith, w .0, going .counted))
 
-    module _ (e : Scanned) (fits : Fits f s) where
+    module _ (e : Scanned) (fits : MatchFits f s) where
       -- The machine's turn in the text, and a turn more.
       turned : (x : machine.Turn) → machine.turn i (length stack) (match-of f) now-state ≡ x
           → text-turn i (length stack) text now-state ≡ x

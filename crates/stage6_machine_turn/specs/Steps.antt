@@ -102,6 +102,6 @@ turn-step bytes productions empty skips stack (found.Rule rule n) s =
     turn-by (bit skips rule) stack n s (take-step bytes productions empty stack (s .depth) rule)
 
 -- What a turn asks of a match at a state: its rule has its place in the tables, and place and count can go on.
-abbrev pub Fits : Found → State → Type 0
-Fits found.Nothing s = Unit
-Fits (found.Rule rule n) s = (rule < 32) × (s .place + n < 18446744073709551616) × (s .count < s .place + n)
+abbrev pub MatchFits : Found → State → Type 0
+MatchFits found.Nothing s = Unit
+MatchFits (found.Rule rule n) s = (rule < 32) × (s .place + n < 18446744073709551616) × (s .count < s .place + n)

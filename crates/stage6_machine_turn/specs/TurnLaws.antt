@@ -17,7 +17,7 @@ use Rattle.stage6_machine.specs.Turn.{take-rule, all-nullable, at-text-end}
 use Rattle.stage6_machine.specs.TurnLaws.{turn-unmatched, turn-skips, turn-refuses, turn-overflows, turn-takes}
 use Rattle.stage6_machine_turn.specs.Stack.{pending, Ready}
 use Rattle.stage6_machine_turn.specs.Steps.{answer-held, run-answer, state-at, state-held, turn-held, all-members, end-answer}
-use Rattle.stage6_machine_turn.specs.Steps.{take-step, step-after-take, turn-by, TurnStep, turn-step, Fits}
+use Rattle.stage6_machine_turn.specs.Steps.{take-step, step-after-take, turn-by, TurnStep, turn-step, MatchFits}
 use Rattle.stage6_machine_turn.specs.StackLaws.{length-pending}
 use Rattle.stage6_machine_turn.specs.TakingLaws.{TakeLeads, take-leads}
 use Rattle.stage6_machine_turn.specs.declared.RunAnswer.{RunAnswer}
@@ -69,16 +69,16 @@ module _ (i : Image) (bytes : List ℕ) (t : ImageTables) (decoded : Decoded byt
   abbrev step : Found → TurnStep
   step f = turn-step bytes (t .productions) (t .empty) (t .skips) stack f s
 
-  turn-is : (f : Found) → Fits f s → TurnIs (machine-turn f) (step f .stack) (step f .outcome)
+  turn-is : (f : Found) → MatchFits f s → TurnIs (machine-turn f) (step f .stack) (step f .outcome)
   unfolding turn-step match-of answer-held
   turn-is found.Nothing h = (turn-unmatched i (length stack) (state-held stack s), tt)
   turn-is (found.Rule rule n) h = by-flag rule n (h .0) (bit (t .skips) rule) refl
 
   -- A turn that ends with an answer, and one that goes on.
-  pub turn-done : (f : Found) → Fits f s → (a : RunAnswer) → step f .outcome ≡ Done a → machine-turn f ≡ machine.ends (answer-held a)
+  pub turn-done : (f : Found) → MatchFits f s → (a : RunAnswer) → step f .outcome ≡ Done a → machine-turn f ≡ machine.ends (answer-held a)
   turn-done f h a e = turn-is f h .0 ∙ ap (turn-held (step f .stack)) e
 
-  pub turn-next : (f : Found) → Fits f s → (stack' : List ℕ) (s' : State) → stack' ≡ step f .stack → step f .outcome ≡ Next s'
+  pub turn-next : (f : Found) → MatchFits f s → (stack' : List ℕ) (s' : State) → stack' ≡ step f .stack → step f .outcome ≡ Next s'
       → (machine-turn f ≡ machine.goes-on (state-held stack' s'))
       × Ready bytes (t .productions) (t .empty) (i .rows) (t .nonterminals) stack' (s' .depth)
   turn-next f h stack' s' g e =

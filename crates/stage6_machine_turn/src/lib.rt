@@ -9,7 +9,7 @@ ghost use Rattle.stage0_laws.specs.Bits.{bit};
 ghost use Rattle.stage0_laws.specs.Lists.{All};
 ghost use Rattle.stage3_normal_form.specs.Productions.{Row};
 ghost use Rattle.stage6_machine_turn.specs.Stack.{pending, pushed, Ready};
-ghost use Rattle.stage6_machine_turn.specs.Steps.{run-answer, state-at, part, Fits};
+ghost use Rattle.stage6_machine_turn.specs.Steps.{run-answer, state-at, part, MatchFits};
 ghost use Rattle.stage6_machine_turn.specs.Steps.{taker, all-members, end-answer, take-step, turn-step};
 use stage4_lexer_scanner::Found;
 
@@ -154,7 +154,7 @@ pub fn one_turn(
     found: Found,
     state: State,
 ) -> Turn
-    requires { ⌜ Fits found state
+    requires { ⌜ MatchFits found state
         × ((rows : List Row) × (k : ℕ) × Ready (now image) (now productions) empty rows k (now stack) (state .depth)) ⌝ }
     ensures { λ r.
         ⌜ (r ≡ turn-step (now (image .entry)) (now (productions .entry)) empty skips (now (stack .entry)) found state .outcome)

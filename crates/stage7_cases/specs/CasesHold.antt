@@ -7,6 +7,7 @@ use native.Mathlib.Omega.{arith}
 use lib.Dec.{T, leb, leb→le}
 use lib.ListN.{length}
 use Rattle.stage0_laws.specs.Lists.{All}
+use Rattle.stage0_laws.specs.Members.{_&_}
 use Rattle.stage1_sheet.specs.Limits.{most-sheet-bytes}
 use Rattle.stage1_sheet.specs.Sheet.{Sheet}
 use Rattle.stage1_sheet.specs.WellFormed.{Spells}
@@ -75,11 +76,6 @@ endless-contents = record {
 endless-iterate : (i : ℕ) (w : List ℕ) → iterate (λ L. denotation (sequence (token 0) (variable 0)) (L ∷ [])) i w → ⊥
 endless-iterate zero w h = h
 endless-iterate (suc i) w h = endless-iterate i (h .1) (h .4)
-
--- One row's fact, and those of the rows after it.
-infixr 20 _&_
-abbrev _&_ : {X Y : Type 0} → X → Y → X × Y
-_&_ x y = (x, y)
 
 all-computed : All Computes cases
 unfolding cases compiled-sheet computing-machine

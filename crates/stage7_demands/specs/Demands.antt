@@ -2,7 +2,7 @@
 -- of those that the code's contracts cite (`Proofs`): so the definitions of these functions need not be read. The contracts:
 --   `stage5_image_compiler`: `compile` answers `compile`, and leaves `image-after` and `work-after`;
 --   `stage6_machine_runner`: `run` answers `run`, and leaves `stack-after`;
---   `stage7_engine`: `read_text` has `OwnAnswer` itself in its contract, and all three buffers;
+--   `stage7_engine`: `read_text` has `OwnAnswer` itself in its contract, and all three buffers; so has `program_line`, with its own buffers;
 --   `vinzagew`: `sheet_compile` and `image_run` hand on the first two.
 use mathlib.Core.Path.{_≡_}
 use mathlib.Core.List.{List, [], _++_}

@@ -31,25 +31,6 @@ use Rattle.stage7_engine.specs.Reading.{told, text-line, line-of}
 use Rattle.stage7_engine.specs.Program.{most-program-text, program-room, program-entries, program-line, OwnLine}
 use Rattle.stage7_engine.specs.Reading.{Told, sheet-refused, text-answered, answer-within, reading, stack-after-reading, OwnReading}
 
--- The case of compiling's answer tells how compiling ended.
-pub case-refused : (m : page.Compiled) (number place : ℕ) → case-of m ≡ Refused number place → m ≡ refused number place
-unfolding case-of
-case-refused (refused n p) number place e = let a : n ≡ number = cc in let b : p ≡ place = cc in cc
-case-refused (too-long n) number place e = let z : _≡_ {A = ℕ} 0 1 = cc in absurd (omega arith)
-case-refused (compiled image) number place e = let z : _≡_ {A = ℕ} 0 1 = cc in absurd (omega arith)
-
-pub case-long : (m : page.Compiled) (needed : ℕ) → case-of m ≡ TooLong needed → m ≡ too-long needed
-unfolding case-of
-case-long (refused n p) needed e = let z : _≡_ {A = ℕ} 0 1 = cc in absurd (omega arith)
-case-long (too-long n) needed e = let a : n ≡ needed = cc in cc
-case-long (compiled image) needed e = let z : _≡_ {A = ℕ} 0 1 = cc in absurd (omega arith)
-
-pub case-done : (m : page.Compiled) (size : ℕ) → case-of m ≡ Done size → (image : List ℕ) × (m ≡ compiled image) × (size ≡ length image)
-unfolding case-of
-case-done (refused n p) size e = let z : _≡_ {A = ℕ} 0 1 = cc in absurd (omega arith)
-case-done (too-long n) size e = let z : _≡_ {A = ℕ} 0 1 = cc in absurd (omega arith)
-case-done (compiled image) size e = (image, refl, (let a : length image ≡ size = cc in sym a))
-
 module _ (limit : ℕ) (sheet text : List ℕ) (work room : ℕ) where
   -- A sheet that was refused is not acceptable.
   not-compiled : {X : Type 0} (s : Sheet) → Acceptable sheet room s → page.work-bytes ≤ work → (m : page.Compiled) → compile sheet work room ≡ m

@@ -75,11 +75,16 @@ pub fn line_for(read: TextRead) -> Line
 }
 
 // The longest text that the program takes, and what it lends.
-const MOST_PROGRAM_TEXT: usize = 2048;
+pub const MOST_PROGRAM_TEXT: usize = 2048;
 
 const PROGRAM_WORK: usize = 65536;
 
 const PROGRAM_ROOM: usize = 65536;
+
+// What the program loads of each file: one byte more than is allowed tells that it is too long (`loaded-enough`).
+pub const LOADED_SHEET: usize = stage5_image_compiler::MOST_SHEET_BYTES + 1;
+
+pub const LOADED_TEXT: usize = MOST_PROGRAM_TEXT + 1;
 
 const PROGRAM_ENTRIES: usize = 1 + stage3_normal_form::MOST_GROWTH * MOST_PROGRAM_TEXT;
 

@@ -69,7 +69,8 @@ pub extern "C" fn image_run(image: &[u8], text: &[u8], stack: &mut [u8], out: &m
         (run-numbers (run (now (image .entry)) (now (text .entry)) (length (now (stack .entry)))))
         (now (out .entry)))
         × (now (stack .exit) ≡ if-room (now (out .entry))
-        (stack-after (run (now (image .entry)) (now (text .entry)) (length (now (stack .entry)))) (now (stack .entry))) (now (stack .entry))) ⌝ }
+        (stack-after (run (now (image .entry)) (now (text .entry)) (length (now (stack .entry)))) (now (stack .entry)))
+        (now (stack .entry))) ⌝ }
 {
     if out.len() < 3 {
         return;

@@ -38,10 +38,9 @@ fn print_line(line: Line) {
     }
 }
 
-// One byte more than is allowed tells that a file is too long.
 fn main() {
-    let mut sheet = [0u8; 4097];
-    let mut text = [0u8; 2049];
+    let mut sheet = [0u8; stage7_engine::LOADED_SHEET];
+    let mut text = [0u8; stage7_engine::LOADED_TEXT];
     let sheet_size = load(b"sheet", &mut sheet);
     let text_size = load(b"text", &mut text);
     print_line(stage7_engine::program_line(&sheet[..sheet_size], &text[..text_size]));

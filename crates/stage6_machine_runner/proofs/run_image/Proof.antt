@@ -9,7 +9,7 @@ use denote.Ref.{now}
 use Rattle.stage5_image.specs.Image.{Image}
 use Rattle.stage5_image_reader.specs.Decoded.{Decoded}
 use Rattle.stage6_machine.specs.Run.{run-from, first-state}
-use Rattle.stage6_machine_turn.specs.Steps.{answer-held, turn-step, Fits}
+use Rattle.stage6_machine_turn.specs.Steps.{answer-held, turn-step, MatchFits}
 use Rattle.stage6_machine_turn.specs.declared.Turn.the-variants.{Next, Done}
 use Rattle.stage6_machine_turn.specs.StackLaws.{ready-entries}
 use Rattle.stage6_machine_runner.proofs.Turns.{Going, going-first, going-ends, going-fits, going-done, going-next}
@@ -32,7 +32,7 @@ abbrev μ-loop : tie.MeasureT-loop
 fits-here : (c : tie.After-longest-match Inv-loop μ-loop) (i : Image)
     → let head = c .before .before .before .before .before .before .before .before .before in
     let start = head .before .before .before .before .before .before .before in
-    Decoded (now (start .args .image)) (start .args .t2) i → Fits (c .longest-match .result) (head .loop .state)
+    Decoded (now (start .args .image)) (start .args .t2) i → MatchFits (c .longest-match .result) (head .loop .state)
 fits-here c i d =
     let head = c .before .before .before .before .before .before .before .before .before in
     let l = head .loop in

@@ -3,7 +3,7 @@ use mathlib.Core.Path.{_≡_, refl, sym, subst, _∙_}
 use Prim.Native.Nat.{_+_, _<_}
 use native.Mathlib.Omega.{arith}
 use Rattle.stage4_lexer_scanner.specs.declared.Found.{Found}
-use Rattle.stage6_machine_turn.specs.Steps.{step-after-take, Fits}
+use Rattle.stage6_machine_turn.specs.Steps.{step-after-take, MatchFits}
 use Rattle.stage6_machine_turn.specs.declared.Taken.the-variants.{Depth, NoTaker, TooDeep}
 use Rattle.stage6_machine_turn.proofs.Answers.{step-unmatched, step-skips, step-takes, step-answers}
 use borrow.Author.Needs.{needs}
@@ -17,7 +17,7 @@ fits : (c : tie.After-found)
     (c .found .given .0 .0 < 32) × (s .place + n < 18446744073709551616) × (s .count < s .place + n)
 fits c =
     let start = c .before .before .before .before in
-    subst (λ (f : Found). Fits f (start .args .state)) (c .found .given .1) (start .pre .0)
+    subst (λ (f : Found). MatchFits f (start .args .state)) (c .found .given .1) (start .pre .0)
 
 enum-known-found : tie.Need-enum-known-found
 enum-known-found c = search needs

@@ -12,10 +12,11 @@ use Rattle.stage5_image.specs.CompileLaws.{compiled-fits}
 use Rattle.stage6_machine.specs.Answer.{Answer}
 use Rattle.stage6_machine.specs.Run.{run}
 use Rattle.stage6_machine_turn.specs.Steps.{answer-held}
+use Rattle.stage5_image_compiler.specs.Answer.{case-done, case-too-long, case-refused}
 use Rattle.stage7_demands.specs.Demands.{Demand1}
 use Rattle.stage7_demands.specs.Proofs.{demand-1}
 use Rattle.stage7_engine.specs.Reading.{text-answered, OwnReading}
-use Rattle.stage7_engine.proofs.Laws.{case-refused, case-long, case-done, own-refused, own-long, own-over, own-run}
+use Rattle.stage7_engine.proofs.Laws.{own-refused, own-long, own-over, own-run}
 use Rattle.stage7_engine.proofs.Laws.{told-refused, told-long, told-over, told-run, written-image}
 use borrow.Author.Needs.{needs}
 use Rattle.stage7_engine.proofs.read_text.Statement.{statement}
@@ -56,7 +57,7 @@ returns c =
     let z = c .before .before .before .before .before .before .before .before .before .before .before .before .before .before .before .before .args in
     let k = c .before .before .before .before .before .before .before .before .compile in
     let m = compile (now (z .sheet)) (length (now (z .work))) (length (now (z .image))) in
-    let d = case-done m _ (sym (k .ensures .0) ∙ c .before .before .made2 .given .1) in
+    let d = case-done m (sym (k .ensures .0) ∙ c .before .before .made2 .given .1) in
     let t = told-over (z .limit) (now (z .text)) (now (z .stack)) (length (now (z .stack))) (d .0) (d .1) (c .if1 .taken) in (
       t .0,
       k .ensures .1,
@@ -71,7 +72,7 @@ slice-reshare-prefix-run c =
     let z = c .before .before .before .before .before .before .before .before .before .before .before .before .before .before .before .before .args in
     let k = c .before .before .before .before .before .before .before .before .compile in
     let m = compile (now (z .sheet)) (length (now (z .work))) (length (now (z .image))) in
-    let d = case-done m _ (sym (k .ensures .0) ∙ c .before .before .made2 .given .1) in
+    let d = case-done m (sym (k .ensures .0) ∙ c .before .before .made2 .given .1) in
     let f = compiled-fits (now (z .sheet)) (length (now (z .work))) (length (now (z .image))) (d .0) (d .1) in
     let l = ap length (k .ensures .1) ∙ demand-1 .image-kept (now (z .sheet)) (length (now (z .work))) (now (z .image)) in
     omega (arith, d .2, f, l)
@@ -82,7 +83,7 @@ slice-aggregate-run c =
     let z = c .before .before .before .before .before .before .before .before .before .before .before .before .before .before .before .before .before .args in
     let k = c .before .before .before .before .before .before .before .before .before .compile in
     let m = compile (now (z .sheet)) (length (now (z .work))) (length (now (z .image))) in
-    let d = case-done m _ (sym (k .ensures .0) ∙ c .before .before .before .made2 .given .1) in
+    let d = case-done m (sym (k .ensures .0) ∙ c .before .before .before .made2 .given .1) in
     let f = compiled-fits (now (z .sheet)) (length (now (z .work))) (length (now (z .image))) (d .0) (d .1) in
     let l = ap length (k .ensures .1) ∙ demand-1 .image-kept (now (z .sheet)) (length (now (z .work))) (now (z .image)) in
     sym (length-take-le (c .before .before .before .made2 .given .0 .0) (k .last .1 .1 .0) (omega (arith, d .2, f, l)))
@@ -105,7 +106,7 @@ returns-2 c =
     let z = c .before .before .before .before .before .before .before .before .before .before .before .before .before .before .before .args in
     let k = c .before .before .before .before .before .before .before .compile in
     let m = compile (now (z .sheet)) (length (now (z .work))) (length (now (z .image))) in
-    let e = case-refused m _ _ (sym (k .ensures .0) ∙ c .before .made .given .1) in
+    let e = case-refused m (sym (k .ensures .0) ∙ c .before .made .given .1) in
     let t = told-refused (z .limit) (now (z .text)) (now (z .stack)) (length (now (z .stack))) _ _ e in (
       t .0,
       k .ensures .1,
@@ -128,7 +129,7 @@ returns-3 c =
     let z = c .before .before .before .before .before .before .before .before .before .before .before .before .before .before .args in
     let k = c .before .before .before .before .before .before .compile in
     let m = compile (now (z .sheet)) (length (now (z .work))) (length (now (z .image))) in
-    let e = case-long m _ (sym (k .ensures .0) ∙ c .enum-told .given .1) in
+    let e = case-too-long m (sym (k .ensures .0) ∙ c .enum-told .given .1) in
     let t = told-long (z .limit) (now (z .text)) (now (z .stack)) (length (now (z .stack))) _ e in (
       t .0,
       k .ensures .1,
@@ -156,7 +157,7 @@ returns-4 c =
     let z = c .before .before .before .before .before .before .before .before .before .before .before .before .before .before .before .before .before .before .before .before .before .args in
     let k = c .before .before .before .before .before .before .before .before .before .before .before .before .before .compile in
     let m = compile (now (z .sheet)) (length (now (z .work))) (length (now (z .image))) in
-    let d = case-done m _ (sym (k .ensures .0) ∙ c .before .before .before .before .before .before .before .made2 .given .1) in
+    let d = case-done m (sym (k .ensures .0) ∙ c .before .before .before .before .before .before .before .made2 .given .1) in
     let r = c .before .before .run in
     let bytes : Bytes (now (z .sheet)) = λ i. c .before .before .before .before .before .before .before .before .before .before .before .before .before .before .before .before .before .before .before .before .shared-slice-known .given i .fits in
     let w = written-image m (d .0) (now (z .image)) _ (d .1) (k .ensures .1) in
