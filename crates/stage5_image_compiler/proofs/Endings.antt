@@ -39,7 +39,7 @@ use Rattle.stage4_lexer_sets.specs.declared.RulePositions.{RulePositions}
 use Rattle.stage4_lexer_sets.specs.declared.EmptyRule.the-variants as sets
 use Rattle.stage5_image.specs.Compile as page
 use Rattle.stage5_image.specs.Compile.{work-bytes, fitted, after-types, after-rules, after-reading, compile}
-use Rattle.stage5_image.specs.Compile.{image-after, work-after}
+use Rattle.stage5_image.specs.Compile.{compile-answer, image-after, work-after}
 use Rattle.stage5_image.specs.Fusion.{fused}
 use Rattle.stage5_image.specs.Image.{image-of, image-bytes}
 use Rattle.stage5_image.specs.Numbering.{reached}
@@ -47,7 +47,7 @@ use Rattle.stage5_image_numbering.specs.Grammar.{Numbers}
 use Rattle.stage5_image_numbering.specs.declared.Grammar.{Grammar}
 use Rattle.stage5_image_numbering.specs.declared.Numbering.{Numbering}
 use Rattle.stage5_image_writer.specs.Parts.{PartsOf}
-use Rattle.stage5_image_compiler.specs.Answer.{case-of, Ends}
+use Rattle.stage5_image_compiler.specs.Answer.{answer-of, case-of, case-answer, Ends}
 use Rattle.stage5_image_compiler.specs.Steps.{SheetOf, PositionsHeld, MadeFrom, after-work, work-first}
 use Rattle.stage5_image_compiler.specs.declared.Compiled.{Compiled}
 use Rattle.stage5_image_compiler.specs.declared.Compiled.the-variants.{Done, TooLong, Refused}

@@ -21,7 +21,7 @@ ghost use Rattle.stage5_image.specs.Image.{image-of, image-bytes};
 ghost use Rattle.stage5_image.specs.Compile.{fitted, after-types, after-rules, compile};
 ghost use Rattle.stage5_image.specs.Compile.{compile-answer, answer-numbers, image-after, written-part, work-after};
 ghost use Rattle.stage5_image_numbering.specs.Grammar.{GrammarOf};
-ghost use Rattle.stage5_image_compiler.specs.Answer.{case-of, Ends};
+ghost use Rattle.stage5_image_compiler.specs.Answer.{answer-of, case-of, Ends};
 ghost use Rattle.stage5_image_compiler.specs.Steps.{SheetOf, PositionsHeld, MadeFrom, after-work};
 
 const WORK_BYTES: usize = 65536;

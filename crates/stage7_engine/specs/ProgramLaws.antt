@@ -1,19 +1,17 @@
 -- What the program loads of its two files is enough: one byte more than each limit tells that a file is too long, and what lies past it
 -- does not change the line.
-use mathlib.Core.Path.{_≡_, refl, sym, ap, ap₂, _∙_}
-use mathlib.Core.Bool.{Bool, true, false, cond}
+use mathlib.Core.Path.{_≡_, refl, sym, ap, _∙_}
 use mathlib.Core.List.{List}
 use mathlib.Core.Logic.{⊎-elim}
 use Prim.Native.Nat.{ℕ, suc, _≤_, _<_}
 use native.Mathlib.Omega.{arith}
-use lib.Dec.{ltb}
 use lib.ListN.{length, take}
 use lib.Seq.{take-all, length-take-le}
-use borrow.Author.Tests.{lt-ltb, le-ltb}
+use borrow.Author.Tests.{lt-ltb}
 use Rattle.stage0_laws.specs.Order.{lt-or-le}
 use Rattle.stage1_sheet.specs.Limits.{most-sheet-bytes}
 use Rattle.stage5_image.specs.Compile.{work-bytes, Compiled, refused, too-long, compiled, compile}
-use Rattle.stage7_engine.specs.Reading.{Told, answer-within, reading, line-of}
+use Rattle.stage7_engine.specs.Reading.{answer-within, reading, line-of}
 use Rattle.stage7_engine.specs.Program.{most-program-text, program-room, program-entries, program-line}
 
 -- A list that is longer than a limit is so in its first bytes, one more than the limit.
@@ -32,7 +30,7 @@ loaded-sheet sheet room = ⊎-elim
     (lt-or-le (length sheet) (suc most-sheet-bytes))
   where
     long : (l : List ℕ) → most-sheet-bytes < length l → compile l work-bytes room ≡ refused 2 0
-    long l h = rw (le-ltb work-bytes work-bytes (omega arith), lt-ltb most-sheet-bytes (length l) h)
+    long l h = rw (lt-ltb most-sheet-bytes (length l) h)
 
 loaded-text : (c : Compiled) (text : List ℕ) (entries : ℕ)
     → reading most-program-text c (take (suc most-program-text) text) entries ≡ reading most-program-text c text entries
