@@ -16,9 +16,10 @@ use Rattle.stage1_sheet.specs.Reading.{Contents, read-sheet}
 use Rattle.stage2_types.specs.Questions.{Fault, type-fault}
 use Rattle.stage4_lexer.specs.Positions.{empty-match}
 use Rattle.stage5_image.specs.Image.{image-of, image-bytes}
+use Rattle.stage5_image.specs.FieldsLaws.{readable-written}
 use Rattle.stage5_image.specs.Compile.{work-bytes, Compiled, refused, too-long, compiled, fitted, after-types, after-rules, after-reading, compile}
 use Rattle.stage5_image.specs.Compiles.{Acceptable, Compiles, short-work, long-sheet, not-a-sheet, empty-rule, untyped, no-room, success}
-use Rattle.stage5_image.specs.CompileQuestions.{compile-answers, from-room}
+use Rattle.stage5_image.specs.CompileQuestions.{written-readable, acceptable-fits, compile-answers, from-room}
 
 -- Compiling accepts every sheet that demand 2 accepts, and makes its image.
 pub acceptable-compiles : (sheet : List ℕ) (work room : ℕ) (s : Sheet) → work-bytes ≤ work → Acceptable sheet room s
@@ -26,7 +27,8 @@ pub acceptable-compiles : (sheet : List ℕ) (work room : ℕ) (s : Sheet) → w
 unfolding fitted
 acceptable-compiles sheet work room s w a =
     from-room sheet work room w s (a .well-formed) (a .no-empty-text) (a .has-type)
-    ∙ rw (le-leb (length (image-bytes (image-of s))) room (a .fits))
+    ∙ rw (le-leb (length (image-bytes (image-of s))) room
+    (acceptable-fits a (image-bytes (image-of s)) (written-readable s ((a .well-formed) .limits) (a .no-empty-text) (a .has-type))))
 
 -- Success has no other way.
 not-compiled : {X : Type 0} {question place : ℕ} {image : List ℕ} → refused question place ≡ compiled image → X
@@ -46,8 +48,8 @@ made (long-sheet w h) image e = not-compiled e
 made (not-a-sheet question place w l h) image e = not-compiled e
 made (empty-rule s k place w h x p) image e = not-compiled e
 made (untyped s node question place w h m x p) image e = not-compiled e
-made (no-room s w h m t l) image e = not-long e
-made (success s w a) image e = let z : image-bytes (image-of s) ≡ image = cc in (w, (s, a, sym z))
+made (no-room s i w h m t r l) image e = not-long e
+made (success s i w a r) image e = let z : i ≡ image = cc in (w, (s, a, sym z ∙ readable-written i (image-of s) r))
 
 -- And no other.
 pub compiled-acceptable : (sheet : List ℕ) → Bytes sheet → (work room : ℕ) (image : List ℕ) → compile sheet work room ≡ compiled image

@@ -28,8 +28,8 @@ numbered (long-sheet l m) = (omega arith, omega arith)
 numbered (not-a-sheet question place l m r) = let a = refused-number (r .fails) in (omega arith, omega arith)
 numbered (empty-rule s k p l m w q) = (omega arith, omega arith)
 numbered (untyped s node q p l m n x o) = let z = fault-number (x .fails) in (omega arith, omega arith)
-numbered (no-room s l m n t r) = tt
-numbered (success s l a) = tt
+numbered (no-room s image l m n t r k) = tt
+numbered (success s image l a r) = tt
 
 pub compile-numbered : (sheet : List ℕ) → Bytes sheet → (work room : ℕ) → Numbered (compile sheet work room)
 compile-numbered sheet bytes work room = numbered (compile-answers sheet work room bytes)

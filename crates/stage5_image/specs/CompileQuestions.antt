@@ -1,6 +1,6 @@
 -- Compiling's answer is the one that the page's terms fix: `compile` ends so, whatever is handed over, and there is no other answer.
 -- And 11 never comes with 65,536 bytes of room.
-use mathlib.Core.Path.{_≡_, refl, sym, ap, _∙_}
+use mathlib.Core.Path.{_≡_, refl, sym, ap, subst, _∙_}
 use mathlib.Core.Bool.{Bool, true, false, cond}
 use mathlib.Core.List.{List}
 use mathlib.Core.Option.{Option, none, some}
@@ -33,9 +33,17 @@ use Rattle.stage4_lexer.specs.Positions.{empty-match}
 use Rattle.stage4_lexer.specs.Words.{FirstEmptyRule, NoEmptyRule}
 use Rattle.stage5_image.specs.Compile.{work-bytes, Compiled, refused, too-long, compiled, fitted, after-types, after-rules, after-reading, compile}
 use Rattle.stage5_image.specs.Image.{image-of, image-bytes}
-use Rattle.stage5_image.specs.Compiles.{Compiles, short-work, long-sheet, not-a-sheet, empty-rule, untyped, no-room, success}
+use Rattle.stage5_image.specs.Compiles.{Acceptable, Compiles, short-work, long-sheet, not-a-sheet, empty-rule, untyped, no-room, success}
 use Rattle.stage5_image.specs.RowRanges.{rule-below}
+use Rattle.stage5_image.specs.ImageFields.{ReadableAs}
+use Rattle.stage5_image.specs.FieldsLaws.{readable-written, image-readable}
+use Rattle.stage5_image.specs.ImageLaws.{image-in-range}
 use Rattle.stage5_image.specs.ImageLength.{most-image-bytes, image-fits}
+
+-- The bytes that are written for a sheet's image are readable as that image.
+pub written-readable : (s : Sheet) → WithinLimits s → NoEmptyRule (s .rules) → HasType (s .expression)
+    → ReadableAs (image-bytes (image-of s)) (image-of s)
+written-readable s w m t = image-readable (image-of s) (image-in-range s w (none-empty (s .rules) .1 m) (t .1))
 
 -- Questions 8 to 10, by what is computed.
 fault-is : (s : Sheet) → WithinLimits s → (f : Fault) → (type-fault (s .expression) ≡ some f) ↔ TypeFault (s .expression) (f .node) (f .number)
@@ -49,8 +57,12 @@ module _ (bytes : List ℕ) (work room : ℕ) where
     where
       go : (b : Bool) → leb (length (image-bytes (image-of s))) room ≡ b
           → Compiles bytes work room (cond b (compiled (image-bytes (image-of s))) (too-long (length (image-bytes (image-of s)))))
-      go true e = success s w (record { well-formed = h; no-empty-text = m; has-type = t; fits = leb→le (length (image-bytes (image-of s))) room (true-holds _ e) })
-      go false e = no-room s w h m t (nleb→lt (length (image-bytes (image-of s))) room (rw e tt))
+      go true e =
+          let r = written-readable s (h .limits) m t in
+          let l = leb→le (length (image-bytes (image-of s))) room (true-holds _ e) in
+          success s (image-bytes (image-of s)) w (record { well-formed = h; no-empty-text = m; has-type = t; fits = (image-bytes (image-of s), r, l) }) r
+      go false e =
+          no-room s (image-bytes (image-of s)) w h m t (written-readable s (h .limits) m t) (nleb→lt (length (image-bytes (image-of s))) room (rw e tt))
 
   module _ (c : Contents) (w : work-bytes ≤ work) (h : Spells bytes (c .sheet)) (p : ContentsOf bytes (c .sheet) c) where
     type-question : empty-match (c .sheet .rules) 0 ≡ none → (o : Option Fault) → type-fault (c .sheet .expression) ≡ o
@@ -151,6 +163,14 @@ module _ (bytes : List ℕ) (work room : ℕ) (w : work-bytes ≤ work) where
       from-types s h m ∙ rw (sheet-typed-iff s (h .limits) .1 t)
       (ap (λ (u : Sheet). fitted room (image-bytes (image-of u))) (from-rules s h .stands .same-sheet))
 
+-- The bytes that fit are the image's only ones.
+pub acceptable-fits : {bytes : List ℕ} {room : ℕ} {s : Sheet} → Acceptable bytes room s → (image : List ℕ) → ReadableAs image (image-of s)
+    → length image ≤ room
+acceptable-fits {bytes} {room} {s} a image r =
+    let f = a .fits in
+    let e : image ≡ f .0 = readable-written image (image-of s) r ∙ sym (readable-written (f .0) (image-of s) (f .1)) in
+    subst (λ (l : List ℕ). length l ≤ room) (sym e) (f .2)
+
 -- Whatever compiling ends with in the page's terms is what `compile` answers.
 pub compiles-only : {bytes : List ℕ} → Bytes bytes → {work room : ℕ} {c : Compiled} → Compiles bytes work room c → compile bytes work room ≡ c
 unfolding compile fitted after-reading
@@ -160,11 +180,11 @@ compiles-only {bytes} b {work} {room} (not-a-sheet question place w l h) =
     after-questions bytes work room w l ∙ ap (after-reading room) (refused-read bytes b h)
 compiles-only {bytes} b {work} {room} (empty-rule s k place w h x p) = empty-refused bytes work room w s k place h x p
 compiles-only {bytes} b {work} {room} (untyped s node question place w h m x p) = untyped-refused bytes work room w s node question place h m x p
-compiles-only {bytes} b {work} {room} (no-room s w h m t l) =
-    from-room bytes work room w s h m t ∙ rw (lt-leb (length (image-bytes (image-of s))) room l)
-compiles-only {bytes} b {work} {room} (success s w a) =
+compiles-only {bytes} b {work} {room} (no-room s image w h m t r l) =
+    from-room bytes work room w s h m t ∙ (ap (fitted room) (sym (readable-written image (image-of s) r)) ∙ rw (lt-leb (length image) room l))
+compiles-only {bytes} b {work} {room} (success s image w a r) =
     from-room bytes work room w s (a .well-formed) (a .no-empty-text) (a .has-type)
-    ∙ rw (le-leb (length (image-bytes (image-of s))) room (a .fits))
+    ∙ (ap (fitted room) (sym (readable-written image (image-of s) r)) ∙ rw (le-leb (length image) room (acceptable-fits a image r)))
 
 -- So there is one answer.
 pub compiles-one : {bytes : List ℕ} → Bytes bytes → {work room : ℕ} {c d : Compiled} → Compiles bytes work room c → Compiles bytes work room d
@@ -181,11 +201,12 @@ too-long-from (long-sheet w h) n e = let z : _≡_ {A = ℕ} 0 1 = cc in absurd 
 too-long-from (not-a-sheet question place w l h) n e = let z : _≡_ {A = ℕ} 0 1 = cc in absurd (omega arith)
 too-long-from (empty-rule s k p w h x q) n e = let z : _≡_ {A = ℕ} 0 1 = cc in absurd (omega arith)
 too-long-from (untyped s node q p w h m x o) n e = let z : _≡_ {A = ℕ} 0 1 = cc in absurd (omega arith)
-too-long-from (no-room s w h m t l) n e =
-    let same : length (image-bytes (image-of s)) ≡ n = cc in
+too-long-from (no-room s image w h m t r l) n e =
+    let same : length image ≡ n = cc in
+    let written = ap length (readable-written image (image-of s) r) in
     let fits = image-fits s (h .limits) (none-empty (s .rules) .1 m) (t .1) in
     (omega arith, omega arith)
-too-long-from (success s w a) n e = let z : _≡_ {A = ℕ} 0 1 = cc in absurd (omega arith)
+too-long-from (success s image w a r) n e = let z : _≡_ {A = ℕ} 0 1 = cc in absurd (omega arith)
 
 -- 65,536 bytes are room for the image of any sheet.
 pub room-enough : (bytes : List ℕ) → Bytes bytes → (work room : ℕ) → work-bytes ≤ room → (n : ℕ) → compile bytes work room ≡ too-long n → ⊥

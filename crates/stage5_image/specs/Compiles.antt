@@ -12,7 +12,8 @@ use Rattle.stage1_sheet.specs.SheetQuestions.{SheetRefused}
 use Rattle.stage2_types.specs.Types.{HasType}
 use Rattle.stage2_types.specs.TypeFaults.{TypeFault}
 use Rattle.stage4_lexer.specs.Words.{FirstEmptyRule, NoEmptyRule}
-use Rattle.stage5_image.specs.Image.{image-of, image-bytes}
+use Rattle.stage5_image.specs.Image.{image-of}
+use Rattle.stage5_image.specs.ImageFields.{ReadableAs}
 use Rattle.stage5_image.specs.Compile.{work-bytes, Compiled, refused, too-long, compiled}
 
 -- A sheet that demand 2 accepts, with an image buffer of so many bytes: "it is well formed, no lexer rule matches the empty text,
@@ -21,7 +22,7 @@ pub record Acceptable (sheet : List ℕ) (room : ℕ) (s : Sheet) : Type 0 where
   pub well-formed : Spells sheet s
   pub no-empty-text : NoEmptyRule (s .rules)
   pub has-type : HasType (s .expression)
-  pub fits : length (image-bytes (image-of s)) ≤ room
+  pub fits : (image : List ℕ) × ReadableAs image (image-of s) × (length image ≤ room)
 
 -- How compiling ends, with a work area and an image buffer of so many bytes.
 pub data Compiles (bytes : List ℕ) (work room : ℕ) : Compiled → Type 0 where
@@ -38,6 +39,7 @@ pub data Compiles (bytes : List ℕ) (work room : ℕ) : Compiled → Type 0 whe
       → TypeFault (s .expression) node question → NumbersAt bytes 0 (numbers-before-node s node) place
       → Compiles bytes work room (refused question place)
   -- 11, and success
-  no-room : (s : Sheet) → work-bytes ≤ work → Spells bytes s → NoEmptyRule (s .rules) → HasType (s .expression)
-      → room < length (image-bytes (image-of s)) → Compiles bytes work room (too-long (length (image-bytes (image-of s))))
-  success : (s : Sheet) → work-bytes ≤ work → Acceptable bytes room s → Compiles bytes work room (compiled (image-bytes (image-of s)))
+  no-room : (s : Sheet) (image : List ℕ) → work-bytes ≤ work → Spells bytes s → NoEmptyRule (s .rules) → HasType (s .expression)
+      → ReadableAs image (image-of s) → room < length image → Compiles bytes work room (too-long (length image))
+  success : (s : Sheet) (image : List ℕ) → work-bytes ≤ work → Acceptable bytes room s → ReadableAs image (image-of s)
+      → Compiles bytes work room (compiled image)

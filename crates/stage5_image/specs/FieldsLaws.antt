@@ -23,7 +23,7 @@ use Rattle.stage4_lexer.specs.Positions.{Position}
 use Rattle.stage5_image.specs.Image.{Image, image-bytes}
 use Rattle.stage5_image.specs.ImageRanges.{InRange}
 use Rattle.stage5_image.specs.ReadableImages.{read-in-range, read-exact}
-use Rattle.stage5_image.specs.ImageRoundTrip.{read-back, image-are-bytes}
+use Rattle.stage5_image.specs.ImageRoundTrip.{read-back, spell-bytes, image-are-bytes}
 use Rattle.stage5_image.specs.ImageReading.{image-field, read-flag, read-list, read-position, read-production, read-row, image-end, read-image}
 use Rattle.stage5_image.specs.ImageFields.{most-positions, most-nonterminals, most-productions}
 use Rattle.stage5_image.specs.ImageFields.{Fields, nothing-after, field, flag-field, many-fields, position-fields, production-fields, row-fields, image-fields}
@@ -330,6 +330,10 @@ readable-ranges bytes b i = (
   λ r. let e = readable-read bytes b i r in (read-in-range bytes i (length bytes) e .0, read-exact bytes b i (length bytes) e),
   λ g. read-readable bytes b i (length bytes) (subst (λ (l : List ℕ). read-image l ≡ got i (length l)) (sym (g .1)) (read-back i (g .0))),
 )
+
+-- So an image has one spelling.
+pub readable-written : (bytes : List ℕ) (i : Image) → ReadableAs bytes i → bytes ≡ image-bytes i
+readable-written bytes i r = readable-ranges bytes (subst Bytes (sym (r .1)) (spell-bytes (r .0))) i .0 r .1
 
 -- An image in range is readable from its bytes.
 pub image-readable : (i : Image) → InRange i → ReadableAs (image-bytes i) i

@@ -200,7 +200,7 @@ unfolding image-bytes
 read-back i g = image-stands (image-bytes i) i g (stands-whole (image-bytes i) (image-numbers i) .1 refl)
 
 -- An image's bytes are bytes.
-spell-bytes : (ns : List ℕ) → Bytes (spell ns)
+pub spell-bytes : (ns : List ℕ) → Bytes (spell ns)
 unfolding spell
 spell-bytes [] i = omega arith
 spell-bytes (n ∷ ns) i =

@@ -12,7 +12,7 @@ use lib.ListN.{length, drop, replicate}
 use Rattle.stage1_sheet.specs.Sheet.{Sheet}
 use Rattle.stage1_sheet.specs.WellFormed.{Spells}
 use Rattle.stage1_sheet.specs.Spelling.{Bytes}
-use Rattle.stage5_image.specs.Image.{image-of, image-bytes}
+use Rattle.stage5_image.specs.Image.{image-of}
 use Rattle.stage5_image.specs.ImageFields.{ReadableAs}
 use Rattle.stage5_image.specs.Unfolding.{StartUnfolds, DenotedRules}
 use Rattle.stage5_image.specs.Compile.{work-bytes, Compiled, refused, too-long, compiled, CompileAnswer}
@@ -72,8 +72,7 @@ pub record Demand2 (f : Functions) : Type 0 where
   pub accepted-exactly : (sheet : List ℕ) → Bytes sheet → (work room : ℕ) → work-bytes ≤ work
       → ((image : List ℕ) × (f .compile sheet work room ≡ compiled image)) ↔ ((s : Sheet) × Acceptable sheet room s)
   pub normal-form : (sheet : List ℕ) → Bytes sheet → (work room : ℕ) (image : List ℕ) → f .compile sheet work room ≡ compiled image
-      → (s : Sheet) → Spells sheet s
-      → (image ≡ image-bytes (image-of s)) × ReadableAs image (image-of s)
+      → (s : Sheet) → Spells sheet s → ReadableAs image (image-of s)
   pub unfolds-exactly : (sheet : List ℕ) → Bytes sheet → (work room : ℕ) (image : List ℕ) → f .compile sheet work room ≡ compiled image
       → (s : Sheet) → Spells sheet s → (rules : List ℕ) → StartUnfolds ((image-of s) .rows) rules ↔ DenotedRules s rules
 

@@ -18,13 +18,13 @@ use Rattle.stage4_lexer.specs.EmptyWord.{none-empty}
 use Rattle.stage5_image.specs.Image.{Image, image-of, image-bytes}
 use Rattle.stage5_image.specs.ImageFields.{ReadableAs}
 use Rattle.stage5_image.specs.ImageRoundTrip.{image-are-bytes}
-use Rattle.stage5_image.specs.FieldsLaws.{readable-one, image-readable}
+use Rattle.stage5_image.specs.FieldsLaws.{readable-one}
 use Rattle.stage5_image.specs.Unfolding.{StartUnfolds, DenotedRules}
-use Rattle.stage5_image.specs.ImageLaws.{image-denotes, image-in-range}
+use Rattle.stage5_image.specs.ImageLaws.{image-denotes}
 use Rattle.stage5_image.specs.Compile.{work-bytes, Compiled, refused, too-long, compiled, compile, compile-answer, written-part, image-after, work-after}
 use Rattle.stage5_image.specs.Compiles.{Acceptable}
 use Rattle.stage5_image.specs.CompileLaws.{acceptable-compiles, compiled-acceptable, compiled-fits}
-use Rattle.stage5_image.specs.CompileQuestions.{compile-answers, compiles-one}
+use Rattle.stage5_image.specs.CompileQuestions.{written-readable, compile-answers, compiles-one}
 use Rattle.stage5_image.specs.BufferLaws.{answers, handed-back, image-buffer, work-short, work-cleared}
 use Rattle.stage6_machine.specs.Answer.{Answer}
 use Rattle.stage6_machine.specs.Run.{most-text-bytes, run, long-enough, stack-after}
@@ -102,12 +102,11 @@ no-empty : (s : Sheet) (sheet : List ℕ) (room : ℕ) → Acceptable sheet room
 no-empty s sheet room a = none-empty (s .rules) .1 (a .no-empty-text)
 
 accepted-normal-form : (sheet : List ℕ) → Bytes sheet → (work room : ℕ) (image : List ℕ) → compile sheet work room ≡ compiled image
-    → (s : Sheet) → Spells sheet s
-    → (image ≡ image-bytes (image-of s)) × ReadableAs image (image-of s)
+    → (s : Sheet) → Spells sheet s → ReadableAs image (image-of s)
 accepted-normal-form sheet bytes work room image e s spells =
     let a = accepted-sheet sheet bytes work room image e s spells in
-    let r = image-readable (image-of s) (image-in-range s (spells .limits) (no-empty s sheet room (a .0)) (((a .0) .has-type) .1)) in
-    (a .1, subst (λ (l : List ℕ). ReadableAs l (image-of s)) (sym (a .1)) r)
+    let r = written-readable s (spells .limits) ((a .0) .no-empty-text) ((a .0) .has-type) in
+    subst (λ (l : List ℕ). ReadableAs l (image-of s)) (sym (a .1)) r
 
 unfolds-exactly : (sheet : List ℕ) → Bytes sheet → (work room : ℕ) (image : List ℕ) → compile sheet work room ≡ compiled image
     → (s : Sheet) → Spells sheet s → (rules : List ℕ) → StartUnfolds ((image-of s) .rows) rules ↔ DenotedRules s rules
@@ -131,11 +130,11 @@ runs-own sheet bytes work room image e s spells text entries short long a runs =
 
     by-question : {b : Answer} → Runs image text entries b → OwnAnswer s text b
     by-question (long-text h) = absurd (omega arith)
-    by-question (unreadable p h n o) = absurd (n (image-of s, accepted-normal-form sheet bytes work room image e s spells .1))
+    by-question (unreadable p h n o) = absurd (n (image-of s, accepted-normal-form sheet bytes work room image e s spells))
     by-question (no-entry h r l) = absurd (omega arith)
     by-question (started i h r l x) =
         let typed = (acceptable .has-type) .1 in
-        let same = readable-one image (image-of s) i (accepted-normal-form sheet bytes work room image e s spells .1) r in
+        let same = readable-one image (image-of s) i (accepted-normal-form sheet bytes work room image e s spells) r in
         let faithful = image-faithful s (spells .limits) typed (no-empty s sheet room acceptable) in
         runs-own-answer s text i entries (StandsFor s (spells .limits) typed)
         (subst (λ (j : Image). Faithful s j (StandsFor s (spells .limits) typed)) same faithful) long (start-stands s (spells .limits) typed) x
@@ -146,9 +145,9 @@ run-own-answer : (sheet : List ℕ) → Bytes sheet → (work room : ℕ) (image
     → (text : List ℕ) (entries : ℕ) → length text ≤ most-text-bytes → long-enough text ≤ entries
     → OwnAnswer s text (run image text entries)
 run-own-answer sheet bytes work room image e s spells text entries short long =
-    let r = accepted-normal-form sheet bytes work room image e s spells in
+    let written = accepted-sheet sheet bytes work room image e s spells .1 in
     runs-own sheet bytes work room image e s spells text entries short long (run image text entries)
-    (run-runs image text entries (subst Bytes (sym (r .0)) (image-are-bytes (image-of s))))
+    (run-runs image text entries (subst Bytes (sym written) (image-are-bytes (image-of s))))
 
 pub demand-3 : Demand3 cited
 demand-3 = record { own-answer = run-own-answer; exactly = λ s text a b. own-answer-one s text }

@@ -13,6 +13,8 @@ use Rattle.stage5_image.specs.Compile as page
 use Rattle.stage5_image.specs.Compiles.{Acceptable}
 use Rattle.stage5_image.specs.CompileLaws.{acceptable-compiles, compiled-fits}
 use Rattle.stage5_image.specs.BufferLaws.{image-written}
+use Rattle.stage5_image.specs.Image.{image-of}
+use Rattle.stage5_image.specs.FieldsLaws.{readable-written}
 use Rattle.stage5_image.specs.ImageLength.{image-fits}
 use Rattle.stage4_lexer.specs.EmptyWord.{none-empty}
 use Rattle.stage5_image_compiler.specs.Answer.{case-of}
@@ -113,7 +115,7 @@ own-line sheet text t o = record {
         well-formed = a .well-formed;
         no-empty-text = a .no-empty-text;
         has-type = a .has-type;
-        fits = omega (arith, few);
+        fits = ((a .fits) .0, (a .fits) .1, omega (arith, few, ap length (readable-written ((a .fits) .0) (image-of s) ((a .fits) .1))));
       } in
       let x = o .own-answer s fitting (omega arith) short (omega (arith, short)) (omega (arith, short)) in
       (x .0, x .1, ap line-of (x .2));
