@@ -86,8 +86,8 @@ left-after left (regex-due more) tag = record {
 left-after left (expression-due tokens opened more) tag =
     record { regex-nodes = left .regex-nodes; classes = left .classes; expression-nodes = left .expression-nodes - 1 }
 
--- Reading from the left reaches a place with this due, from another place with what was due there: each number on the way is there, its value is
--- allowed, and the limits are kept.
+-- Reading from the left reaches a place with this due, from another place with what was due there: each number on the way is there,
+-- its value is allowed, and the limits are kept.
 pub data Reaches (bytes : List ℕ) (to : Due) (to-left : LimitsLeft) (place : ℕ) : Due → LimitsLeft → ℕ → Type 0 where
   arrived : Reaches bytes to to-left place to to-left place
   onward : {due : Due} {left : LimitsLeft} {at v next : ℕ} → NumberAt bytes at v next → AllowedValue due v → LimitsKept left due v

@@ -41,15 +41,19 @@ module _ (image : Image) (entries : ℕ) (s : State) where
       unfolding after-take
       turn-refuses e = not-skipping ∙ ap (after-take entries n s) e
 
+      -- The turn by whether the stack is too short for what is pending next.
+      abbrev by-room : List ℕ → Bool → Turn
+      by-room next b = cond b (ends (answer 17 (s .place) (s .count))) (goes-on (state (s .place + n) next (suc (s .count))))
+
       pub turn-overflows : (next : List ℕ) → take-rule (image .rows) (s .pending) rule ≡ some next → entries < length next
           → turn image entries (matched rule n) s ≡ ends (answer 17 (s .place) (s .count))
       unfolding after-take
-      turn-overflows next e o = not-skipping ∙ ap (after-take entries n s) e ∙ rw (lt-ltb entries (length next) o)
+      turn-overflows next e o = not-skipping ∙ ap (after-take entries n s) e ∙ ap (by-room next) (lt-ltb entries (length next) o)
 
       pub turn-takes : (next : List ℕ) → take-rule (image .rows) (s .pending) rule ≡ some next → length next ≤ entries
           → turn image entries (matched rule n) s ≡ goes-on (state (s .place + n) next (suc (s .count)))
       unfolding after-take
-      turn-takes next e o = not-skipping ∙ ap (after-take entries n s) e ∙ rw (le-ltb entries (length next) o)
+      turn-takes next e o = not-skipping ∙ ap (after-take entries n s) e ∙ ap (by-room next) (le-ltb entries (length next) o)
 
 -- Every turn goes one of these ways.
 pub data TurnGoes (image : Image) (entries : ℕ) (s : State) : Match → Turn → Type 0 where
