@@ -79,13 +79,20 @@ examples =
     ∷ row (1 ∷ 2 ∷ 1 ∷ 2 ∷ 1 ∷ 57 ∷ 255 ∷ 1 ∷ 0 ∷ []) 0 9
     ∷ row (1 ∷ 2 ∷ 1 ∷ 2 ∷ 1 ∷ 57 ∷ 128 ∷ 2 ∷ 0 ∷ []) 4 6
     -- an expression tag that is none, a token that is none, variables with no fixed point and with one too few
-    ∷ row (head-of-D ++ 7 ∷ []) 4 20
+    ∷ row (head-of-D ++ 8 ∷ []) 4 20
     ∷ row (head-of-D ++ 2 ∷ 1 ∷ []) 0 22
     ∷ row (head-of-D ++ 2 ∷ 2 ∷ []) 4 21
     ∷ row (head-of-D ++ 6 ∷ 0 ∷ []) 4 21
     ∷ row (head-of-D ++ 5 ∷ 6 ∷ 0 ∷ []) 0 23
     ∷ row (head-of-D ++ 5 ∷ 6 ∷ 1 ∷ []) 4 22
     ∷ row (head-of-D ++ 3 ∷ 5 ∷ 0 ∷ 6 ∷ 0 ∷ []) 4 24
+    -- repetition has one part, and is no fixed point in a variable's count
+    ∷ row (head-of-D ++ 7 ∷ []) 3 21
+    ∷ row (head-of-D ++ 7 ∷ 2 ∷ 0 ∷ []) 0 23
+    ∷ row (head-of-D ++ 7 ∷ 2 ∷ 0 ∷ 0 ∷ []) 6 23
+    ∷ row (head-of-D ++ 7 ∷ 6 ∷ 0 ∷ []) 4 22
+    ∷ row (head-of-D ++ 5 ∷ 7 ∷ 6 ∷ 0 ∷ []) 0 24
+    ∷ row (head-of-D ++ 5 ∷ 7 ∷ 6 ∷ 1 ∷ []) 4 23
     -- 256 and 257 regex nodes, 64 and 65 classes, 64 and 65 expression nodes
     ∷ row (stars 255) 0 261
     ∷ row (stars 256) 5 260
@@ -96,7 +103,7 @@ examples =
     -- 3 and 4 come before 5
     ∷ row (1 ∷ 1 ∷ 1 ∷ 0 ∷ replicate 256 4) 3 260
     ∷ row (head-of-D ++ replicate 64 5) 3 84
-    ∷ row (head-of-D ++ (replicate 64 5 ++ 7 ∷ [])) 4 84
+    ∷ row (head-of-D ++ (replicate 64 5 ++ 8 ∷ [])) 4 84
     -- 5 stands at the tag, before the numbers after it
     ∷ row (1 ∷ 1 ∷ 1 ∷ 0 ∷ class-parts 64) 5 260
     ∷ row (head-of-D ++ (replicate 64 5 ++ 2 ∷ [])) 5 84

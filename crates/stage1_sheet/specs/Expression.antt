@@ -1,5 +1,5 @@
 -- The one expression of a sheet: document 01's forms, which are the context-free expressions of Figure 2 of 000 with
--- variables counted instead of named. What an expression denotes is defined with its types, not here.
+-- variables counted instead of named, and repetition. What an expression denotes is defined with its types, not here.
 use Prim.Native.Nat.{ℕ, _+_}
 
 -- Each form's tag in a sheet stands beside it.
@@ -17,6 +17,8 @@ pub data Expression : Type 0 where
   fixed-point : Expression → Expression
   -- 6: a variable, with how many open fixed points lie between it and its own; 0 is the innermost
   variable : ℕ → Expression
+  -- 7: repetition, of one part; it is no fixed point in a variable's count
+  repetition : Expression → Expression
 
 -- How many nodes an expression has. A node is named by its place in prefix order, from 0.
 unfoldable pub size : Expression → ℕ
@@ -27,3 +29,4 @@ size (sequence g h) = 1 + (size g + size h)
 size (alternative g h) = 1 + (size g + size h)
 size (fixed-point g) = 1 + size g
 size (variable n) = 1
+size (repetition g) = 1 + size g

@@ -5,11 +5,11 @@ use mathlib.Core.List.{List, [], _∷_, _++_, append-assoc, append-nil, flatMap}
 use Prim.Native.Nat.{ℕ, suc, _<_}
 use native.Mathlib.Omega.{arith}
 use lib.ListN.{length, length-append}
-use Rattle.stage1_sheet.specs.Expression.{Expression, epsilon, bottom, token, sequence, alternative, fixed-point, variable, size}
+use Rattle.stage1_sheet.specs.Expression.{Expression, epsilon, bottom, token, sequence, alternative, fixed-point, variable, repetition, size}
 use Rattle.stage1_sheet.specs.Spelling.{expression-numbers}
 use Rattle.stage1_sheet.specs.WellFormed.{Closed}
 use Rattle.stage1_sheet.specs.Items.{ExpressionItem, epsilon-item, bottom-item, token-item, sequence-item, alternative-item}
-use Rattle.stage1_sheet.specs.Items.{fixed-point-item, variable-item, part-depths, expression-before, expressions}
+use Rattle.stage1_sheet.specs.Items.{fixed-point-item, variable-item, repetition-item, part-depths, expression-before, expressions}
 use Rattle.stage1_sheet.specs.ListLaws.{flatMap-append}
 
 -- ---- definitions
@@ -23,6 +23,7 @@ expression-items-of (sequence g h) = sequence-item ∷ (expression-items-of g ++
 expression-items-of (alternative g h) = alternative-item ∷ (expression-items-of g ++ expression-items-of h)
 expression-items-of (fixed-point g) = fixed-point-item ∷ expression-items-of g
 expression-items-of (variable n) = variable-item n ∷ []
+expression-items-of (repetition g) = repetition-item ∷ expression-items-of g
 
 -- The numbers of an item: its tag, and after it a token's or a variable's number.
 unfoldable pub expression-tag : ExpressionItem → ℕ
@@ -33,6 +34,7 @@ expression-tag sequence-item = 3
 expression-tag alternative-item = 4
 expression-tag fixed-point-item = 5
 expression-tag (variable-item n) = 6
+expression-tag repetition-item = 7
 
 unfoldable pub tag-number : ExpressionItem → List ℕ
 tag-number epsilon-item = []
@@ -42,6 +44,7 @@ tag-number sequence-item = []
 tag-number alternative-item = []
 tag-number fixed-point-item = []
 tag-number (variable-item n) = n ∷ []
+tag-number repetition-item = []
 
 abbrev pub expression-item-numbers : ExpressionItem → List ℕ
 expression-item-numbers i = expression-tag i ∷ tag-number i
@@ -55,6 +58,7 @@ ItemAllowed tokens opened sequence-item = Unit
 ItemAllowed tokens opened alternative-item = Unit
 ItemAllowed tokens opened fixed-point-item = Unit
 ItemAllowed tokens opened (variable-item n) = n < opened
+ItemAllowed tokens opened repetition-item = Unit
 
 -- With an expression due for each number of open fixed points, the items make them all and are then at their end.
 abbrev pub MakesExpressions : ℕ → List ℕ → List ExpressionItem → Type 0
@@ -87,6 +91,7 @@ expression-items-numbers (alternative g h) =
     ∙ ap₂ _++_ (expression-items-numbers g) (expression-items-numbers h))
 expression-items-numbers (fixed-point g) = ap (λ (l : List ℕ). 5 ∷ l) (expression-items-numbers g)
 expression-items-numbers (variable n) = refl
+expression-items-numbers (repetition g) = ap (λ (l : List ℕ). 7 ∷ l) (expression-items-numbers g)
 
 pub expression-items-length : (g : Expression) → length (expression-items-of g) ≡ size g
 unfolding expression-items-of size
@@ -99,6 +104,7 @@ expression-items-length (alternative g h) =
     omega (arith, length-append (expression-items-of g) (expression-items-of h), expression-items-length g, expression-items-length h)
 expression-items-length (fixed-point g) = omega (arith, expression-items-length g)
 expression-items-length (variable n) = refl
+expression-items-length (repetition g) = omega (arith, expression-items-length g)
 
 -- ---- items to trees and back
 
@@ -116,6 +122,7 @@ expressions-items (alternative g h) is =
     rw (a, expressions-items g (expression-items-of h ++ is), expressions-items h is)
 expressions-items (fixed-point g) is = rw (expressions-items g is)
 expressions-items (variable n) is = refl
+expressions-items (repetition g) is = rw (expressions-items g is)
 
 -- A closed expression's items, before items that make the others due, make one more.
 pub makes-expression : (tokens : ℕ) (g : Expression) (opened : ℕ) (due : List ℕ) (is : List ExpressionItem) → Closed tokens opened g
@@ -134,6 +141,7 @@ makes-expression tokens (alternative g k) opened due is c h =
     (tt, makes-expression tokens g opened (opened ∷ due) (expression-items-of k ++ is) (c .0) rest)
 makes-expression tokens (fixed-point g) opened due is c h = (tt, makes-expression tokens g (suc opened) due is c h)
 makes-expression tokens (variable n) opened due is c h = (c, h)
+makes-expression tokens (repetition g) opened due is c h = (tt, makes-expression tokens g opened due is c h)
 
 -- The expressions that items make: one for each that was due, closed there, and with just these items.
 pub record MadeExpressions (tokens : ℕ) (due : List ℕ) (is : List ExpressionItem) (gs : List Expression) : Type 0 where
@@ -148,6 +156,18 @@ module _ (tokens opened : ℕ) (due : List ℕ) (is : List ExpressionItem) where
   leaf-made i g items c gs m = record {
     closed-all = (c, m .closed-all);
     same-items = ap (λ l. l ++ flatMap expression-items-of gs) items ∙ ap (λ l. i ∷ l) (m .same-items);
+  }
+
+  one-made : (i : ExpressionItem) (inside : ℕ) (make : Expression → Expression)
+      → ((g : Expression) → expression-items-of (make g) ≡ i ∷ expression-items-of g)
+      → ((g : Expression) (gs : List Expression) → expression-before i (g ∷ gs) ≡ make g ∷ gs)
+      → ((g : Expression) → Closed tokens inside g → Closed tokens opened (make g)) → (gs : List Expression)
+      → ClosedAll tokens (inside ∷ due) gs → flatMap expression-items-of gs ≡ is
+      → MadeExpressions tokens (opened ∷ due) (i ∷ is) (expression-before i gs)
+  unfolding flatMap
+  one-made i inside make items before one (g ∷ gs) c e = rw (before g gs) record {
+    closed-all = (one g (c .0), c .1);
+    same-items = ap (λ l. l ++ flatMap expression-items-of gs) (items g) ∙ ap (λ l. i ∷ l) e;
   }
 
   two-made : (i : ExpressionItem) (make : Expression → Expression → Expression)
@@ -174,12 +194,11 @@ module _ (tokens opened : ℕ) (due : List ℕ) (is : List ExpressionItem) where
       two-made sequence-item sequence (λ g h. refl) (λ g h rest. refl) (λ g h p q. (p, q)) gs (m .closed-all) (m .same-items)
   expression-item-made alternative-item gs a m =
       two-made alternative-item alternative (λ g h. refl) (λ g h rest. refl) (λ g h p q. (p, q)) gs (m .closed-all) (m .same-items)
-  expression-item-made fixed-point-item gs a m = go gs (m .closed-all) (m .same-items)
-    where
-      go : (rest : List Expression) → ClosedAll tokens (suc opened ∷ due) rest → flatMap expression-items-of rest ≡ is
-          → MadeExpressions tokens (opened ∷ due) (fixed-point-item ∷ is) (expression-before fixed-point-item rest)
-      go (g ∷ rest) c e = record { closed-all = c; same-items = ap (λ l. fixed-point-item ∷ l) e }
+  expression-item-made fixed-point-item gs a m =
+      one-made fixed-point-item (suc opened) fixed-point (λ g. refl) (λ g rest. refl) (λ g c. c) gs (m .closed-all) (m .same-items)
   expression-item-made (variable-item n) gs a m = leaf-made (variable-item n) (variable n) refl a gs m
+  expression-item-made repetition-item gs a m =
+      one-made repetition-item opened repetition (λ g. refl) (λ g rest. refl) (λ g c. c) gs (m .closed-all) (m .same-items)
 
 pub expressions-made : (tokens : ℕ) (is : List ExpressionItem) (due : List ℕ) → MakesExpressions tokens due is
     → MadeExpressions tokens due is (expressions is)

@@ -11,7 +11,7 @@ use Rattle.stage1_sheet.specs.Limits.{most-expression-tag}
 use Rattle.stage1_sheet.specs.Spelling.{Bytes, NumberAt, NumbersAt, no-more, one-more}
 use Rattle.stage1_sheet.specs.Field.{got, and-then, between}
 use Rattle.stage1_sheet.specs.Items.{ExpressionItem, epsilon-item, bottom-item, token-item, sequence-item, alternative-item}
-use Rattle.stage1_sheet.specs.Items.{fixed-point-item, variable-item, part-depths}
+use Rattle.stage1_sheet.specs.Items.{fixed-point-item, variable-item, repetition-item, part-depths}
 use Rattle.stage1_sheet.specs.Reading.{sheet-field, ReadNode, expression-item, expression-nodes}
 use Rattle.stage1_sheet.specs.FieldLaws.{Outcome, refused, accepted, then-outcome, outcome-got, between-true}
 use Rattle.stage1_sheet.specs.NumberLaws.{none-stand, first-stands, numbers-append, numbers-split}
@@ -90,7 +90,9 @@ module _ (bytes : List ℕ) (from : Due) (from-left : LimitsLeft) (start : ℕ) 
   node-outcome opened more left at (suc (suc (suc (suc (suc (suc zero)))))) next t r =
       numbered-outcome opened more left 6 opened next variable-item r (λ k. refl)
       (λ k end l s. record { same-tag = refl; allowed = l; stands = one-more s no-more })
-  node-outcome opened more left at (suc (suc (suc (suc (suc (suc (suc tag))))))) next t r = absurd (omega arith)
+  node-outcome opened more left at (suc (suc (suc (suc (suc (suc (suc zero))))))) next t r =
+      bare-outcome opened more left 7 next repetition-item r refl tt refl
+  node-outcome opened more left at (suc (suc (suc (suc (suc (suc (suc (suc tag)))))))) next t r = absurd (omega arith)
 
   -- Nodes that were read, and that reading is then where more is due.
   abbrev NodesGiven : ℕ → List ℕ → ℕ → Due → List ReadNode → ℕ → Type 0
@@ -153,6 +155,7 @@ tag-most sequence-item = omega arith
 tag-most alternative-item = omega arith
 tag-most fixed-point-item = omega arith
 tag-most (variable-item n) = omega arith
+tag-most repetition-item = omega arith
 
 -- Nodes that are read as these items, each with the place from which its numbers stand.
 pub record GotNodes (bytes : List ℕ) (tokens left : ℕ) (due : List ℕ) (at : ℕ) (items : List ExpressionItem) (end : ℕ) : Type 0 where
@@ -179,6 +182,7 @@ module _ (bytes : List ℕ) (tokens : ℕ) where
   node-got alternative-item opened at next end a s = ap (got alternative-item) (none-stand s)
   node-got fixed-point-item opened at next end a s = ap (got fixed-point-item) (none-stand s)
   node-got (variable-item n) opened at next end a s = numbered-got opened next n end variable-item a s
+  node-got repetition-item opened at next end a s = ap (got repetition-item) (none-stand s)
 
   pub nodes-got : (left : ℕ) (due : List ℕ) (at : ℕ) (items : List ExpressionItem) (end : ℕ)
       → ExpressionsRead bytes tokens left due at items end → GotNodes bytes tokens left due at items end

@@ -3,7 +3,7 @@
 use mathlib.Core.List.{List, [], _∷_}
 use Prim.Native.Nat.{ℕ, suc}
 use Rattle.stage1_sheet.specs.Regex.{Regex, empty, class, concat, union, star}
-use Rattle.stage1_sheet.specs.Expression.{Expression, epsilon, bottom, token, sequence, alternative, fixed-point, variable}
+use Rattle.stage1_sheet.specs.Expression.{Expression, epsilon, bottom, token, sequence, alternative, fixed-point, variable, repetition}
 
 -- One node of a regex without its parts.
 pub data RegexItem : Type 0 where
@@ -55,6 +55,7 @@ pub data ExpressionItem : Type 0 where
   alternative-item : ExpressionItem
   fixed-point-item : ExpressionItem
   variable-item : ℕ → ExpressionItem
+  repetition-item : ExpressionItem
 
 -- For each part that comes after it: how many fixed points are open there, if so many are open at the item.
 unfoldable pub part-depths : ExpressionItem → ℕ → List ℕ
@@ -65,6 +66,7 @@ part-depths sequence-item opened = opened ∷ opened ∷ []
 part-depths alternative-item opened = opened ∷ opened ∷ []
 part-depths fixed-point-item opened = suc opened ∷ []
 part-depths (variable-item n) opened = []
+part-depths repetition-item opened = opened ∷ []
 
 -- An item before the expressions that follow it, as for regexes.
 unfoldable pub expression-before : ExpressionItem → List Expression → List Expression
@@ -80,6 +82,8 @@ expression-before alternative-item (g ∷ h ∷ gs) = alternative g h ∷ gs
 expression-before fixed-point-item [] = []
 expression-before fixed-point-item (g ∷ gs) = fixed-point g ∷ gs
 expression-before (variable-item n) gs = variable n ∷ gs
+expression-before repetition-item [] = []
+expression-before repetition-item (g ∷ gs) = repetition g ∷ gs
 
 unfoldable pub expressions : List ExpressionItem → List Expression
 expressions [] = []

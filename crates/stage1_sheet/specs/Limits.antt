@@ -25,9 +25,9 @@ most-sheet-bytes = 4096
 abbrev pub most-byte : ℕ
 most-byte = 255
 
--- The last tags of the page's two lists: of a regex (star), and of an expression (variable).
+-- The last tags of the page's two lists: of a regex (star), and of an expression (repetition).
 abbrev pub most-regex-tag : ℕ
 most-regex-tag = 4
 
 abbrev pub most-expression-tag : ℕ
-most-expression-tag = 6
+most-expression-tag = 7

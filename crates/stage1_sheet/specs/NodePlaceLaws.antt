@@ -7,7 +7,7 @@ use native.Mathlib.Omega.{arith}
 use lib.Dec.{ltb}
 use lib.ListN.{length, length-append, take}
 use borrow.Author.Tests.{ltb-true, ltb-false}
-use Rattle.stage1_sheet.specs.Expression.{Expression, epsilon, bottom, token, sequence, alternative, fixed-point, variable, size}
+use Rattle.stage1_sheet.specs.Expression.{Expression, epsilon, bottom, token, sequence, alternative, fixed-point, variable, repetition, size}
 use Rattle.stage1_sheet.specs.Spelling.{expression-numbers}
 use Rattle.stage1_sheet.specs.ListLaws.{flatMap-append}
 use Rattle.stage1_sheet.specs.ExpressionItems.{expression-items-of, expression-tag, tag-number, expression-item-numbers, expression-items-numbers, expression-items-length}
@@ -99,3 +99,7 @@ before (fixed-point g) (suc n) h =
     record { fewer = omega (arith, a .fewer); numbers = ap (λ (l : List ℕ). 5 ∷ l) (a .numbers) }
 before (variable i) zero h = record { fewer = omega arith; numbers = refl }
 before (variable i) (suc n) h = absurd (omega arith)
+before (repetition g) zero h = record { fewer = omega arith; numbers = refl }
+before (repetition g) (suc n) h =
+    let a = before g n (omega arith) in
+    record { fewer = omega (arith, a .fewer); numbers = ap (λ (l : List ℕ). 7 ∷ l) (a .numbers) }

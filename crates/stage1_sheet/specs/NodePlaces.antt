@@ -4,7 +4,7 @@ use mathlib.Core.Bool.{cond}
 use Prim.Native.Nat.{ℕ, zero, suc, _+_, _-_}
 use lib.Dec.{ltb}
 use lib.ListN.{length}
-use Rattle.stage1_sheet.specs.Expression.{Expression, epsilon, bottom, token, sequence, alternative, fixed-point, variable, size}
+use Rattle.stage1_sheet.specs.Expression.{Expression, epsilon, bottom, token, sequence, alternative, fixed-point, variable, repetition, size}
 use Rattle.stage1_sheet.specs.Spelling.{expression-numbers}
 
 -- Past the last node the number says nothing.
@@ -21,3 +21,5 @@ numbers-before (alternative g h) (suc n) =
 numbers-before (fixed-point g) zero = 0
 numbers-before (fixed-point g) (suc n) = suc (numbers-before g n)
 numbers-before (variable k) n = 0
+numbers-before (repetition g) zero = 0
+numbers-before (repetition g) (suc n) = suc (numbers-before g n)

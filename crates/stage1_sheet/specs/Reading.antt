@@ -14,7 +14,7 @@ use Rattle.stage1_sheet.specs.Sheet.{Sheet}
 use Rattle.stage1_sheet.specs.Field.{Reading, stop, got, and-then, between, read-field, read-many}
 use Rattle.stage1_sheet.specs.Items.{RegexItem, empty-item, class-item, concat-item, union-item, star-item}
 use Rattle.stage1_sheet.specs.Items.{regex-parts, item-classes, regexes, part-depths, expressions}
-use Rattle.stage1_sheet.specs.Items.{ExpressionItem, epsilon-item, bottom-item, token-item, sequence-item, alternative-item, fixed-point-item, variable-item}
+use Rattle.stage1_sheet.specs.Items.{ExpressionItem, epsilon-item, bottom-item, token-item, sequence-item, alternative-item, fixed-point-item, variable-item, repetition-item}
 
 -- A number of a sheet: 3 where it is not readable, 4 where its value is not allowed.
 unfoldable pub sheet-field : (ℕ → Bool) → List ℕ → ℕ → Reading ℕ
@@ -83,7 +83,8 @@ expression-item bytes tokens opened at tag next =
     (cond (eqb tag 3) (got sequence-item next)
     (cond (eqb tag 4) (got alternative-item next)
     (cond (eqb tag 5) (got fixed-point-item next)
-    (cond (eqb tag 6) (and-then (sheet-field (λ n. ltb n opened) bytes next) (λ n end. got (variable-item n) end)) (stop 4 at)))))))
+    (cond (eqb tag 6) (and-then (sheet-field (λ n. ltb n opened) bytes next) (λ n end. got (variable-item n) end))
+    (cond (eqb tag 7) (got repetition-item next) (stop 4 at))))))))
 
 -- The nodes of the expressions still to come, while so many nodes are allowed. For each expression still to come the list
 -- has how many fixed points are open where it stands.

@@ -36,14 +36,15 @@ after-regex-tag tag more =
     getD (more ∷ bytes ∷ two ∷ two ∷ regex-due more ∷ []) tag nothing-due
 
 -- After an expression's tag: "0 ε; 1 ⊥; 2 token, followed by its number; 3 sequence; 4 alternative; 5 fixed point; 6 variable, followed by
--- how many open fixed points lie between it and its own".
+-- how many open fixed points lie between it and its own"; "tag 7, repetition of one part", "no fixed point in a variable's count".
 unfoldable pub after-expression-tag : ℕ → ℕ → ℕ → Due → Due
 after-expression-tag tokens opened tag more =
     let token = number-due 0 tokens (λ k. more) in
     let two = expression-due tokens opened (expression-due tokens opened more) in
     let body = expression-due tokens (suc opened) more in
     let variable = number-due 0 opened (λ n. more) in
-    getD (more ∷ more ∷ token ∷ two ∷ two ∷ body ∷ variable ∷ []) tag nothing-due
+    let part = expression-due tokens opened more in
+    getD (more ∷ more ∷ token ∷ two ∷ two ∷ body ∷ variable ∷ part ∷ []) tag nothing-due
 
 -- What is to come after a number.
 unfoldable pub due-after : Due → ℕ → Due

@@ -6,7 +6,7 @@ use Prim.Native.Nat.{ℕ, _-_, _^_, _≤_, _<_}
 use lib.ListN.{length, getD, take, drop}
 use Rattle.stage0_number.specs.Number.{encode}
 use Rattle.stage1_sheet.specs.Regex.{Regex, empty, class, concat, union, star}
-use Rattle.stage1_sheet.specs.Expression.{Expression, epsilon, bottom, token, sequence, alternative, fixed-point, variable}
+use Rattle.stage1_sheet.specs.Expression.{Expression, epsilon, bottom, token, sequence, alternative, fixed-point, variable, repetition}
 use Rattle.stage1_sheet.specs.Sheet.{Rule, Sheet}
 
 -- Bytes: each is below 256.
@@ -48,7 +48,7 @@ rule-numbers [] = []
 rule-numbers (r ∷ rs) = r .action ∷ (regex-numbers (r .regex) ++ rule-numbers rs)
 
 -- "one expression in prefix order: 0 ε; 1 ⊥; 2 token, followed by its number; 3 sequence; 4 alternative; 5 fixed point;
--- 6 variable, followed by how many open fixed points lie between it and its own"
+-- 6 variable, followed by how many open fixed points lie between it and its own"; "tag 7, repetition of one part"
 unfoldable pub expression-numbers : Expression → List ℕ
 expression-numbers epsilon = 0 ∷ []
 expression-numbers bottom = 1 ∷ []
@@ -57,6 +57,7 @@ expression-numbers (sequence g h) = 3 ∷ (expression-numbers g ++ expression-nu
 expression-numbers (alternative g h) = 4 ∷ (expression-numbers g ++ expression-numbers h)
 expression-numbers (fixed-point g) = 5 ∷ expression-numbers g
 expression-numbers (variable n) = 6 ∷ n ∷ []
+expression-numbers (repetition g) = 7 ∷ expression-numbers g
 
 -- "version, 1; token count T; rule count R; per rule ..; one expression"
 unfoldable pub sheet-numbers : Sheet → List ℕ

@@ -5,7 +5,7 @@ use lib.ListN.{length}
 use Rattle.stage0_laws.specs.Lists.{All, sum}
 use Rattle.stage1_sheet.specs.Limits.{most-tokens, most-rules, most-classes, most-regex-nodes, most-expression-nodes, most-sheet-bytes, most-byte}
 use Rattle.stage1_sheet.specs.Regex.{Regex, empty, class, concat, union, star, regex-nodes, class-count}
-use Rattle.stage1_sheet.specs.Expression.{Expression, epsilon, bottom, token, sequence, alternative, fixed-point, variable, size}
+use Rattle.stage1_sheet.specs.Expression.{Expression, epsilon, bottom, token, sequence, alternative, fixed-point, variable, repetition, size}
 use Rattle.stage1_sheet.specs.Sheet.{Rule, Sheet}
 use Rattle.stage1_sheet.specs.Spelling.{NumbersAt, sheet-numbers}
 
@@ -27,6 +27,8 @@ Closed tokens opened (sequence g h) = Closed tokens opened g × Closed tokens op
 Closed tokens opened (alternative g h) = Closed tokens opened g × Closed tokens opened h
 Closed tokens opened (fixed-point g) = Closed tokens (suc opened) g
 Closed tokens opened (variable n) = n < opened
+-- "is no fixed point in a variable's count"
+Closed tokens opened (repetition g) = Closed tokens opened g
 
 -- "action (0 skips, k + 1 returns token k, k below T), then a regex"
 pub record RuleInRange (tokens : ℕ) (r : Rule) : Type 0 where
