@@ -1,9 +1,9 @@
--- What an expression denotes: section 3.4 of 000, word for word. A language is a set of token sequences.
+-- What an expression denotes: section 3.4 of 000, word for word, and repetition. A language is a set of token sequences.
 use mathlib.Core.Path.{_≡_}
 use mathlib.Core.List.{List, [], _∷_, _++_}
 use mathlib.Core.Logic.{_⊎_}
 use Prim.Native.Nat.{ℕ, zero, suc}
-use Rattle.stage1_sheet.specs.Expression.{Expression, epsilon, bottom, token, sequence, alternative, fixed-point, variable}
+use Rattle.stage1_sheet.specs.Expression.{Expression, epsilon, bottom, token, sequence, alternative, fixed-point, variable, repetition}
 
 abbrev pub Language : Type 1
 Language = List ℕ → Type 0
@@ -29,6 +29,10 @@ iterate f (suc i) = f (iterate f i)
 abbrev pub least-fixed-point : (Language → Language) → Language
 least-fixed-point f w = (i : ℕ) × iterate f i w
 
+-- The language of μβ.(ε ∨ g·β), β new, where g has the language L: any number of words of L, one after the other.
+abbrev pub any-number-of : Language → Language
+any-number-of L = least-fixed-point (λ M. either (λ w. w ≡ []) (followed-by L M))
+
 -- γ: the languages of the open fixed points, the innermost first. A variable past its end denotes nothing.
 abbrev pub Environment : Type 1
 Environment = List Language
@@ -47,6 +51,7 @@ denotation (sequence g h) γ w = followed-by (denotation g γ) (denotation h γ)
 denotation (alternative g h) γ w = either (denotation g γ) (denotation h γ) w
 denotation (fixed-point g) γ w = least-fixed-point (λ L. denotation g (L ∷ γ)) w
 denotation (variable n) γ w = language-at γ n w
+denotation (repetition g) γ w = any-number-of (denotation g γ) w
 
 -- The expression denotes the token sequence: a sheet's expression is closed.
 abbrev pub Denotes : Expression → List ℕ → Type 0

@@ -8,14 +8,15 @@ use lib.Dec.{eqb}
 use Rattle.stage0_laws.specs.Lists.{settle}
 use Rattle.stage1_sheet.specs.Expression.{Expression}
 use Rattle.stage1_sheet.specs.Limits.{most-tokens}
-use Rattle.stage2_types.specs.Types.{LanguageType, epsilon-type, bottom-type, token-type, sequence-type, alternative-type}
-use Rattle.stage2_types.specs.Nodes.{Node, epsilon-node, bottom-node, token-node, sequence-node, alternative-node, fixed-point-node, variable-node, nodes}
+use Rattle.stage2_types.specs.Types.{LanguageType, epsilon-type, bottom-type, token-type, sequence-type, alternative-type, repetition-type}
+use Rattle.stage2_types.specs.Nodes.{Node, epsilon-node, bottom-node, token-node, sequence-node, alternative-node, fixed-point-node, variable-node, repetition-node, nodes}
 
 -- The type of a node in a list of all nodes' types.
 abbrev pub type-of : List LanguageType → ℕ → LanguageType
 type-of types n = getD types n bottom-type
 
--- Figure 2's equation at a node. A fixed point has its body's type, and a variable its fixed point's.
+-- Figure 2's equation at a node. A fixed point has its body's type, and a variable its fixed point's; so a repetition, as
+-- μβ.(ε ∨ g·β), goes by its own.
 unfoldable pub node-type : List LanguageType → Node → LanguageType
 node-type types epsilon-node = epsilon-type
 node-type types bottom-node = bottom-type
@@ -24,6 +25,7 @@ node-type types (sequence-node l r) = sequence-type (type-of types l) (type-of t
 node-type types (alternative-node l r) = alternative-type (type-of types l) (type-of types r)
 node-type types (fixed-point-node b) = type-of types b
 node-type types (variable-node f guarded) = type-of types f
+node-type types (repetition-node b self) = repetition-type (type-of types b) (type-of types self)
 
 -- All equations at once.
 unfoldable pub next-types : List Node → List LanguageType → List LanguageType

@@ -3,7 +3,7 @@ use mathlib.Core.Bool.{Bool, true, false}
 use mathlib.Core.List.{List, [], _∷_, _++_, map}
 use Prim.Native.Nat.{ℕ, suc, _+_}
 use lib.ListN.{getD}
-use Rattle.stage1_sheet.specs.Expression.{Expression, epsilon, bottom, token, sequence, alternative, fixed-point, variable, size}
+use Rattle.stage1_sheet.specs.Expression.{Expression, epsilon, bottom, token, sequence, alternative, fixed-point, variable, repetition, size}
 
 pub data Node : Type 0 where
   epsilon-node : Node
@@ -16,6 +16,8 @@ pub data Node : Type 0 where
   fixed-point-node : ℕ → Node
   -- the variable's own fixed point, and whether the variable is guarded: whether it stands in Figure 2's Γ
   variable-node : ℕ → Bool → Node
+  -- the part, and the repetition itself
+  repetition-node : ℕ → ℕ → Node
 
 -- An open fixed point: its node, and whether its variable is guarded by now.
 pub record Binder : Type 0 where
@@ -45,6 +47,7 @@ nodes-from (alternative g h) p open-ones =
 nodes-from (fixed-point g) p open-ones =
     fixed-point-node (suc p) ∷ nodes-from g (suc p) (record { node = p; guarded = false } ∷ open-ones)
 nodes-from (variable n) p open-ones = variable-of (getD open-ones n no-binder) ∷ []
+nodes-from (repetition g) p open-ones = repetition-node (suc p) p ∷ nodes-from g (suc p) open-ones
 
 -- The nodes of a sheet's expression; the start is node 0.
 unfoldable pub nodes : Expression → List Node

@@ -1,5 +1,6 @@
 -- Questions 8 to 10: "For each expression node in sheet order: is the variable guarded (Figure 2's two contexts)? No: 8.
--- Is the sequence separable? No: 9. Are the alternatives apart? No: 10." The answer is the first node that fails.
+-- Is the sequence separable? No: 9. Are the alternatives apart? No: 10." Is the repetition's part separable from itself? No: 9. The
+-- answer is the first node that fails.
 use mathlib.Core.Bool.{Bool, not, _&&_, cond}
 use mathlib.Core.List.{List, [], _∷_}
 use mathlib.Core.Option.{Option, none, some}
@@ -9,7 +10,7 @@ use lib.Dec.{eqb}
 use Rattle.stage0_laws.specs.Lists.{or-else}
 use Rattle.stage1_sheet.specs.Expression.{Expression}
 use Rattle.stage2_types.specs.Types.{LanguageType}
-use Rattle.stage2_types.specs.Nodes.{Node, epsilon-node, bottom-node, token-node, sequence-node, alternative-node, fixed-point-node, variable-node, nodes}
+use Rattle.stage2_types.specs.Nodes.{Node, epsilon-node, bottom-node, token-node, sequence-node, alternative-node, fixed-point-node, variable-node, repetition-node, nodes}
 use Rattle.stage2_types.specs.LeastTypes.{type-of, least-types}
 
 -- A question that fails, and the node at which it does.
@@ -36,6 +37,7 @@ node-fault types (sequence-node l r) p = unless (separable (type-of types l) (ty
 node-fault types (alternative-node l r) p = unless (apart (type-of types l) (type-of types r)) 10 p
 node-fault types (fixed-point-node b) p = none
 node-fault types (variable-node f guarded) p = unless guarded 8 p
+node-fault types (repetition-node b self) p = unless (separable (type-of types b) (type-of types b)) 9 p
 
 -- In sheet order, from node p on.
 unfoldable pub first-fault : List LanguageType → List Node → ℕ → Option Fault

@@ -5,7 +5,7 @@ use mathlib.Core.Bool.{Bool, true, false, _&&_, _||_, cond}
 use mathlib.Core.List.{List, [], _∷_, map}
 use Prim.Native.Nat.{ℕ, zero, suc, _^_}
 use lib.Bits.{bitOr, bitAnd}
-use Rattle.stage1_sheet.specs.Expression.{Expression, epsilon, bottom, token, sequence, alternative, fixed-point, variable}
+use Rattle.stage1_sheet.specs.Expression.{Expression, epsilon, bottom, token, sequence, alternative, fixed-point, variable, repetition}
 
 -- {NULL; FIRST; FLAST}. Document 01 calls FLAST the follow-last set.
 pub record LanguageType : Type 0 where
@@ -42,6 +42,10 @@ alternative-type a b = record {
   first = bitOr (a .first) (b .first);
   flast = bitOr (a .flast) (b .flast);
 }
+
+-- ε ∨ τ₁·τ₂: the type of the body of μβ.(ε ∨ g·β), from g's type and β's
+unfoldable pub repetition-type : LanguageType → LanguageType → LanguageType
+repetition-type a b = alternative-type epsilon-type (sequence-type a b)
 
 -- τ₁ ⊛ τ₂, separable: FLAST of the first and FIRST of the second have no token in common, and the first is not NULL.
 pub record Separable (a b : LanguageType) : Type 0 where
@@ -86,6 +90,10 @@ pub data _⊢_∶_ : Context → Expression → LanguageType → Type 0 where
       → Γ ⊢ g ∶ a → Γ ⊢ h ∶ b → Apart a b → Γ ⊢ alternative g h ∶ alternative-type a b
   type-fixed-point : {Γ : Context} {g : Expression} {a : LanguageType}
       → (record { usable = false; type = a } ∷ Γ) ⊢ g ∶ a → Γ ⊢ fixed-point g ∶ a
+  -- "It has that form's type .., and its part must be separable from itself". The part stands where that form has it, in the
+  -- left part of g·β: what may not be used outside it may not be used in it.
+  type-repetition : {Γ : Context} {g : Expression} {a b : LanguageType}
+      → Γ ⊢ g ∶ a → Separable a a → b ≡ repetition-type a b → Γ ⊢ repetition g ∶ b
 
 -- "its expression has a type under the published typing rules"
 abbrev pub HasType : Expression → Type 0

@@ -6,7 +6,7 @@ use Prim.Native.Nat.{ℕ}
 use lib.ListN.{getD, length, replicate}
 use Rattle.stage0_laws.specs.Lists.{settle}
 use Rattle.stage1_sheet.specs.Expression.{Expression}
-use Rattle.stage2_types.specs.Nodes.{Node, epsilon-node, bottom-node, token-node, sequence-node, alternative-node, fixed-point-node, variable-node, nodes}
+use Rattle.stage2_types.specs.Nodes.{Node, epsilon-node, bottom-node, token-node, sequence-node, alternative-node, fixed-point-node, variable-node, repetition-node, nodes}
 
 abbrev pub derives-at : List Bool → ℕ → Bool
 derives-at derives n = getD derives n false
@@ -19,6 +19,7 @@ node-derives derives (sequence-node l r) = derives-at derives l && derives-at de
 node-derives derives (alternative-node l r) = derives-at derives l || derives-at derives r
 node-derives derives (fixed-point-node b) = derives-at derives b
 node-derives derives (variable-node f guarded) = derives-at derives f
+node-derives derives (repetition-node b self) = true
 
 unfoldable pub next-derives : List Node → List Bool → List Bool
 next-derives ns derives = map (node-derives derives) ns

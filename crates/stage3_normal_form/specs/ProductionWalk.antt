@@ -7,7 +7,7 @@ use Prim.Native.Nat.{ℕ, zero, suc}
 use lib.Dec.{eqb}
 use Rattle.stage0_laws.specs.Bits.{bit}
 use Rattle.stage1_sheet.specs.Expression.{Expression}
-use Rattle.stage2_types.specs.Nodes.{Node, epsilon-node, bottom-node, token-node, sequence-node, alternative-node, fixed-point-node, variable-node, nodes, node-at}
+use Rattle.stage2_types.specs.Nodes.{Node, epsilon-node, bottom-node, token-node, sequence-node, alternative-node, fixed-point-node, variable-node, repetition-node, nodes, node-at}
 use Rattle.stage2_types.specs.LeastTypes.{type-of, least-types}
 use Rattle.stage3_normal_form.specs.Productions.{Production}
 use Rattle.stage3_normal_form.specs.Derives.{derives, derives-at}
@@ -15,7 +15,7 @@ use Rattle.stage3_normal_form.specs.Derives.{derives, derives-at}
 -- The nodes with their links, the nodes' FIRST sets, which nodes derive a token sequence, and a token.
 module _ (table : ℕ → Node) (first : ℕ → ℕ) (derive : ℕ → Bool) (t : ℕ) where
   -- One step, at a node, with the right nodes remembered so far, the last one first; `go-on` walks on from a node. A sequence
-  -- remembers its right node, if that derives a token sequence; an alternative leads into the left part if that can begin with t.
+  -- remembers its right node, if that derives a token sequence, a repetition itself; an alternative leads into the left part if that can begin with t.
   unfoldable pub walk-step : (ℕ → List ℕ → Option (List ℕ)) → Node → List ℕ → Option (List ℕ)
   walk-step go-on epsilon-node rights = none
   walk-step go-on bottom-node rights = none
@@ -24,6 +24,7 @@ module _ (table : ℕ → Node) (first : ℕ → ℕ) (derive : ℕ → Bool) (t
   walk-step go-on (alternative-node l r) rights = cond (bit (first l) t) (go-on l rights) (go-on r rights)
   walk-step go-on (fixed-point-node b) rights = go-on b rights
   walk-step go-on (variable-node f guarded) rights = go-on f rights
+  walk-step go-on (repetition-node b self) rights = cond (derive self) (go-on b (self ∷ rights)) none
 
   -- The tail of a node's production for t, in so many steps.
   unfoldable pub walk : ℕ → ℕ → List ℕ → Option (List ℕ)

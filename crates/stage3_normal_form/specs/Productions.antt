@@ -7,21 +7,21 @@ use Prim.Native.Nat.{ℕ, zero, suc}
 use lib.Dec.{eqb}
 use lib.ListN.{getD, length, replicate}
 use Rattle.stage1_sheet.specs.Expression.{Expression}
-use Rattle.stage2_types.specs.Nodes.{Node, epsilon-node, bottom-node, token-node, sequence-node, alternative-node, fixed-point-node, variable-node, nodes}
+use Rattle.stage2_types.specs.Nodes.{Node, epsilon-node, bottom-node, token-node, sequence-node, alternative-node, fixed-point-node, variable-node, repetition-node, nodes}
 
 -- A production that begins with a symbol: a token here, a rule in an image. Its tail is a list of nonterminals.
 pub record Production : Type 0 where
   pub head : ℕ
   pub tail : List ℕ
 
--- "A tail is at most as long as the number of sequence nodes, so at most 31."
+-- "Tails and their image field run to 32": a tail is at most as long as the number of sequence nodes, and one more where its row has ε.
 abbrev pub most-tail : ℕ
-most-tail = 31
+most-tail = 32
 
--- "a long enough stack (1 + 30 × the text's length entries)": a take replaces one pending nonterminal at least by a tail, so that this
+-- "a long enough stack .. is 1 + 31 × the text's length": a take replaces one pending nonterminal at least by a tail, so that this
 -- many more are pending at most.
 abbrev pub most-growth : ℕ
-most-growth = 30
+most-growth = 31
 
 -- The production of a list that begins with a symbol. A row of an accepted sheet's normal form has at most one.
 unfoldable pub production-of : ℕ → List Production → Option Production
@@ -45,7 +45,8 @@ row-of rows n = getD rows n no-productions
 
 -- "ε gives ε; a token gives itself with an empty tail; ⊥ none; a sequence gives its left part's productions, the right node
 -- added at the end of each tail; an alternative gives both parts'; a fixed point its body's; a variable its fixed point's."
--- No node can be added to ε; a sequence whose left part has ε is turned down by question 9.
+-- A repetition's "row is ε and the part's productions, the repetition node added at the end of each tail".
+-- No node can be added to ε; a sequence whose left part has ε, and a repetition whose part has it, is turned down by question 9.
 unfoldable pub node-row : List Row → Node → Row
 node-row rows epsilon-node = record { has-epsilon = true; productions = [] }
 node-row rows bottom-node = no-productions
@@ -57,6 +58,7 @@ node-row rows (alternative-node l r) = record {
 }
 node-row rows (fixed-point-node b) = row-of rows b
 node-row rows (variable-node f guarded) = row-of rows f
+node-row rows (repetition-node b self) = record { has-epsilon = true; productions = map (ended-by self) ((row-of rows b) .productions) }
 
 unfoldable pub next-rows : List Node → List Row → List Row
 next-rows ns rows = map (node-row rows) ns
