@@ -1,12 +1,13 @@
 -- Laws of what an expression denotes: it grows with the languages of its open variables, a word at the union of a rising chain is
 -- a word at some member, and so a fixed point's language is its body's at that language itself. No type is spoken of here.
+use mathlib.Core.Path.{_≡_}
 use mathlib.Core.List.{List, [], _∷_, _++_}
 use mathlib.Core.Logic.{inl, inr, _↔_}
 use Prim.Native.Nat.{ℕ, zero, suc, _+_, _≤_}
 use native.Mathlib.Omega.{arith}
 use native.Mathlib.Decide.{le-ind}
-use Rattle.stage1_sheet.specs.Expression.{Expression, epsilon, bottom, token, sequence, alternative, fixed-point, variable}
-use Rattle.stage2_types.specs.Denotation.{Language, iterate, least-fixed-point, Environment, language-at, denotation}
+use Rattle.stage1_sheet.specs.Expression.{Expression, epsilon, bottom, token, sequence, alternative, fixed-point, variable, repetition}
+use Rattle.stage2_types.specs.Denotation.{Language, followed-by, either, iterate, least-fixed-point, any-number-of, Environment, language-at, denotation}
 
 -- Two lists of one length, related place by place.
 pub data Pointwise {ℓ κ} {A : Type ℓ} {B : Type κ} (R : A → B → Type 0) : List A → List B → Type (ℓ ⊔ κ) where
@@ -39,6 +40,14 @@ iterate-monotone : (f g : Language → Language) → ((L M : Language) → L ⊆
 iterate-monotone f g h zero w x = x
 iterate-monotone f g h (suc i) w x = h (iterate f i) (iterate g i) (iterate-monotone f g h i) w x
 
+-- Nothing, or a word of L and then one of M: what a repetition iterates over M.
+abbrev pub none-or-more : Language → Language → Language
+none-or-more L M = either (λ w. w ≡ []) (followed-by L M)
+
+pub none-or-more-monotone : (L L' M M' : Language) → L ⊆ L' → M ⊆ M' → none-or-more L M ⊆ none-or-more L' M'
+none-or-more-monotone L L' M M' r s w (inl e) = inl e
+none-or-more-monotone L L' M M' r s w (inr h) = inr (h .0, h .1, h .2, r (h .0) (h .3), s (h .1) (h .4))
+
 -- Proposition 3.2 of 001: with greater languages for its variables an expression denotes a greater language.
 pub denotation-monotone : (g : Expression) {γ δ : Environment} → Included γ δ → denotation g γ ⊆ denotation g δ
 denotation-monotone epsilon s w h = h
@@ -54,6 +63,11 @@ denotation-monotone (fixed-point g) {γ} {δ} s w h = (
       (h .0) w (h .1),
 )
 denotation-monotone (variable n) s w h = included-at s n w h
+denotation-monotone (repetition g) {γ} {δ} s w h = (
+  h .0,
+  iterate-monotone (none-or-more (denotation g γ)) (none-or-more (denotation g δ))
+      (λ L M r. none-or-more-monotone (denotation g γ) (denotation g δ) L M (denotation-monotone g s) r) (h .0) w (h .1),
+)
 
 -- L₀ ⊆ L₁ ⊆ L₂ ⊆ ..
 module _ (f : Language → Language) (monotone : (L M : Language) → L ⊆ M → f L ⊆ f M) where
@@ -94,6 +108,31 @@ module _ (g : Expression) (c : Continuous g) (δ : Environment) (γ : ℕ → En
   continuous-fixed-point (suc j) w h =
       c (iterate (body-at δ) j ∷ δ) (λ i. iterate (body-at (γ i)) j ∷ γ i) (iterates-rise j) (within j (continuous-fixed-point j)) w h
 
+-- A repetition, by its iterates: a member of the chain for the part's word and one for the rest.
+module _ (g : Expression) (c : Continuous g) (δ : Environment) (γ : ℕ → Environment) (r : Rising γ) (k : WithinUnion δ γ) where
+  abbrev repeats-at : Environment → Language → Language
+  repeats-at ε = none-or-more (denotation g ε)
+
+  repeats-rise : (j a b : ℕ) → a ≤ b → iterate (repeats-at (γ a)) j ⊆ iterate (repeats-at (γ b)) j
+  repeats-rise j a b h = iterate-monotone (repeats-at (γ a)) (repeats-at (γ b))
+      (λ L M s. none-or-more-monotone (denotation g (γ a)) (denotation g (γ b)) L M (denotation-monotone g (r a b h)) s) j
+
+  continuous-repetition : (j : ℕ) (w : List ℕ) → iterate (repeats-at δ) j w → (i : ℕ) × iterate (repeats-at (γ i)) j w
+  continuous-repetition zero w h = absurd h
+  continuous-repetition (suc j) w (inl e) = (zero, inl e)
+  continuous-repetition (suc j) w (inr h) =
+      let x = c δ γ r k (h .0) (h .3) in
+      let y = continuous-repetition j (h .1) (h .4) in (
+        x .0 + y .0,
+        inr (
+          h .0,
+          h .1,
+          h .2,
+          denotation-monotone g (r (x .0) (x .0 + y .0) (omega arith)) (h .0) (x .1),
+          repeats-rise j (y .0) (x .0 + y .0) (omega arith) (h .1) (y .1),
+        ),
+      )
+
 -- A word at the union of a rising chain of environments is a word at some member.
 pub denotation-continuous : (g : Expression) (δ : Environment) (γ : ℕ → Environment) → Rising γ → WithinUnion δ γ
     → (w : List ℕ) → denotation g δ w → (i : ℕ) × denotation g (γ i) w
@@ -117,6 +156,8 @@ denotation-continuous (alternative g k) δ γ r c w (inr h) = let x = denotation
 denotation-continuous (fixed-point g) δ γ r c w h =
     let x = continuous-fixed-point g (denotation-continuous g) δ γ r c (h .0) w (h .1) in (x .0, (h .0, x .1))
 denotation-continuous (variable n) δ γ r c w h = c n w h
+denotation-continuous (repetition g) δ γ r c w h =
+    let x = continuous-repetition g (denotation-continuous g) δ γ r c (h .0) w (h .1) in (x .0, (h .0, x .1))
 
 -- ⟦μα.g⟧γ = ⟦g⟧(γ, ⟦μα.g⟧γ / α)
 module _ (g : Expression) (γ : Environment) where
@@ -145,3 +186,19 @@ module _ (g : Expression) (γ : Environment) where
 
   pub fixed-point-unrolls : (w : List ℕ) → denotation (fixed-point g) γ w ↔ denotation g (denotation (fixed-point g) γ ∷ γ) w
   fixed-point-unrolls w = (unroll w, roll w)
+
+-- A repetition's language is nothing, or a word of its part and then one of that language itself.
+module _ (L : Language) where
+  more-unroll : (w : List ℕ) → any-number-of L w → none-or-more L (any-number-of L) w
+  more-unroll w h = go (h .0) (h .1)
+    where
+      go : (i : ℕ) → iterate (none-or-more L) i w → none-or-more L (any-number-of L) w
+      go zero x = absurd x
+      go (suc i) x = none-or-more-monotone L L (iterate (none-or-more L) i) (any-number-of L) (λ v y. y) (λ v y. (i, y)) w x
+
+  more-roll : (w : List ℕ) → none-or-more L (any-number-of L) w → any-number-of L w
+  more-roll w (inl e) = (1, inl e)
+  more-roll w (inr h) = (suc (h .4 .0), inr (h .0, h .1, h .2, h .3, h .4 .1))
+
+  pub repetition-unrolls : (w : List ℕ) → any-number-of L w ↔ none-or-more L (any-number-of L) w
+  repetition-unrolls w = (more-unroll w, more-roll w)

@@ -6,9 +6,9 @@ use mathlib.Core.Logic.{_↔_}
 use Prim.Native.Nat.{ℕ, zero, suc, _+_, _<_}
 use native.Mathlib.Omega.{arith}
 use lib.ListN.{getD, length, length-map}
-use Rattle.stage1_sheet.specs.Expression.{Expression, epsilon, bottom, token, sequence, alternative, fixed-point, variable, size}
+use Rattle.stage1_sheet.specs.Expression.{Expression, epsilon, bottom, token, sequence, alternative, fixed-point, variable, repetition, size}
 use Rattle.stage1_sheet.specs.WellFormed.{Closed}
-use Rattle.stage2_types.specs.Types.{LanguageType, epsilon-type, bottom-type, token-type, sequence-type, alternative-type}
+use Rattle.stage2_types.specs.Types.{LanguageType, epsilon-type, bottom-type, token-type, sequence-type, alternative-type, repetition-type}
 use Rattle.stage2_types.specs.Nodes.{Node, Binder, no-binder, guard, nodes-from, nodes}
 use Rattle.stage2_types.specs.LeastTypes.{type-of, node-type, next-types}
 use Rattle.stage2_types.specs.LeastSolution.{Solves}
@@ -31,6 +31,8 @@ EquationsAt types (alternative g h) p open-types =
 EquationsAt types (fixed-point g) p open-types =
     (type-of types p ≡ type-of types (suc p)) × EquationsAt types g (suc p) (type-of types p ∷ open-types)
 EquationsAt types (variable n) p open-types = type-of types p ≡ getD open-types n bottom-type
+EquationsAt types (repetition g) p open-types =
+    (type-of types p ≡ repetition-type (type-of types (suc p)) (type-of types p)) × EquationsAt types g (suc p) open-types
 
 module _ (types : List LanguageType) where
   abbrev binder-type : Binder → LanguageType
@@ -82,6 +84,9 @@ module _ (types : List LanguageType) where
     equations-iff (variable n) p binders c =
         let e = binder-type-at binders n c in
         (λ h. h .0 ∙ sym e, λ t. (t ∙ e, tt))
+    equations-iff (repetition g) p binders c =
+        let part = equations-iff g (suc p) binders c in
+        (λ h. (h .0, part .0 (h .1)), λ t. (t .0, part .1 (t .1)))
 
     pub solves-iff : (e : Expression) → Closed tokens 0 e → Solves (nodes e) types ↔ ((length types ≡ size e) × EquationsAt types e 0 [])
     unfolding nodes next-types

@@ -18,12 +18,12 @@ use Rattle.stage1_sheet.specs.Limits.{most-tokens}
 use Rattle.stage1_sheet.specs.Expression.{Expression, size}
 use Rattle.stage1_sheet.specs.WellFormed.{Closed}
 use Rattle.stage2_types.specs.Types.{LanguageType, epsilon-type, bottom-type, token-type}
-use Rattle.stage2_types.specs.Nodes.{Node, epsilon-node, bottom-node, token-node, sequence-node, alternative-node, fixed-point-node, variable-node, nodes, node-at}
+use Rattle.stage2_types.specs.Nodes.{Node, epsilon-node, bottom-node, token-node, sequence-node, alternative-node, fixed-point-node, variable-node, repetition-node, nodes, node-at}
 use Rattle.stage2_types.specs.NodeRanges.{NodeInRange, in-range-more, node-in-range, nodes-in-range}
 use Rattle.stage2_types.specs.LeastTypes.{type-of, node-type, next-types, same-type, same-types, type-height, type-rounds, types-of, least-types}
-use Rattle.stage2_types.specs.TypeLaws.{⊑-refl, ⊑-trans, ⊑-antisym, bottom-least, sequence-rises, alternative-rises}
+use Rattle.stage2_types.specs.TypeLaws.{⊑-refl, ⊑-trans, ⊑-antisym, bottom-least, sequence-rises, alternative-rises, repetition-rises}
 use Rattle.stage2_types.specs.LeastSolution.{_⊑_, AllBelow, Solves}
-use Rattle.stage2_types.specs.TypeWeight.{Fits, epsilon-fits, bottom-fits, token-fits, sequence-fits, alternative-fits, weight, weights-most, weights-full}
+use Rattle.stage2_types.specs.TypeWeight.{Fits, epsilon-fits, bottom-fits, token-fits, sequence-fits, alternative-fits, repetition-fits, weight, weights-most, weights-full}
 
 -- One round, at one node.
 pub type-of-next : (ns : List Node) (types : List LanguageType) (n : ℕ) → type-of (next-types ns types) n ≡ node-type types (node-at ns n)
@@ -43,6 +43,7 @@ node-type-rises xs ys h (sequence-node l r) = sequence-rises (h l) (h r)
 node-type-rises xs ys h (alternative-node l r) = alternative-rises (h l) (h r)
 node-type-rises xs ys h (fixed-point-node b) = h b
 node-type-rises xs ys h (variable-node f guarded) = h f
+node-type-rises xs ys h (repetition-node b self) = repetition-rises (h b) (h self)
 
 pub next-rises : (ns : List Node) (xs ys : List LanguageType) → AllBelow xs ys → AllBelow (next-types ns xs) (next-types ns ys)
 next-rises ns xs ys h n = rw (type-of-next ns xs n, type-of-next ns ys n) (node-type-rises xs ys h (node-at ns n))
@@ -94,6 +95,7 @@ node-type-fits types f count (sequence-node l r) t = sequence-fits (f l) (f r)
 node-type-fits types f count (alternative-node l r) t = alternative-fits (f l) (f r)
 node-type-fits types f count (fixed-point-node b) t = f b
 node-type-fits types f count (variable-node b guarded) t = f b
+node-type-fits types f count (repetition-node b self) t = repetition-fits (f b) (f self)
 
 same-type-equal : (a b : LanguageType) → same-type a b ≡ true → a ≡ b
 unfolding same-type

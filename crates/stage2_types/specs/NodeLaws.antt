@@ -5,7 +5,7 @@ use Prim.Native.Nat.{ℕ, suc, _+_}
 use native.Mathlib.Omega.{arith}
 use lib.ListN.{length, length-append, length-map}
 use lib.Seq.{ext-getD}
-use Rattle.stage1_sheet.specs.Expression.{Expression, epsilon, bottom, token, sequence, alternative, fixed-point, variable, size}
+use Rattle.stage1_sheet.specs.Expression.{Expression, epsilon, bottom, token, sequence, alternative, fixed-point, variable, repetition, size}
 use Rattle.stage2_types.specs.Types.{LanguageType, bottom-type}
 use Rattle.stage2_types.specs.Nodes.{Node, bottom-node, Binder, nodes-from}
 use Rattle.stage2_types.specs.LeastTypes.{type-of, node-type, next-types}
@@ -39,6 +39,7 @@ nodes-length (alternative g h) p binders =
     ∙ omega arith
 nodes-length (fixed-point g) p binders = ap suc (nodes-length g (suc p) _) ∙ omega arith
 nodes-length (variable n) p binders = refl
+nodes-length (repetition g) p binders = ap suc (nodes-length g (suc p) binders) ∙ omega arith
 
 -- The nodes of the right part stand behind those of the left.
 module _ (P : ℕ → Node → Type 0) (g : Expression) (p : ℕ) (binders : List Binder) (rest : List Node) where

@@ -10,9 +10,9 @@ use lib.ListN.{length, length-map, List·getD-eq-default}
 use Rattle.stage0_laws.specs.Lists.{All}
 use Rattle.stage0_laws.specs.Members.{all-append, all-at}
 use Rattle.stage0_laws.specs.Order.{lt-or-le}
-use Rattle.stage1_sheet.specs.Expression.{Expression, epsilon, bottom, token, sequence, alternative, fixed-point, variable, size}
+use Rattle.stage1_sheet.specs.Expression.{Expression, epsilon, bottom, token, sequence, alternative, fixed-point, variable, repetition, size}
 use Rattle.stage1_sheet.specs.WellFormed.{Closed}
-use Rattle.stage2_types.specs.Nodes.{Node, epsilon-node, bottom-node, token-node, sequence-node, alternative-node, fixed-point-node, variable-node, Binder, no-binder, guard, nodes-from, nodes, node-at}
+use Rattle.stage2_types.specs.Nodes.{Node, epsilon-node, bottom-node, token-node, sequence-node, alternative-node, fixed-point-node, variable-node, repetition-node, Binder, no-binder, guard, nodes-from, nodes, node-at}
 
 abbrev pub NodeInRange : ℕ → ℕ → Node → Type 0
 NodeInRange tokens count epsilon-node = Unit
@@ -22,6 +22,7 @@ NodeInRange tokens count (sequence-node l r) = (l < count) × (r < count)
 NodeInRange tokens count (alternative-node l r) = (l < count) × (r < count)
 NodeInRange tokens count (fixed-point-node b) = b < count
 NodeInRange tokens count (variable-node f guarded) = f < count
+NodeInRange tokens count (repetition-node b self) = (b < count) × (self < count)
 
 -- In wider bounds too.
 pub in-range-more : (tokens tokens' count count' : ℕ) (x : Node) → tokens ≤ tokens' → count ≤ count' → NodeInRange tokens count x
@@ -33,6 +34,7 @@ in-range-more tokens tokens' count count' (sequence-node l r) t c h = (omega ari
 in-range-more tokens tokens' count count' (alternative-node l r) t c h = (omega arith, omega arith)
 in-range-more tokens tokens' count count' (fixed-point-node b) t c h = omega arith
 in-range-more tokens tokens' count count' (variable-node f guarded) t c h = omega arith
+in-range-more tokens tokens' count count' (repetition-node b self) t c h = (omega arith, omega arith)
 
 -- At every place, if of every node of a list: past the end there is a node that goes by none.
 pub node-in-range : (tokens count : ℕ) (ns : List Node) → All (NodeInRange tokens count) ns → (n : ℕ) → NodeInRange tokens count (node-at ns n)
@@ -48,6 +50,7 @@ size-positive (sequence g h) = omega arith
 size-positive (alternative g h) = omega arith
 size-positive (fixed-point g) = omega arith
 size-positive (variable n) = omega arith
+size-positive (repetition g) = omega arith
 
 module _ (tokens total : ℕ) where
   abbrev BinderWithin : Binder → Type 0
@@ -80,6 +83,10 @@ module _ (tokens total : ℕ) where
     from-in-range g (suc p) (record { node = p; guarded = false } ∷ bs) (omega arith, w) (omega arith) c,
   )
   from-in-range (variable n) p bs w l c = (all-at BinderWithin bs w n no-binder c, tt)
+  from-in-range (repetition g) p bs w l c = (
+    (omega (arith, size-positive g), omega arith),
+    from-in-range g (suc p) bs w (omega arith) c,
+  )
 
 -- The nodes of a closed expression.
 pub nodes-in-range : (tokens : ℕ) (e : Expression) → Closed tokens 0 e → All (NodeInRange tokens (size e)) (nodes e)

@@ -17,7 +17,7 @@ use Rattle.stage0_laws.specs.Lists.{or-else}
 use Rattle.stage0_laws.specs.Order.{lt-or-le}
 use Rattle.stage1_sheet.specs.Expression.{Expression}
 use Rattle.stage2_types.specs.Types.{LanguageType, Separable, Apart}
-use Rattle.stage2_types.specs.Nodes.{Node, epsilon-node, bottom-node, token-node, sequence-node, alternative-node, fixed-point-node, variable-node, nodes, node-at}
+use Rattle.stage2_types.specs.Nodes.{Node, epsilon-node, bottom-node, token-node, sequence-node, alternative-node, fixed-point-node, variable-node, repetition-node, nodes, node-at}
 use Rattle.stage2_types.specs.LeastTypes.{type-of, least-types}
 use Rattle.stage2_types.specs.Questions.{Fault, separable, apart, unless, node-fault, first-fault, type-fault}
 use Rattle.stage2_types.specs.TypeLaws.{separable-falls, apart-falls}
@@ -55,19 +55,24 @@ abbrev pub PassesAt : List LanguageType → ℕ → Node → Type 0
 PassesAt types p x = node-fault types x p ≡ none
 
 -- What passes with larger types passes with smaller ones.
+separable-still : (xs ys : List LanguageType) → AllBelow xs ys → (p l r : ℕ)
+    → unless (separable (type-of ys l) (type-of ys r)) 9 p ≡ none → unless (separable (type-of xs l) (type-of xs r)) 9 p ≡ none
+separable-still xs ys h p l r e =
+    let s = separable-iff (type-of ys l) (type-of ys r) .0 (unless-iff (separable (type-of ys l) (type-of ys r)) 9 p .0 e) in
+    unless-iff (separable (type-of xs l) (type-of xs r)) 9 p .1 (separable-iff (type-of xs l) (type-of xs r) .1 (separable-falls (h l) (h r) s))
+
 pub passes-falls : (xs ys : List LanguageType) → AllBelow xs ys → (p : ℕ) (x : Node) → PassesAt ys p x → PassesAt xs p x
 unfolding node-fault
 passes-falls xs ys h p epsilon-node e = refl
 passes-falls xs ys h p bottom-node e = refl
 passes-falls xs ys h p (token-node t) e = refl
-passes-falls xs ys h p (sequence-node l r) e =
-    let s = separable-iff (type-of ys l) (type-of ys r) .0 (unless-iff (separable (type-of ys l) (type-of ys r)) 9 p .0 e) in
-    unless-iff (separable (type-of xs l) (type-of xs r)) 9 p .1 (separable-iff (type-of xs l) (type-of xs r) .1 (separable-falls (h l) (h r) s))
+passes-falls xs ys h p (sequence-node l r) e = separable-still xs ys h p l r e
 passes-falls xs ys h p (alternative-node l r) e =
     let s = apart-iff (type-of ys l) (type-of ys r) .0 (unless-iff (apart (type-of ys l) (type-of ys r)) 10 p .0 e) in
     unless-iff (apart (type-of xs l) (type-of xs r)) 10 p .1 (apart-iff (type-of xs l) (type-of xs r) .1 (apart-falls (h l) (h r) s))
 passes-falls xs ys h p (fixed-point-node b) e = refl
 passes-falls xs ys h p (variable-node f guarded) e = e
+passes-falls xs ys h p (repetition-node b self) e = separable-still xs ys h p b b e
 
 -- No fault: every node passes.
 pub no-fault-iff : (types : List LanguageType) (ns : List Node) (p : ℕ) → (first-fault types ns p ≡ none) ↔ EachFrom (PassesAt types) p ns
@@ -106,6 +111,7 @@ fault-node types (sequence-node l r) p f e = unless-node (separable (type-of typ
 fault-node types (alternative-node l r) p f e = unless-node (apart (type-of types l) (type-of types r)) 10 p f e
 fault-node types (fixed-point-node b) p f e = cc
 fault-node types (variable-node b guarded) p f e = unless-node guarded 8 p f e
+fault-node types (repetition-node b self) p f e = unless-node (separable (type-of types b) (type-of types b)) 9 p f e
 
 -- The fault f of the nodes from place p on: it is the fault of the n-th of them, and those before it pass.
 record FirstFails (types : List LanguageType) (ns : List Node) (p : ℕ) (f : Fault) : Type 0 where

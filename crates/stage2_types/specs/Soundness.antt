@@ -11,9 +11,10 @@ use lib.Bits.{bitOr}
 use Rattle.stage0_laws.specs.Bits.{_∈_}
 use Rattle.stage0_laws.specs.BitLaws.{∈-left, ∈-right, ∈-when, ∈-self, ∈-disjoint}
 use Rattle.stage1_sheet.specs.Expression.{Expression}
-use Rattle.stage2_types.specs.Denotation.{Language, no-words, followed-by, either, iterate, least-fixed-point, Environment, language-at, denotation, Denotes}
-use Rattle.stage2_types.specs.Types.{LanguageType, if-null, epsilon-type, bottom-type, token-type, sequence-type, alternative-type, Separable, Apart, Hypothesis, Context, all-usable, Usable, here, there, _⊢_∶_, type-epsilon, type-bottom, type-token, type-variable, type-sequence, type-alternative, type-fixed-point}
-use Rattle.stage2_types.specs.DenotationLaws.{Pointwise, pointwise-nil, pointwise-cons, _⊆_, body-monotone, iterate-rises}
+use Rattle.stage2_types.specs.Denotation.{Language, no-words, followed-by, either, iterate, least-fixed-point, any-number-of, Environment, language-at, denotation, Denotes}
+use Rattle.stage2_types.specs.Types.{LanguageType, if-null, epsilon-type, bottom-type, token-type, sequence-type, alternative-type, repetition-type, Separable, Apart, Hypothesis, Context, all-usable, Usable, here, there, _⊢_∶_, type-epsilon, type-bottom, type-token, type-variable, type-sequence, type-alternative, type-fixed-point, type-repetition}
+use Rattle.stage2_types.specs.DenotationLaws.{Pointwise, pointwise-nil, pointwise-cons, _⊆_, none-or-more, none-or-more-monotone, body-monotone, iterate-rises}
+use Rattle.stage2_types.specs.TypeLaws.{separable-from-repetition, epsilon-apart}
 
 -- A language satisfies a type, section 2.1 of 000: "(1) when the empty string is in L, NULL is true; (2) the set of tokens that can
 -- start any string in L is a subset of FIRST; (3) the set of tokens which can follow the last token of a string in L is a subset of
@@ -176,6 +177,16 @@ fixed-point-satisfies f monotone a step = record {
         (iterate-rises f monotone (h .0) (h .0 + k .0) (omega arith) (t ∷ u) (h .1))
         (iterate-rises f monotone (k .0) (h .0 + k .0) (omega arith) ((t ∷ u) ++ (c ∷ v)) (k .1))
 
+-- A repetition, as μβ.(ε ∨ g·β) from its part's language.
+repetition-satisfies : (L : Language) {a b : LanguageType} → Satisfies L a → Separable a a → b ≡ repetition-type a b
+    → Satisfies (any-number-of L) b
+unfolding repetition-type
+repetition-satisfies L {a} {b} s k e = fixed-point-satisfies (none-or-more L)
+    (λ M M'. none-or-more-monotone L L M M' (λ w h. h)) b
+    (λ M r. subst (Satisfies (none-or-more L M)) (sym e)
+    (alternative-satisfies (λ w. w ≡ []) (followed-by L M) epsilon-type (sequence-type a b) epsilon-satisfies
+    (sequence-satisfies L M a b s r (separable-from-repetition a b e k)) (epsilon-apart a b (k .not-null))))
+
 -- Each open variable's language satisfies its type.
 abbrev pub SatisfiesHypothesis : Language → Hypothesis → Type 0
 SatisfiesHypothesis L h = Satisfies L (h .type)
@@ -202,6 +213,7 @@ sound (type-alternative {g = g} {h = h} {a = a} {b = b} d e k) γ s =
     alternative-satisfies (denotation g γ) (denotation h γ) a b (sound d γ s) (sound e γ s) k
 sound (type-fixed-point {g = g} {a = a} d) γ s =
     fixed-point-satisfies (λ L. denotation g (L ∷ γ)) (body-monotone g γ) a (λ L p. sound d (L ∷ γ) (pointwise-cons p s))
+sound (type-repetition {g = g} d k e) γ s = repetition-satisfies (denotation g γ) (sound d γ s) k e
 
 -- The same for a sheet's expression, which is closed.
 pub denotes-soundly : {e : Expression} {a : LanguageType} → [] ⊢ e ∶ a → Satisfies (Denotes e) a

@@ -14,7 +14,7 @@ use Rattle.stage1_sheet.specs.Limits.{most-tokens}
 use Rattle.stage1_sheet.specs.Expression.{Expression}
 use Rattle.stage1_sheet.specs.WellFormed.{Closed}
 use Rattle.stage2_types.specs.Types.{LanguageType, bottom-type, Separable, Apart, HasType}
-use Rattle.stage2_types.specs.Nodes.{Node, epsilon-node, bottom-node, token-node, sequence-node, alternative-node, fixed-point-node, variable-node, nodes, node-at}
+use Rattle.stage2_types.specs.Nodes.{Node, epsilon-node, bottom-node, token-node, sequence-node, alternative-node, fixed-point-node, variable-node, repetition-node, nodes, node-at}
 use Rattle.stage2_types.specs.LeastTypes.{type-of, node-type, next-types, least-types}
 use Rattle.stage2_types.specs.LeastSolution.{Solves, LeastSolution}
 use Rattle.stage2_types.specs.TypeLaws.{⊑-antisym}
@@ -23,7 +23,7 @@ use Rattle.stage2_types.specs.Questions.{Fault, separable, apart, unless
 use Rattle.stage2_types.specs.QuestionLaws.{separable-iff, apart-iff, PassesAt, no-fault-iff, type-fault-first}
 use Rattle.stage2_types.specs.EachFrom.{each-member}
 use Rattle.stage2_types.specs.Typing.{typed-iff}
-use Rattle.stage2_types.specs.TypeFaults.{Fails, not-guarded, not-separable, not-apart, TypeFault, NoTypeFault}
+use Rattle.stage2_types.specs.TypeFaults.{Fails, not-guarded, not-separable, not-apart, not-self-separable, TypeFault, NoTypeFault}
 
 -- ---- one least solution
 
@@ -55,6 +55,10 @@ module _ (types : List LanguageType) where
   alternative-passes : (l r : ℕ) → Apart (type-of types l) (type-of types r) → (question : ℕ) → Fails types (alternative-node l r) question → ⊥
   alternative-passes l r s question (not-apart n) = n s
 
+  repetition-passes : (b self : ℕ) → Separable (type-of types b) (type-of types b) → (question : ℕ)
+      → Fails types (repetition-node b self) question → ⊥
+  repetition-passes b self s question (not-self-separable n) = n s
+
   node-means : (x : Node) (p : ℕ) → Means x p (node-fault types x p)
   unfolding node-fault unless
   node-means epsilon-node p = λ q x. elim x [ ]
@@ -71,12 +75,17 @@ module _ (types : List LanguageType) where
   node-means (fixed-point-node b) p = λ q x. elim x [ ]
   node-means (variable-node f true) p = λ q x. elim x [ ]
   node-means (variable-node f false) p = not-guarded
+  node-means (repetition-node b self) p =
+      let a = type-of types b in
+      unless-means (repetition-node b self) (separable a a) 9 p (λ e. repetition-passes b self (separable-iff a a .0 e))
+      (λ e. not-self-separable (λ s. true≢false (sym (separable-iff a a .1 s) ∙ e)))
 
   -- A node fails one question at most, and past the last node there is none that fails.
   fails-one : {x : Node} {n m : ℕ} → Fails types x n → Fails types x m → n ≡ m
   fails-one not-guarded not-guarded = refl
   fails-one (not-separable a) (not-separable b) = refl
   fails-one (not-apart a) (not-apart b) = refl
+  fails-one (not-self-separable a) (not-self-separable b) = refl
 
   bottom-passes : (question : ℕ) → Fails types bottom-node question → ⊥
   bottom-passes question x = elim x [ ]

@@ -1,11 +1,13 @@
 -- Types ordered by inclusion. Figure 2's operations keep the order, and a side condition that holds holds of smaller types too.
 -- Nothing here is about expressions or languages.
-use mathlib.Core.Path.{_≡_}
-use mathlib.Core.Bool.{_&&_, false≢true}
+use mathlib.Core.Path.{_≡_, sym, ap, subst, _∙_}
+use mathlib.Core.Bool.{Bool, true, false, _&&_, true≢false, false≢true}
+use mathlib.Core.Logic.{⊎-elim}
 use Prim.Native.Nat.{ℕ}
 use lib.Bits.{bitOr, bitAnd}
-use Rattle.stage0_laws.specs.BitLaws.{∈-zero, ∈-disjoint, disjoint-zero}
-use Rattle.stage2_types.specs.Types.{LanguageType, if-null, bottom-type, sequence-type, alternative-type, Separable, Apart}
+use Rattle.stage0_laws.specs.Bits.{_∈_}
+use Rattle.stage0_laws.specs.BitLaws.{∈-zero, ∈-left, ∈-right, ∈-cases, ∈-cond, ∈-disjoint, disjoint-zero}
+use Rattle.stage2_types.specs.Types.{LanguageType, if-null, epsilon-type, bottom-type, sequence-type, alternative-type, repetition-type, Separable, Apart}
 use Rattle.stage2_types.specs.LeastSolution.{_⊑_}
 use Rattle.stage2_types.specs.SetOrder.{implied-both, and-rises, or-rises, false-falls, _⊆_, included-both, union-rises, cond-rises}
 
@@ -51,6 +53,10 @@ alternative-rises {a} {a'} {b} {b'} p q = record {
   flast-rises = union-rises (a .flast) (a' .flast) (b .flast) (b' .flast) (p .flast-rises) (q .flast-rises);
 }
 
+pub repetition-rises : {a a' b b' : LanguageType} → a ⊑ a' → b ⊑ b' → repetition-type a b ⊑ repetition-type a' b'
+unfolding repetition-type
+repetition-rises p q = alternative-rises (⊑-refl epsilon-type) (sequence-rises p q)
+
 disjoint-falls : (s s' t t' : ℕ) → s ⊆ s' → t ⊆ t' → bitAnd s' t' ≡ 0 → bitAnd s t ≡ 0
 disjoint-falls s s' t t' f g e = disjoint-zero s t (λ i x y. ∈-disjoint s' t' i e (f i x) (g i y))
 
@@ -65,4 +71,40 @@ apart-falls {a} {a'} {b} {b'} p q k = record {
   disjoint = disjoint-falls (a .first) (a' .first) (b .first) (b' .first) (p .first-rises) (q .first-rises) (k .disjoint);
   one-null = false-falls (a .null && b .null) (a' .null && b' .null)
       (and-rises (a .null) (a' .null) (b .null) (b' .null) (p .null-rises) (q .null-rises)) (k .one-null);
+}
+
+-- A repetition's type b over its part's type a, which is not NULL: its first set is the part's. So the part is separable from itself if
+-- and only if it is separable from the repetition.
+module _ (a b : LanguageType) (e : b ≡ repetition-type a b) where
+  first-of-part : a .null ≡ false → b .first ⊆ a .first
+  unfolding repetition-type alternative-type sequence-type epsilon-type
+  first-of-part n i m = ⊎-elim (λ z. ∈-zero i z)
+      (λ x. ⊎-elim (λ y. y) (λ y. absurd (true≢false (sym (∈-cond (a .null) (b .first) i y .0) ∙ n)))
+      (∈-cases (a .first) (if-null (a .null) (b .first)) i x))
+      (∈-cases 0 (bitOr (a .first) (if-null (a .null) (b .first))) i
+      (subst (λ (s : ℕ). i ∈ s) (ap (λ (x : LanguageType). x .first) e) m))
+
+  part-first : a .first ⊆ b .first
+  unfolding repetition-type alternative-type sequence-type epsilon-type
+  part-first i m = subst (λ (s : ℕ). i ∈ s) (sym (ap (λ (x : LanguageType). x .first) e))
+      (∈-right 0 (bitOr (a .first) (if-null (a .null) (b .first))) i (∈-left (a .first) (if-null (a .null) (b .first)) i m))
+
+  pub separable-from-repetition : Separable a a → Separable a b
+  separable-from-repetition s = record {
+    disjoint = disjoint-falls (a .flast) (a .flast) (b .first) (a .first) (λ i m. m) (first-of-part (s .not-null)) (s .disjoint);
+    not-null = s .not-null;
+  }
+
+  pub separable-from-itself : Separable a b → Separable a a
+  separable-from-itself s = record {
+    disjoint = disjoint-falls (a .flast) (a .flast) (a .first) (b .first) (λ i m. m) part-first (s .disjoint);
+    not-null = s .not-null;
+  }
+
+-- Nothing is apart from a sequence whose left part is not NULL.
+pub epsilon-apart : (a b : LanguageType) → a .null ≡ false → Apart epsilon-type (sequence-type a b)
+unfolding epsilon-type sequence-type
+epsilon-apart a b n = record {
+  disjoint = disjoint-zero 0 (bitOr (a .first) (if-null (a .null) (b .first))) (λ i x y. ∈-zero i x);
+  one-null = ap (λ (x : Bool). x && b .null) n;
 }

@@ -12,7 +12,7 @@ use Rattle.stage0_laws.specs.Bits.{_∈_}
 use Rattle.stage0_laws.specs.BitLaws.{∈-zero, ∈-one, ∈-cases, ∈-cond, bit-below, lt-pow-self}
 use Rattle.stage0_laws.specs.Lists.{sum}
 use Rattle.stage1_sheet.specs.Limits.{most-tokens}
-use Rattle.stage2_types.specs.Types.{LanguageType, if-null, epsilon-type, bottom-type, token-type, sequence-type, alternative-type}
+use Rattle.stage2_types.specs.Types.{LanguageType, if-null, epsilon-type, bottom-type, token-type, sequence-type, alternative-type, repetition-type}
 use Rattle.stage2_types.specs.LeastTypes.{type-of, type-height}
 use Rattle.stage2_types.specs.SetOrder.{flag, flag-rises, flag-most, flag-implies, count, count-most, count-rises, count-full}
 use Rattle.stage2_types.specs.TypeLaws.{⊑-antisym}
@@ -58,6 +58,10 @@ alternative-fits {a} {b} p q = record {
   first-fits = union-only (a .first) (b .first) (p .first-fits) (q .first-fits);
   flast-fits = union-only (a .flast) (b .flast) (p .flast-fits) (q .flast-fits);
 }
+
+pub repetition-fits : {a b : LanguageType} → Fits a → Fits b → Fits (repetition-type a b)
+unfolding repetition-type
+repetition-fits p q = alternative-fits epsilon-fits (sequence-fits p q)
 
 -- Both sets are then numbers of 24 bits.
 only-small : (s : ℕ) → TokensOnly s → s < 2 ^ most-tokens

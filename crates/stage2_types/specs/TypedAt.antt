@@ -6,8 +6,8 @@ use mathlib.Core.List.{List, [], _∷_, _++_}
 use Prim.Native.Nat.{ℕ, suc, _+_}
 use native.Mathlib.Omega.{arith}
 use lib.ListN.{length, length-append}
-use Rattle.stage1_sheet.specs.Expression.{Expression, epsilon, bottom, token, sequence, alternative, fixed-point, variable, size}
-use Rattle.stage2_types.specs.Types.{LanguageType, epsilon-type, bottom-type, token-type, sequence-type, alternative-type, Separable, Apart, Context, all-usable, Usable, _⊢_∶_, type-epsilon, type-bottom, type-token, type-variable, type-sequence, type-alternative, type-fixed-point}
+use Rattle.stage1_sheet.specs.Expression.{Expression, epsilon, bottom, token, sequence, alternative, fixed-point, variable, repetition, size}
+use Rattle.stage2_types.specs.Types.{LanguageType, epsilon-type, bottom-type, token-type, sequence-type, alternative-type, repetition-type, Separable, Apart, Context, all-usable, Usable, _⊢_∶_, type-epsilon, type-bottom, type-token, type-variable, type-sequence, type-alternative, type-fixed-point, type-repetition}
 use Rattle.stage2_types.specs.LeastTypes.{type-of}
 use Rattle.stage2_types.specs.EachFrom.{EachFrom, each-left, each-right}
 
@@ -30,6 +30,10 @@ TypedAt types (alternative g h) p Γ =
 TypedAt types (fixed-point g) p Γ =
     (type-of types p ≡ type-of types (suc p)) × TypedAt types g (suc p) (record { usable = false; type = type-of types p } ∷ Γ)
 TypedAt types (variable n) p Γ = Usable Γ n (type-of types p)
+TypedAt types (repetition g) p Γ =
+    (type-of types p ≡ repetition-type (type-of types (suc p)) (type-of types p))
+    × Separable (type-of types (suc p)) (type-of types (suc p))
+    × TypedAt types g (suc p) Γ
 
 -- It is a derivation at the node's type,
 pub typed-derivation : (types : List LanguageType) (g : Expression) (p : ℕ) (Γ : Context) → TypedAt types g p Γ → Γ ⊢ g ∶ type-of types p
@@ -44,6 +48,7 @@ typed-derivation types (fixed-point g) p Γ t =
     type-fixed-point {a = type-of types p} (subst (λ a. (record { usable = false; type = type-of types p } ∷ Γ) ⊢ g ∶ a) (sym (t .0))
     (typed-derivation types g (suc p) (record { usable = false; type = type-of types p } ∷ Γ) (t .1)))
 typed-derivation types (variable n) p Γ t = type-variable t
+typed-derivation types (repetition g) p Γ t = type-repetition (typed-derivation types g (suc p) Γ (t .2)) (t .1) (t .0)
 
 -- and every derivation is one at the types that it gives to the nodes: in a list that holds them from p on, g at p is typed.
 abbrev pub Listed : List LanguageType → ℕ → LanguageType → Type 0
@@ -119,4 +124,17 @@ annotated (type-fixed-point {Γ = Γ} {g = g} {a = a} d) =
         l .0 ∙ sym (x .own types (suc p) (l .1)),
         subst (λ b. TypedAt types g (suc p) (record { usable = false; type = b } ∷ Γ)) (sym (l .0)) (x .typed types (suc p) (l .1)),
       );
+    }
+annotated (type-repetition {a = a} {b = b} d s e) =
+    let x = annotated d in
+    record {
+      list = b ∷ x .list;
+      long = ap suc (x .long) ∙ omega arith;
+      own = λ types p l. l .0;
+      typed = λ types p l.
+          let part : type-of types (suc p) ≡ a = x .own types (suc p) (l .1) in (
+            l .0 ∙ (e ∙ sym (ap₂ repetition-type part (l .0))),
+            subst₂ Separable (sym part) (sym part) s,
+            x .typed types (suc p) (l .1),
+          );
     }

@@ -5,7 +5,7 @@ use mathlib.Core.Bool.{true, true≢false}
 use mathlib.Core.List.{List, [], _∷_, map}
 use Prim.Native.Nat.{ℕ, zero, suc, _+_}
 use lib.ListN.{getD}
-use Rattle.stage1_sheet.specs.Expression.{Expression, epsilon, bottom, token, sequence, alternative, fixed-point, variable, size}
+use Rattle.stage1_sheet.specs.Expression.{Expression, epsilon, bottom, token, sequence, alternative, fixed-point, variable, repetition, size}
 use Rattle.stage2_types.specs.Types.{LanguageType, Hypothesis, Context, all-usable, Usable, here, there}
 use Rattle.stage2_types.specs.Nodes.{Node, Binder, no-binder, guard, nodes-from}
 use Rattle.stage2_types.specs.LeastTypes.{type-of, node-type}
@@ -76,6 +76,12 @@ module _ (types : List LanguageType) where
   nodes-typed (variable n) p {binders} {Γ} s h =
       let b = binder-at binders n in
       subst (Usable Γ n) (sym (h .0 .equation)) (guarded-usable types s n (unless-iff (b .guarded) 8 p .0 (h .0 .passes)))
+  nodes-typed (repetition g) p s h =
+      let a = type-of types (suc p) in (
+        h .0 .equation,
+        separable-iff a a .0 (unless-iff (separable a a) 9 p .0 (h .0 .passes)),
+        nodes-typed g (suc p) s (h .1),
+      )
 
   pub typed-nodes : (g : Expression) (p : ℕ) {binders : List Binder} {Γ : Context} → Agrees types binders Γ
       → TypedAt types g p Γ → EachFrom (Holds types) p (nodes-from g p binders)
@@ -103,3 +109,8 @@ module _ (types : List LanguageType) where
       let b = binder-at binders n in
       let u = usable-guarded types s t in
       (record { equation = sym (u .1); passes = unless-iff (b .guarded) 8 p .1 (u .0) }, tt)
+  typed-nodes (repetition g) p s t =
+      let a = type-of types (suc p) in (
+        record { equation = t .0; passes = unless-iff (separable a a) 9 p .1 (separable-iff a a .1 (t .1)) },
+        typed-nodes g (suc p) s (t .2),
+      )
