@@ -9,10 +9,10 @@ use lib.Dec.{T}
 use lib.ListN.{getD, length, replicate, length-map, length-replicate, List·getD-map}
 use Rattle.stage0_laws.specs.Truth.{or-left, or-right, or-cases, and-both, and-first, and-second, holds-true, true-holds}
 use Rattle.stage0_laws.specs.Lists.{settle}
-use Rattle.stage1_sheet.specs.Expression.{Expression, epsilon, bottom, token, sequence, alternative, fixed-point, variable, size}
+use Rattle.stage1_sheet.specs.Expression.{Expression, epsilon, bottom, token, sequence, alternative, fixed-point, variable, repetition, size}
 use Rattle.stage2_types.specs.Denotation.{Language, iterate, Environment, language-at, denotation}
 use Rattle.stage2_types.specs.Types.{LanguageType, _⊢_∶_}
-use Rattle.stage2_types.specs.Nodes.{Node, epsilon-node, bottom-node, token-node, sequence-node, alternative-node, fixed-point-node, variable-node, nodes, node-at}
+use Rattle.stage2_types.specs.Nodes.{Node, epsilon-node, bottom-node, token-node, sequence-node, alternative-node, fixed-point-node, variable-node, repetition-node, nodes, node-at}
 use Rattle.stage3_normal_form.specs.Derives.{derives-at, node-derives, next-derives, same-flags, derives}
 use Rattle.stage3_normal_form.specs.Places.{Placed, Everywhere, everywhere-all}
 use Rattle.stage3_normal_form.specs.NodeLanguages.{language-of, languages-past, PartsDenote, whole-site, node-language, language-equation}
@@ -43,6 +43,7 @@ module _ (N : ℕ → Language) where
       (or-cases (derives-at flags l) (derives-at flags r) t)
   node-found flags f (fixed-point-node b) t = f b t
   node-found flags f (variable-node b guarded) t = f b t
+  node-found flags f (repetition-node b self) t = ([], inl refl)
 
 -- Rounds only add nodes.
 abbrev Within : List Bool → List Bool → Type 0
@@ -59,6 +60,7 @@ node-derives-more xs ys h (alternative-node l r) t = ⊎-elim (λ x. or-left (de
     (λ x. or-right (derives-at ys l) (derives-at ys r) (h r x)) (or-cases (derives-at xs l) (derives-at xs r) t)
 node-derives-more xs ys h (fixed-point-node b) t = h b t
 node-derives-more xs ys h (variable-node f guarded) t = h f t
+node-derives-more xs ys h (repetition-node b self) t = t
 
 within-next : (ns : List Node) (xs ys : List Bool) → Within xs ys → Within (next-derives ns xs) (next-derives ns ys)
 within-next ns xs ys h n t = subst T (sym (next-derives-at ns ys n))
@@ -196,6 +198,7 @@ module _ (N : ℕ → Language) (table : ℕ → Node) (flags : List Bool)
   word-found (fixed-point g) γ p fs t k w h = fixed-point-found g γ p fs k
       (λ L z v x. by-equation p (t .0) (word-found g (L ∷ γ) (suc p) (p ∷ fs) (t .1) z v x)) (h .0) w (h .1)
   word-found (variable n) γ p fs t k w h = by-equation p (t .1) (k n w h)
+  word-found (repetition g) γ p fs t k w h = by-equation p (t .0) tt
 
   own-found : (g : Expression) (γ : Environment) (p : ℕ) (fs : List ℕ) → Placed table g p fs → N p ≡ denotation g γ → VariablesFound γ fs
       → (w : List ℕ) → N p w → T (derives-at flags p)
@@ -223,6 +226,7 @@ module _ (N : ℕ → Language) (table : ℕ → Node) (flags : List Bool)
         (next-found γ fs (denotation (fixed-point g) γ) p (word-found (fixed-point g) γ p fs t k) k),
   )
   words-found (variable n) γ p fs t e s k = own-found (variable n) γ p fs t e k
+  words-found (repetition g) γ p fs t e s k = (own-found (repetition g) γ p fs t e k, words-found g γ (suc p) fs (t .1) (s .0) (s .1) k)
 
 derives-complete : {e : Expression} {a : LanguageType} → [] ⊢ e ∶ a → (n : ℕ) (w : List ℕ) → language-of e n w
     → T (derives-at (derives e) n)

@@ -6,8 +6,8 @@ use mathlib.Core.List.{List, _∷_}
 use Prim.Native.Nat.{ℕ, suc, _+_, _≤_, max}
 use native.Mathlib.Omega.{arith}
 use lib.ListN.{getD}
-use Rattle.stage1_sheet.specs.Expression.{Expression, epsilon, bottom, token, sequence, alternative, fixed-point, variable, size}
-use Rattle.stage2_types.specs.Types.{LanguageType, Context, all-usable, Usable, here, there, _⊢_∶_, type-epsilon, type-bottom, type-token, type-variable, type-sequence, type-alternative, type-fixed-point}
+use Rattle.stage1_sheet.specs.Expression.{Expression, epsilon, bottom, token, sequence, alternative, fixed-point, variable, repetition, size}
+use Rattle.stage2_types.specs.Types.{LanguageType, Context, all-usable, Usable, here, there, _⊢_∶_, type-epsilon, type-bottom, type-token, type-variable, type-sequence, type-alternative, type-fixed-point, type-repetition}
 use Rattle.stage2_types.specs.Nodes.{Node}
 use Rattle.stage3_normal_form.specs.Places.{Placed, Everywhere, usable-again}
 
@@ -20,6 +20,7 @@ weight o (sequence g h) = 1 + (weight o g + weight o h)
 weight o (alternative g h) = o + (weight o g + weight o h)
 weight o (fixed-point g) = o + weight o g
 weight o (variable n) = o
+weight o (repetition g) = o + weight o g
 
 -- Of these, the ones that stand in no right part of a sequence; and the others.
 abbrev pub head-weight : ℕ → Expression → ℕ
@@ -30,6 +31,7 @@ head-weight o (sequence g h) = 1 + head-weight o g
 head-weight o (alternative g h) = o + (head-weight o g + head-weight o h)
 head-weight o (fixed-point g) = o + head-weight o g
 head-weight o (variable n) = o
+head-weight o (repetition g) = o + head-weight o g
 
 abbrev pub rest-weight : ℕ → Expression → ℕ
 rest-weight o epsilon = 0
@@ -39,6 +41,7 @@ rest-weight o (sequence g h) = rest-weight o g + weight o h
 rest-weight o (alternative g h) = rest-weight o g + rest-weight o h
 rest-weight o (fixed-point g) = rest-weight o g
 rest-weight o (variable n) = 0
+rest-weight o (repetition g) = rest-weight o g
 
 pub weight-parts : (o : ℕ) (g : Expression) → weight o g ≡ head-weight o g + rest-weight o g
 weight-parts o epsilon = omega arith
@@ -48,6 +51,7 @@ weight-parts o (sequence g h) = let a = weight-parts o g in omega arith
 weight-parts o (alternative g h) = let a = weight-parts o g in let b = weight-parts o h in omega arith
 weight-parts o (fixed-point g) = let a = weight-parts o g in omega arith
 weight-parts o (variable n) = omega arith
+weight-parts o (repetition g) = let a = weight-parts o g in omega arith
 
 pub weight-size : (g : Expression) → weight 1 g ≡ size g
 unfolding size
@@ -58,6 +62,7 @@ weight-size (sequence g h) = let a = weight-size g in let b = weight-size h in o
 weight-size (alternative g h) = let a = weight-size g in let b = weight-size h in omega arith
 weight-size (fixed-point g) = let a = weight-size g in omega arith
 weight-size (variable n) = refl
+weight-size (repetition g) = let a = weight-size g in omega arith
 
 -- U m n: the node n keeps the bound m. Each variable that may be used keeps it.
 abbrev pub VariablesKeep : (ℕ → ℕ → Type 0) → Context → List ℕ → ℕ → Type 0
@@ -106,3 +111,5 @@ module _ (table : ℕ → Node) (o : ℕ) (U : ℕ → ℕ → Type 0) (raise : 
             (next-bound Γ fs (m + h) M p a (own Γ (fixed-point g) a (type-fixed-point d) p fs t m k) l) (omega arith)
             (let w = weight-parts o g in omega arith),
       )
+  bounded (type-repetition d s e) p fs t m M B k l x y =
+      (own-bound (type-repetition d s e) p fs t m B k x, bounded d (suc p) fs (t .1) m M B k l (omega arith) (omega arith))

@@ -1,5 +1,5 @@
 -- The rows that stay solve the page's equations with one change: "Then productions go whose tail holds a node that derives no token
--- sequence", so a sequence whose right part derives none gives nothing. Types and languages are not spoken of here.
+-- sequence", so a sequence whose right part derives none gives nothing, nor does a repetition beside ε if it derived none. Types and languages are not spoken of here.
 use mathlib.Core.Path.{_≡_, refl, sym, ap, ap₂, subst, _∙_}
 use mathlib.Core.Bool.{Bool, true, false, _&&_, _||_, cond}
 use mathlib.Core.List.{List, [], _∷_, _++_, map, List·Memᴰ, List·Memᴰ·head, List·Memᴰ·tail, List·Memᴰ·not-nil, List·Memᴰ·cases-cons}
@@ -9,12 +9,12 @@ use lib.Dec.{T}
 use lib.ListN.{length, length-map, replicate, List·getD-map}
 use Rattle.stage1_sheet.specs.Expression.{Expression, size}
 use Rattle.stage2_types.specs.Types.{LanguageType, _⊢_∶_}
-use Rattle.stage2_types.specs.Nodes.{Node, epsilon-node, bottom-node, token-node, sequence-node, alternative-node, fixed-point-node, variable-node, nodes, node-at}
+use Rattle.stage2_types.specs.Nodes.{Node, epsilon-node, bottom-node, token-node, sequence-node, alternative-node, fixed-point-node, variable-node, repetition-node, nodes, node-at}
 use Rattle.stage3_normal_form.specs.Productions.{Production, Row, no-productions, ended-by, row-of, node-row, rows-after, rows}
 use Rattle.stage3_normal_form.specs.Derives.{derives-at, derives}
 use Rattle.stage3_normal_form.specs.NormalForm.{all-derive, kept, kept-row, normal-form}
 use Rattle.stage3_normal_form.specs.RowEquations.{next-at, row-solves, rows-length}
-use Rattle.stage3_normal_form.specs.Unfolding.{_of_}
+use Rattle.stage3_normal_form.specs.Unfolding.{epsilon-row, alternative-row, _of_}
 
 -- What a node's row is, from the rows that stay.
 abbrev pub staying-row : List Bool → List Row → Node → Row
@@ -25,6 +25,8 @@ staying-row flags rows (sequence-node l r) = cond (derives-at flags r) (node-row
 staying-row flags rows (alternative-node l r) = node-row rows (alternative-node l r)
 staying-row flags rows (fixed-point-node b) = node-row rows (fixed-point-node b)
 staying-row flags rows (variable-node f guarded) = node-row rows (variable-node f guarded)
+staying-row flags rows (repetition-node b self) =
+    alternative-row epsilon-row (cond (derives-at flags self) (node-row rows (sequence-node b self)) no-productions)
 
 -- ---- what goes and what stays, of lists of productions
 
@@ -97,13 +99,11 @@ module _ (flags : List Bool) where
   unfolding kept-row kept
   kept-rows-at rs n = List·getD-map (kept-row flags) rs n no-productions
 
-  -- What stays of a row that the page's equation gives is what the changed equation gives from what stays.
-  kept-node-row : (rs : List Row) (x : Node) → kept-row flags (node-row rs x) ≡ staying-row flags (map (kept-row flags) rs) x
-  unfolding kept-row kept node-row all-derive
-  kept-node-row rs epsilon-node = refl
-  kept-node-row rs bottom-node = refl
-  kept-node-row rs (token-node t) = refl
-  kept-node-row rs (sequence-node l r) =
+  -- What stays of a sequence's row.
+  kept-sequence : (rs : List Row) (l r : ℕ) → kept-row flags (node-row rs (sequence-node l r))
+      ≡ cond (derives-at flags r) (node-row (map (kept-row flags) rs) (sequence-node l r)) no-productions
+  unfolding kept-row node-row
+  kept-sequence rs l r =
       ap (λ (ps : List Production). record { has-epsilon = false; productions = ps }) (kept-ended r ((row-of rs l) .productions))
       ∙ (go (derives-at flags r)
       ∙ ap (λ (P : Row). cond (derives-at flags r) (record { has-epsilon = false; productions = map (ended-by r) (P .productions) }) no-productions)
@@ -114,6 +114,14 @@ module _ (flags : List Bool) where
           (cond b (record { has-epsilon = false; productions = map (ended-by r) (kept flags ((row-of rs l) .productions)) }) no-productions)
       go true = refl
       go false = refl
+
+  -- What stays of a row that the page's equation gives is what the changed equation gives from what stays.
+  kept-node-row : (rs : List Row) (x : Node) → kept-row flags (node-row rs x) ≡ staying-row flags (map (kept-row flags) rs) x
+  unfolding kept-row kept node-row all-derive
+  kept-node-row rs epsilon-node = refl
+  kept-node-row rs bottom-node = refl
+  kept-node-row rs (token-node t) = refl
+  kept-node-row rs (sequence-node l r) = kept-sequence rs l r
   kept-node-row rs (alternative-node l r) =
       ap (λ (ps : List Production). record { has-epsilon = (row-of rs l) .has-epsilon || (row-of rs r) .has-epsilon; productions = ps })
       (kept-append ((row-of rs l) .productions) ((row-of rs r) .productions))
@@ -121,6 +129,7 @@ module _ (flags : List Bool) where
       (sym (kept-rows-at rs l)) (sym (kept-rows-at rs r))
   kept-node-row rs (fixed-point-node b) = sym (kept-rows-at rs b)
   kept-node-row rs (variable-node f guarded) = sym (kept-rows-at rs f)
+  kept-node-row rs (repetition-node b self) = ap (alternative-row epsilon-row) (kept-sequence rs b self)
 
 pub normal-form-row : (e : Expression) (n : ℕ) → row-of (normal-form e) n ≡ kept-row (derives e) (row-of (rows e) n)
 unfolding normal-form

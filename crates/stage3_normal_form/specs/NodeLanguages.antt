@@ -7,12 +7,12 @@ use mathlib.Core.Logic.{_↔_}
 use Prim.Native.Nat.{ℕ, suc, _+_, _≤_}
 use native.Mathlib.Omega.{arith}
 use lib.ListN.{getD, length, length-append, List·getD-eq-default}
-use Rattle.stage1_sheet.specs.Expression.{Expression, epsilon, bottom, token, sequence, alternative, fixed-point, variable, size}
+use Rattle.stage1_sheet.specs.Expression.{Expression, epsilon, bottom, token, sequence, alternative, fixed-point, variable, repetition, size}
 use Rattle.stage2_types.specs.Denotation.{Language, no-words, followed-by, either, Environment, language-at, denotation, Denotes}
-use Rattle.stage2_types.specs.DenotationLaws.{Pointwise, pointwise-nil, pointwise-cons, fixed-point-unrolls}
-use Rattle.stage2_types.specs.Types.{LanguageType, bottom-type, Context, all-usable, Usable, here, there, _⊢_∶_, type-epsilon, type-bottom, type-token, type-variable, type-sequence, type-alternative, type-fixed-point}
+use Rattle.stage2_types.specs.DenotationLaws.{Pointwise, pointwise-nil, pointwise-cons, none-or-more, fixed-point-unrolls, repetition-unrolls}
+use Rattle.stage2_types.specs.Types.{LanguageType, bottom-type, Context, all-usable, Usable, here, there, _⊢_∶_, type-epsilon, type-bottom, type-token, type-variable, type-sequence, type-alternative, type-fixed-point, type-repetition}
 use Rattle.stage2_types.specs.Soundness.{Satisfies, SatisfiesHypothesis, satisfies-usable, sound}
-use Rattle.stage2_types.specs.Nodes.{Node, epsilon-node, bottom-node, token-node, sequence-node, alternative-node, fixed-point-node, variable-node, nodes, node-at}
+use Rattle.stage2_types.specs.Nodes.{Node, epsilon-node, bottom-node, token-node, sequence-node, alternative-node, fixed-point-node, variable-node, repetition-node, nodes, node-at}
 use Rattle.stage3_normal_form.specs.Places.{Segment, segment-left, segment-right, segment-all, Placed, nodes-placed, nodes-count, Everywhere, everywhere-all, usable-still, usable-again, none-usable}
 
 -- The languages of all nodes of g, in sheet order.
@@ -24,6 +24,7 @@ languages-from (sequence g h) γ = denotation (sequence g h) γ ∷ (languages-f
 languages-from (alternative g h) γ = denotation (alternative g h) γ ∷ (languages-from g γ ++ languages-from h γ)
 languages-from (fixed-point g) γ = denotation (fixed-point g) γ ∷ languages-from g (denotation (fixed-point g) γ ∷ γ)
 languages-from (variable n) γ = denotation (variable n) γ ∷ []
+languages-from (repetition g) γ = denotation (repetition g) γ ∷ languages-from g γ
 
 -- L(n), for the node n of a sheet's expression.
 unfoldable pub language-of : Expression → ℕ → Language
@@ -42,6 +43,7 @@ languages-length (alternative g h) γ =
     let c = length-append (languages-from g γ) (languages-from h γ) in omega arith
 languages-length (fixed-point g) γ = let a = languages-length g (denotation (fixed-point g) γ ∷ γ) in omega arith
 languages-length (variable n) γ = refl
+languages-length (repetition g) γ = let a = languages-length g γ in omega arith
 
 pub languages-past : (e : Expression) (n : ℕ) → size e ≤ n → language-of e n ≡ no-words
 unfolding language-of
@@ -59,6 +61,7 @@ PartsDenote N (alternative g h) p γ =
 PartsDenote N (fixed-point g) p γ =
     (N (suc p) ≡ denotation g (denotation (fixed-point g) γ ∷ γ)) × PartsDenote N g (suc p) (denotation (fixed-point g) γ ∷ γ)
 PartsDenote N (variable n) p γ = Unit
+PartsDenote N (repetition g) p γ = (N (suc p) ≡ denotation g γ) × PartsDenote N g (suc p) γ
 
 own-language : (N : ℕ → Language) (g : Expression) (p : ℕ) (γ : Environment) → Segment N p (languages-from g γ) → N p ≡ denotation g γ
 unfolding languages-from
@@ -69,6 +72,7 @@ own-language N (sequence g k) p γ h = h .0
 own-language N (alternative g k) p γ h = h .0
 own-language N (fixed-point g) p γ h = h .0
 own-language N (variable n) p γ h = h .0
+own-language N (repetition g) p γ h = h .0
 
 right-languages : (N : ℕ → Language) (g k : Expression) (p : ℕ) (γ : Environment)
     → Segment N p (languages-from g γ ++ languages-from k γ) → Segment N (p + size g) (languages-from k γ)
@@ -96,6 +100,7 @@ parts-denote N (alternative g k) p γ h =
 parts-denote N (fixed-point g) p γ h =
     (own-language N g (suc p) (denotation (fixed-point g) γ ∷ γ) (h .1), parts-denote N g (suc p) (denotation (fixed-point g) γ ∷ γ) (h .1))
 parts-denote N (variable n) p γ h = tt
+parts-denote N (repetition g) p γ h = (own-language N g (suc p) γ (h .1), parts-denote N g (suc p) γ (h .1))
 
 -- The start's language is what the expression denotes.
 pub start-language : (e : Expression) → language-of e 0 ≡ Denotes e
@@ -144,6 +149,15 @@ module _ {N : ℕ → Language} {table : ℕ → Node} {Γ : Context} {γ : Envi
     placed = s .placed .2;
     denoted = s .parts .2;
     parts = s .parts .3;
+    bound = s .bound;
+  }
+
+  pub at-part : {g : Expression} → Site N table Γ (repetition g) γ p fs → Site N table Γ g γ (suc p) fs
+  at-part s = record {
+    satisfied = s .satisfied;
+    placed = s .placed .1;
+    denoted = s .parts .0;
+    parts = s .parts .1;
     bound = s .bound;
   }
 
@@ -215,6 +229,7 @@ module _ (N : ℕ → Language) (table : ℕ → Node) (U : LanguageType → ℕ
         typed-everywhere d (denotation (fixed-point g) γ ∷ γ) (suc p) (p ∷ fs) (at-body d s)
             (next-variables Γ a p fs (own Γ (fixed-point g) a (type-fixed-point d) γ p fs s (λ n b u. k n b (usable-still u))) k),
       )
+  typed-everywhere (type-repetition d q e) γ p fs s k = (own-still (type-repetition d q e) γ p fs s k, typed-everywhere d γ (suc p) fs (at-part s) k)
 
 -- For a sheet's expression, whose nodes have languages of their own.
 pub at-every-node : {e : Expression} {a : LanguageType} → [] ⊢ e ∶ a → (U : LanguageType → ℕ → Type 0)
@@ -233,6 +248,7 @@ node-language N (sequence-node l r) w = followed-by (N l) (N r) w
 node-language N (alternative-node l r) w = either (N l) (N r) w
 node-language N (fixed-point-node b) w = N b w
 node-language N (variable-node f guarded) w = N f w
+node-language N (repetition-node b self) w = none-or-more (N b) (N self) w
 
 pub same-words : {L M : Language} → L ≡ M → (w : List ℕ) → L w ↔ M w
 same-words e w = (subst (λ L. L w) e, subst (λ L. L w) (sym e))
@@ -248,6 +264,8 @@ module _ (N : ℕ → Language) (table : ℕ → Node) where
   site-equation (type-sequence d e q) γ p fs s w = rw (s .denoted, s .placed .0, s .parts .0, s .parts .2) (λ h. h, λ h. h)
   site-equation (type-alternative d e q) γ p fs s w = rw (s .denoted, s .placed .0, s .parts .0, s .parts .2) (λ h. h, λ h. h)
   site-equation (type-fixed-point {g = g} d) γ p fs s w = rw (s .denoted, s .placed .0, s .parts .0) (fixed-point-unrolls g γ w)
+  site-equation (type-repetition {g = g} d q e) γ p fs s w =
+      rw (s .placed .0, s .denoted, s .parts .0) (repetition-unrolls (denotation g γ) w)
 
 nodes-past : (e : Expression) (n : ℕ) → size e ≤ n → node-at (nodes e) n ≡ bottom-node
 nodes-past e n h = List·getD-eq-default (nodes e) bottom-node (rw (nodes-count e) h)

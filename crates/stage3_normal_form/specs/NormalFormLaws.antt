@@ -9,7 +9,8 @@ use lib.ListN.{getD, List·getD-eq-default}
 use Rattle.stage0_laws.specs.BitLaws.{∈-disjoint}
 use Rattle.stage1_sheet.specs.Expression.{Expression, fixed-point, size}
 use Rattle.stage2_types.specs.Denotation.{Language, followed-by, either, Environment, denotation, Denotes}
-use Rattle.stage2_types.specs.Types.{LanguageType, bottom-type, Separable, Context, Usable, there, _⊢_∶_, type-epsilon, type-bottom, type-token, type-variable, type-sequence, type-alternative, type-fixed-point}
+use Rattle.stage2_types.specs.Types.{LanguageType, bottom-type, Separable, Context, Usable, there, _⊢_∶_, type-epsilon, type-bottom, type-token, type-variable, type-sequence, type-alternative, type-fixed-point, type-repetition}
+use Rattle.stage2_types.specs.TypeLaws.{separable-from-repetition}
 use Rattle.stage2_types.specs.Soundness.{Satisfies}
 use Rattle.stage2_types.specs.Nodes.{Node, nodes, node-at}
 use Rattle.stage3_normal_form.specs.Productions.{Production, Row, no-productions, ended-by, row-of, node-row}
@@ -18,9 +19,9 @@ use Rattle.stage3_normal_form.specs.Derives.{derives-at, derives}
 use Rattle.stage3_normal_form.specs.NormalForm.{normal-form}
 use Rattle.stage3_normal_form.specs.KeptRows.{staying-row, normal-form-solves, normal-form-length}
 use Rattle.stage3_normal_form.specs.RowTypes.{normal-form-distinct}
-use Rattle.stage3_normal_form.specs.NodeLanguages.{language-of, languages-past, start-language, node-language, Site, at-left, at-right, at-first, at-second, at-body, site-sound, site-equation, at-every-node}
+use Rattle.stage3_normal_form.specs.NodeLanguages.{language-of, languages-past, start-language, node-language, Site, at-left, at-right, at-first, at-second, at-body, at-part, site-sound, site-equation, at-every-node}
 use Rattle.stage3_normal_form.specs.DerivesExact.{HasWord, derives-exact}
-use Rattle.stage3_normal_form.specs.Unfolding.{token-row, sequence-row, alternative-row, _of_, concatenation, UnfoldsOnce, one-node, epsilon-unfolds, bottom-unfolds, token-unfolds, sequence-unfolds, alternative-unfolds, production-word}
+use Rattle.stage3_normal_form.specs.Unfolding.{epsilon-row, token-row, sequence-row, alternative-row, _of_, concatenation, UnfoldsOnce, one-node, epsilon-unfolds, bottom-unfolds, token-unfolds, sequence-unfolds, alternative-unfolds, production-word}
 use Rattle.stage3_normal_form.specs.Pending.{Good, HaveWords, good-append, good-one, have-words-append, Fits}
 
 module _ (N : ℕ → Language) where
@@ -93,11 +94,11 @@ module _ (N : ℕ → Language) (table : ℕ → Node) (flags : List Bool) (exac
       → (((w : List ℕ) → N p w ↔ node-language N x w) → RowFits N (N p) (staying-row flags rs x)) → FitsAt p
   by-kind {x} {p} e f k = subst (RowFits N (N p)) (sym (solves p ∙ ap (staying-row flags rs) e)) (k (rw e at f))
 
-  sequence-kind : (p l r : ℕ) (a b : LanguageType) → FitsAt l → Satisfies (N l) a → Satisfies (N r) b → Separable a b
-      → ((w : List ℕ) → N p w ↔ followed-by (N l) (N r) w) → (flag : Bool) → derives-at flags r ≡ flag
-      → RowFits N (N p) (cond flag (sequence-row r (row-of rs l)) no-productions)
-  sequence-kind p l r a b x s s' q f true e = sequence-fits N (N p) (N l) r (row-of rs l) a b f x (exact r .0 e) s s' q
-  sequence-kind p l r a b x s s' q f false e = dead-fits N (N p) (N l) r f (λ h. true≢false (sym (exact r .1 h) ∙ e))
+  sequence-kind : (L : Language) (l r : ℕ) (a b : LanguageType) → FitsAt l → Satisfies (N l) a → Satisfies (N r) b → Separable a b
+      → ((w : List ℕ) → L w ↔ followed-by (N l) (N r) w) → (flag : Bool) → derives-at flags r ≡ flag
+      → RowFits N L (cond flag (sequence-row r (row-of rs l)) no-productions)
+  sequence-kind L l r a b x s s' q f true e = sequence-fits N L (N l) r (row-of rs l) a b f x (exact r .0 e) s s' q
+  sequence-kind L l r a b x s s' q f false e = dead-fits N L (N l) r f (λ h. true≢false (sym (exact r .1 h) ∙ e))
 
   node-fits : {Γ : Context} {g : Expression} {a : LanguageType} → Γ ⊢ g ∶ a → (γ : Environment) (p : ℕ) (fs : List ℕ)
       → Site N table Γ g γ p fs → ((n : ℕ) (b : LanguageType) → Usable Γ n b → FitsAt (getD fs n 0)) → FitsAt p
@@ -111,7 +112,7 @@ module _ (N : ℕ → Language) (table : ℕ → Node) (flags : List Bool) (exac
       (λ f. same-fits N (N p) (N (getD fs n 0)) (row-of rs (getD fs n 0)) f (k n a u))
   node-fits (type-sequence {g = g} {a = a} {b = b} d e q) γ p fs s k =
       by-kind (s .placed .0) (site-equation N table (type-sequence d e q) γ p fs s)
-      (λ f. sequence-kind p (suc p) (suc p + size g) a b (node-fits d γ (suc p) fs (at-left s) k)
+      (λ f. sequence-kind (N p) (suc p) (suc p + size g) a b (node-fits d γ (suc p) fs (at-left s) k)
       (site-sound d (at-left s)) (site-sound e (at-right s)) q f (derives-at flags (suc p + size g)) refl)
   node-fits (type-alternative {g = g} d e q) γ p fs s k =
       let x : FitsAt (suc p) = node-fits d γ (suc p) fs (at-first s) k in
@@ -126,6 +127,15 @@ module _ (N : ℕ → Language) (table : ℕ → Node) (flags : List Bool) (exac
       inner : ((n : ℕ) (b : LanguageType) → Usable Γ n b → FitsAt (getD fs n 0))
           → (n : ℕ) (b : LanguageType) → Usable (record { usable = false; type = a } ∷ Γ) n b → FitsAt (getD (p ∷ fs) n 0)
       inner k n b (there {n = i} u) = k i b u
+  node-fits (type-repetition {g = g} {a = a} {b = b} d q e) γ p fs s k =
+      let rest = cond (derives-at flags p) (sequence-row p (row-of rs (suc p))) no-productions in
+      let more = followed-by (N (suc p)) (N p) in
+      let x : RowFits N more rest = sequence-kind more (suc p) p a b (node-fits d γ (suc p) fs (at-part s) k)
+      (site-sound d (at-part s)) (site-sound (type-repetition d q e) s) (separable-from-repetition a b e q) (λ w. (λ h. h, λ h. h))
+      (derives-at flags p) refl in
+      by-kind (s .placed .0) (site-equation N table (type-repetition d q e) γ p fs s)
+      (λ f. alternative-fits N (N p) (λ w. w ≡ []) more epsilon-row rest f
+      (without-productions N (λ w. w ≡ []) true (epsilon-unfolds N (λ w. w ≡ []) (λ w. (λ h. h, λ h. h)))) x)
 
 -- At every node of a typed expression.
 row-fits : {e : Expression} {a : LanguageType} → [] ⊢ e ∶ a → (n : ℕ)

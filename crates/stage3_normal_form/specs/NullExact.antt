@@ -9,8 +9,9 @@ use Rattle.stage0_laws.specs.Truth.{and-true-first}
 use Rattle.stage0_laws.specs.Settling.{settle-keeps}
 use Rattle.stage1_sheet.specs.Expression.{Expression, size}
 use Rattle.stage2_types.specs.Denotation.{Environment}
-use Rattle.stage2_types.specs.Types.{LanguageType, epsilon-type, bottom-type, token-type, sequence-type, alternative-type, Context, _⊢_∶_, type-epsilon, type-bottom, type-token, type-variable, type-sequence, type-alternative, type-fixed-point}
-use Rattle.stage2_types.specs.Nodes.{Node, epsilon-node, bottom-node, token-node, sequence-node, alternative-node, fixed-point-node, variable-node, nodes, node-at}
+use Rattle.stage2_types.specs.Types.{LanguageType, epsilon-type, bottom-type, token-type, sequence-type, alternative-type, repetition-type, Context, _⊢_∶_, type-epsilon, type-bottom, type-token, type-variable, type-sequence, type-alternative, type-fixed-point, type-repetition}
+use Rattle.stage2_types.specs.Soundness.{Satisfies}
+use Rattle.stage2_types.specs.Nodes.{Node, epsilon-node, bottom-node, token-node, sequence-node, alternative-node, fixed-point-node, variable-node, repetition-node, nodes, node-at}
 use Rattle.stage2_types.specs.LeastTypes.{type-of, node-type, next-types, same-types, type-rounds, types-of, least-types}
 use Rattle.stage2_types.specs.LeastTypeLaws.{type-of-next}
 use Rattle.stage2_types.specs.SetOrder.{or-rises}
@@ -22,12 +23,12 @@ use Rattle.stage3_normal_form.specs.Places.{nodes-count}
 use Rattle.stage3_normal_form.specs.RowEquations.{row-solves}
 use Rattle.stage3_normal_form.specs.KeptRows.{normal-form-epsilon}
 use Rattle.stage3_normal_form.specs.RowTypes.{rows-within}
-use Rattle.stage3_normal_form.specs.NodeLanguages.{language-of, Site, at-left, site-sound, at-every-node}
+use Rattle.stage3_normal_form.specs.NodeLanguages.{language-of, Site, at-left, at-part, site-sound, at-every-node}
 use Rattle.stage3_normal_form.specs.Unfolding.{null-exact}
 use Rattle.stage3_normal_form.specs.NormalFormLaws.{normal-form-fits}
 
--- The left part of a sequence has no ε.
-abbrev LeftNotNull : List Row → Node → Type 0
+-- The left part of a sequence has no ε, nor has the part of a repetition.
+abbrev pub LeftNotNull : List Row → Node → Type 0
 LeftNotNull rs epsilon-node = Unit
 LeftNotNull rs bottom-node = Unit
 LeftNotNull rs (token-node t) = Unit
@@ -35,16 +36,22 @@ LeftNotNull rs (sequence-node l r) = (row-of rs l) .has-epsilon ≡ false
 LeftNotNull rs (alternative-node l r) = Unit
 LeftNotNull rs (fixed-point-node b) = Unit
 LeftNotNull rs (variable-node f guarded) = Unit
+LeftNotNull rs (repetition-node b self) = (row-of rs b) .has-epsilon ≡ false
 
 not-true : (b : Bool) → (b ≡ true → ⊥) → b ≡ false
 not-true true h = absurd (h refl)
 not-true false h = refl
 
-left-not-null : {e : Expression} {a : LanguageType} → [] ⊢ e ∶ a → (n : ℕ) → LeftNotNull (rows e) (node-at (nodes e) n)
+pub left-not-null : {e : Expression} {a : LanguageType} → [] ⊢ e ∶ a → (n : ℕ) → LeftNotNull (rows e) (node-at (nodes e) n)
 left-not-null {e} d n = at-every-node d (λ b i. LeftNotNull (rows e) (node-at (nodes e) i)) (λ Γ g b x γ p fs s k. own x γ p fs s) past n .1
   where
     past : (i : ℕ) → size e ≤ i → (b : LanguageType) × LeftNotNull (rows e) (node-at (nodes e) i)
     past i h = (bottom-type, rw (List·getD-eq-default (nodes e) bottom-node {n = i} (rw (nodes-count e) h)) tt)
+
+    -- A node whose type is not NULL has no ε.
+    by-type : (m : ℕ) {b : LanguageType} → Satisfies (language-of e m) b → b .null ≡ false → (row-of (rows e) m) .has-epsilon ≡ false
+    by-type m s q = not-true ((row-of (rows e) m) .has-epsilon) (λ h. true≢false
+        (sym (s .null-holds (null-exact (language-of e) ((normal-form-fits d) .unfolds m) .1 (normal-form-epsilon e m ∙ h))) ∙ q))
 
     own : {Γ : Context} {g : Expression} {b : LanguageType} → Γ ⊢ g ∶ b → (γ : Environment) (p : ℕ) (fs : List ℕ)
         → Site (language-of e) (node-at (nodes e)) Γ g γ p fs → LeftNotNull (rows e) (node-at (nodes e) p)
@@ -52,11 +59,10 @@ left-not-null {e} d n = at-every-node d (λ b i. LeftNotNull (rows e) (node-at (
     own type-bottom γ p fs s = rw (s .placed) tt
     own (type-token t) γ p fs s = rw (s .placed) tt
     own (type-variable u) γ p fs s = rw (s .placed .1) tt
-    own (type-sequence x y q) γ p fs s = rw (s .placed .0) (not-true ((row-of (rows e) (suc p)) .has-epsilon)
-        (λ h. true≢false (sym ((site-sound x (at-left s)) .null-holds
-        (null-exact (language-of e) ((normal-form-fits d) .unfolds (suc p)) .1 (normal-form-epsilon e (suc p) ∙ h))) ∙ q .not-null)))
+    own (type-sequence x y q) γ p fs s = rw (s .placed .0) (by-type (suc p) (site-sound x (at-left s)) (q .not-null))
     own (type-alternative x y q) γ p fs s = rw (s .placed .0) tt
     own (type-fixed-point x) γ p fs s = rw (s .placed .0) tt
+    own (type-repetition x q h) γ p fs s = rw (s .placed .0) (by-type (suc p) (site-sound x (at-part s)) (q .not-null))
 
 -- NULL promises no more than the row has.
 abbrev NullWithin : LanguageType → Row → Type 0
@@ -75,6 +81,7 @@ module _ (rs : List Row) (types : List LanguageType) (within : (n : ℕ) → Nul
       ((type-of types r) .null) ((row-of rs r) .has-epsilon) (within l) (within r) e
   node-within (fixed-point-node b) s e = within b e
   node-within (variable-node f guarded) s e = within f e
+  node-within (repetition-node b self) s e = refl
 
 none-typed : (m n : ℕ) → type-of (replicate m bottom-type) n ≡ bottom-type
 none-typed zero n = refl

@@ -9,9 +9,9 @@ use native.Mathlib.Omega.{arith}
 use native.Mathlib.Nat.{add-zero}
 use lib.ListN.{getD, length, List·getD-map}
 use Rattle.stage0_laws.specs.Order.{lt-or-le}
-use Rattle.stage1_sheet.specs.Expression.{Expression, epsilon, bottom, token, sequence, alternative, fixed-point, variable, size}
+use Rattle.stage1_sheet.specs.Expression.{Expression, epsilon, bottom, token, sequence, alternative, fixed-point, variable, repetition, size}
 use Rattle.stage2_types.specs.Types.{LanguageType, Context, all-usable, Usable, here, there}
-use Rattle.stage2_types.specs.Nodes.{Node, epsilon-node, bottom-node, token-node, sequence-node, alternative-node, fixed-point-node, variable-node, Binder, no-binder, guard, nodes-from, nodes, node-at}
+use Rattle.stage2_types.specs.Nodes.{Node, epsilon-node, bottom-node, token-node, sequence-node, alternative-node, fixed-point-node, variable-node, repetition-node, Binder, no-binder, guard, nodes-from, nodes, node-at}
 use Rattle.stage2_types.specs.NodeLaws.{nodes-length}
 
 -- A table holds the list from p on.
@@ -54,6 +54,7 @@ Placed table (alternative g h) p fs =
     (table p ≡ alternative-node (suc p) (suc p + size g)) × Placed table g (suc p) fs × Placed table h (suc p + size g) fs
 Placed table (fixed-point g) p fs = (table p ≡ fixed-point-node (suc p)) × Placed table g (suc p) (p ∷ fs)
 Placed table (variable n) p fs = (guarded : Bool) × (table p ≡ variable-node (getD fs n 0) guarded)
+Placed table (repetition g) p fs = (table p ≡ repetition-node (suc p) p) × Placed table g (suc p) fs
 
 abbrev binder-nodes : List Binder → List ℕ
 binder-nodes = map (λ (b : Binder). b .node)
@@ -84,6 +85,7 @@ module _ (table : ℕ → Node) where
     (getD bs n no-binder) .guarded,
     rw (List·getD-map (λ (b : Binder). b .node) bs n no-binder) (h .0),
   )
+  placed-from (repetition g) p bs h = (h .0, placed-from g (suc p) bs (h .1))
 
 pub nodes-placed : (e : Expression) → Placed (node-at (nodes e)) e 0 []
 unfolding nodes
@@ -102,10 +104,14 @@ Everywhere P (sequence g h) p = P p × Everywhere P g (suc p) × Everywhere P h 
 Everywhere P (alternative g h) p = P p × Everywhere P g (suc p) × Everywhere P h (suc p + size g)
 Everywhere P (fixed-point g) p = P p × Everywhere P g (suc p)
 Everywhere P (variable n) p = P p
+Everywhere P (repetition g) p = P p × Everywhere P g (suc p)
 
 module _ {ℓ} (P : ℕ → Type ℓ) where
   at-place : (p n : ℕ) → p ≤ n → n < p + 1 → P p → P n
   at-place p n h l x = subst P (omega arith) x
+
+  at-part : (g : Expression) (p n : ℕ) → p ≤ n → n < p + (1 + size g) → P p → ((n : ℕ) → suc p ≤ n → n < suc p + size g → P n) → P n
+  at-part g p n l u x f = ⊎-elim (λ a. subst P (omega arith) x) (λ a. f n (omega arith) (omega arith)) (lt-or-le n (suc p))
 
   at-parts : (g h : Expression) (p n : ℕ) → p ≤ n → n < p + (1 + (size g + size h)) → P p
       → ((n : ℕ) → suc p ≤ n → n < suc p + size g → P n)
@@ -123,9 +129,9 @@ module _ {ℓ} (P : ℕ → Type ℓ) where
       at-parts g k p n l u (h .0) (everywhere-at g (suc p) (h .1)) (everywhere-at k (suc p + size g) (h .2))
   everywhere-at (alternative g k) p h n l u =
       at-parts g k p n l u (h .0) (everywhere-at g (suc p) (h .1)) (everywhere-at k (suc p + size g) (h .2))
-  everywhere-at (fixed-point g) p h n l u =
-      ⊎-elim (λ a. subst P (omega arith) (h .0)) (λ a. everywhere-at g (suc p) (h .1) n (omega arith) (omega arith)) (lt-or-le n (suc p))
+  everywhere-at (fixed-point g) p h n l u = at-part g p n l u (h .0) (everywhere-at g (suc p) (h .1))
   everywhere-at (variable k) p h n l u = at-place p n l u h
+  everywhere-at (repetition g) p h n l u = at-part g p n l u (h .0) (everywhere-at g (suc p) (h .1))
 
   -- Of every number, if it holds past the last node too.
   pub everywhere-all : (e : Expression) → Everywhere P e 0 → ((n : ℕ) → size e ≤ n → P n) → (n : ℕ) → P n

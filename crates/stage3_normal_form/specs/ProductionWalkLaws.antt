@@ -15,7 +15,7 @@ use Rattle.stage0_laws.specs.BitLaws.{∈-disjoint}
 use Rattle.stage0_laws.specs.Lists.{or-else}
 use Rattle.stage1_sheet.specs.Expression.{Expression, size}
 use Rattle.stage1_sheet.specs.Limits.{most-expression-nodes}
-use Rattle.stage2_types.specs.Types.{LanguageType, Context, _⊢_∶_, type-epsilon, type-bottom, type-token, type-variable, type-sequence, type-alternative, type-fixed-point}
+use Rattle.stage2_types.specs.Types.{LanguageType, Context, _⊢_∶_, type-epsilon, type-bottom, type-token, type-variable, type-sequence, type-alternative, type-fixed-point, type-repetition}
 use Rattle.stage2_types.specs.Nodes.{Node, bottom-node, alternative-node, nodes, node-at}
 use Rattle.stage2_types.specs.LeastTypes.{type-of, next-types, least-types}
 use Rattle.stage2_types.specs.QuestionLaws.{passes-apart}
@@ -126,6 +126,8 @@ module _ (table : ℕ → Node) (first : ℕ → ℕ) (flags : List Bool) (t : �
       (own-walk e (suc p + size g) fs (h .2) m v i (omega arith) rights))
   own-walk (type-fixed-point {Γ = Γ} {a = a} d) p fs h m v k l rights = by-step p k (h .0) (omega arith) rights
       (λ i z. own-walk d (suc p) (p ∷ fs) (h .1) m (keep-in-body WalksIn Γ fs m p a v) i (omega arith) rights)
+  own-walk (type-repetition d q e) p fs h m v k l rights = by-step p k (h .0) (omega arith) rights
+      (λ i z. follow (suc p) p rights (walks i) (own-walk d (suc p) fs (h .1) m v i (omega arith) (p ∷ rights)) (derives-at flags p))
 
 -- A production found for t, as the walk's result: its tail, with nothing remembered before it.
 ending-none : (t : ℕ) (l : List Production) (o : Option Production) → Found t l o → with-head t (ending o []) ≡ o

@@ -7,7 +7,7 @@ use Prim.Native.Nat.{ℕ, zero, suc, _+_, _≤_}
 use native.Mathlib.Omega.{arith}
 use lib.ListN.{length, replicate, length-map, length-replicate, List·getD-map, List·getD-eq-default}
 use Rattle.stage1_sheet.specs.Expression.{Expression, size}
-use Rattle.stage2_types.specs.Types.{LanguageType, Context, _⊢_∶_, type-epsilon, type-bottom, type-token, type-variable, type-sequence, type-alternative, type-fixed-point}
+use Rattle.stage2_types.specs.Types.{LanguageType, Context, _⊢_∶_, type-epsilon, type-bottom, type-token, type-variable, type-sequence, type-alternative, type-fixed-point, type-repetition}
 use Rattle.stage2_types.specs.Nodes.{Node, bottom-node, sequence-node, nodes, node-at}
 use Rattle.stage3_normal_form.specs.Productions.{Row, no-productions, row-of, node-row, next-rows, rows-after, rows}
 use Rattle.stage3_normal_form.specs.Places.{Placed, nodes-placed, nodes-count, everywhere-all, none-usable, list-path}
@@ -50,6 +50,8 @@ module _ (ns : List Node) (S S' : ℕ → List Row) (s : Rounds ns S) (s' : Roun
       (λ i z. rw (agree-own d (suc p) fs (t .1) m v i (omega arith), agree-own e (suc p + size g) fs (t .2) m v i (omega arith)))
   agree-own (type-fixed-point {Γ = Γ} {a = a} d) p fs t m v k h = agree-step p (t .0) k (omega arith)
       (λ i z. agree-own d (suc p) (p ∷ fs) (t .1) m (keep-in-body AgreeFrom Γ fs m p a v) i (omega arith))
+  agree-own (type-repetition d q e) p fs t m v k h = agree-step p (t .0) k (omega arith)
+      (λ i z. rw (agree-own d (suc p) fs (t .1) m v i (omega arith)))
 
 rows-after-length : (k : ℕ) (ns : List Node) → length (rows-after k ns) ≡ length ns
 unfolding rows-after next-rows

@@ -5,11 +5,12 @@ use mathlib.Core.Bool.{Bool, true, false, cond, true≢false}
 use mathlib.Core.List.{List, [], List·Memᴰ·not-nil, List·Memᴰ·eq-of-singleton, List·Memᴰ·append-cases, Memᴰ·of-map}
 use mathlib.Core.Logic.{_⊎_, ⊎-elim}
 use Prim.Native.Nat.{ℕ, _^_}
+use lib.Bits.{bitAnd}
 use Rattle.stage0_laws.specs.Bits.{_∈_}
-use Rattle.stage0_laws.specs.BitLaws.{∈-left, ∈-right, ∈-self, ∈-disjoint}
+use Rattle.stage0_laws.specs.BitLaws.{∈-zero, ∈-left, ∈-right, ∈-self, ∈-disjoint, disjoint-zero}
 use Rattle.stage1_sheet.specs.Expression.{Expression}
-use Rattle.stage2_types.specs.Types.{LanguageType, if-null, epsilon-type, bottom-type, token-type, sequence-type, alternative-type, Apart, _⊢_∶_}
-use Rattle.stage2_types.specs.Nodes.{Node, epsilon-node, bottom-node, token-node, sequence-node, alternative-node, fixed-point-node, variable-node, nodes, node-at}
+use Rattle.stage2_types.specs.Types.{LanguageType, if-null, epsilon-type, bottom-type, token-type, sequence-type, alternative-type, repetition-type, Apart, _⊢_∶_}
+use Rattle.stage2_types.specs.Nodes.{Node, epsilon-node, bottom-node, token-node, sequence-node, alternative-node, fixed-point-node, variable-node, repetition-node, nodes, node-at}
 use Rattle.stage2_types.specs.LeastTypes.{type-of, node-type}
 use Rattle.stage2_types.specs.LeastTypeLaws.{solved-at}
 use Rattle.stage2_types.specs.LeastSolution.{Solves}
@@ -21,7 +22,7 @@ use Rattle.stage3_normal_form.specs.ProductionLaws.{DistinctHeads, disti
 use Rattle.stage3_normal_form.specs.Derives.{derives-at, derives}
 use Rattle.stage3_normal_form.specs.NormalForm.{normal-form}
 use Rattle.stage3_normal_form.specs.KeptRows.{staying-row, every-row}
-use Rattle.stage3_normal_form.specs.Unfolding.{_of_}
+use Rattle.stage3_normal_form.specs.Unfolding.{epsilon-row, alternative-row, _of_}
 
 -- The row P of a node with the type a.
 pub record RowWithin (P : Row) (a : LanguageType) : Type 0 where
@@ -31,6 +32,19 @@ pub record RowWithin (P : Row) (a : LanguageType) : Type 0 where
 
 bare-within : (empty : Bool) (a : LanguageType) → (empty ≡ true → a .null ≡ true) → RowWithin (record { has-epsilon = empty; productions = [] }) a
 bare-within empty a h = record { null-within = h; heads-within = λ q m. absurd (List·Memᴰ·not-nil m); distinct = tt }
+
+-- Two rows, if no token begins both.
+alternative-within : {P Q : Row} {a b : LanguageType} → RowWithin P a → RowWithin Q b → bitAnd (a .first) (b .first) ≡ 0
+    → RowWithin (alternative-row P Q) (alternative-type a b)
+unfolding alternative-type
+alternative-within {P} {Q} {a} {b} x y k = record {
+  null-within = or-rises (P .has-epsilon) (a .null) (Q .has-epsilon) (b .null) (x .null-within) (y .null-within);
+  heads-within = λ q m. ⊎-elim (λ z. ∈-left (a .first) (b .first) (q .head) (x .heads-within q z))
+      (λ z. ∈-right (a .first) (b .first) (q .head) (y .heads-within q z)) (List·Memᴰ·append-cases (P .productions) m);
+  distinct = distinct-append (P .productions) (Q .productions) (x .distinct) (y .distinct)
+      (λ q p m n e. ∈-disjoint (a .first) (b .first) (q .head) k (x .heads-within q m)
+      (subst (λ (t : ℕ). t ∈ b .first) (sym e) (y .heads-within p n)));
+}
 
 -- Over types that solve Figure 2's equations, with the parts of each alternative apart.
 module _ (flags : List Bool) (types : List LanguageType) (rs : List Row) (w : (n : ℕ) → RowWithin (row-of rs n) (type-of types n)) where
@@ -44,23 +58,14 @@ module _ (flags : List Bool) (types : List LanguageType) (rs : List Row) (w : (n
     distinct = distinct-ended r ((row-of rs l) .productions) ((w l) .distinct);
   }
 
-  alternative-within : (l r : ℕ) → Apart (type-of types l) (type-of types r)
-      → RowWithin (node-row rs (alternative-node l r)) (node-type types (alternative-node l r))
-  unfolding node-type node-row alternative-type
-  alternative-within l r k = record {
-    null-within = or-rises ((row-of rs l) .has-epsilon) ((type-of types l) .null) ((row-of rs r) .has-epsilon) ((type-of types r) .null)
-        ((w l) .null-within) ((w r) .null-within);
-    heads-within = λ q m. ⊎-elim (λ x. ∈-left ((type-of types l) .first) ((type-of types r) .first) (q .head) ((w l) .heads-within q x))
-        (λ x. ∈-right ((type-of types l) .first) ((type-of types r) .first) (q .head) ((w r) .heads-within q x))
-        (List·Memᴰ·append-cases ((row-of rs l) .productions) m);
-    distinct = distinct-append ((row-of rs l) .productions) ((row-of rs r) .productions) ((w l) .distinct) ((w r) .distinct)
-        (λ q p m n e. ∈-disjoint ((type-of types l) .first) ((type-of types r) .first) (q .head) (k .disjoint) ((w l) .heads-within q m)
-        (subst (λ (t : ℕ). t ∈ (type-of types r) .first) (sym e) ((w r) .heads-within p n)));
-  }
+  -- A sequence whose right part derives nothing gives nothing.
+  staying-within : (l r : ℕ) (b : Bool) → RowWithin (cond b (node-row rs (sequence-node l r)) no-productions) (node-type types (sequence-node l r))
+  staying-within l r true = sequence-within l r
+  staying-within l r false = bare-within false (node-type types (sequence-node l r)) (λ e. absurd (true≢false (sym e)))
 
   node-within : (x : Node) → ((l r : ℕ) → x ≡ alternative-node l r → Apart (type-of types l) (type-of types r))
       → RowWithin (staying-row flags rs x) (node-type types x)
-  unfolding node-type node-row epsilon-type bottom-type token-type
+  unfolding node-type node-row epsilon-type bottom-type token-type repetition-type
   node-within epsilon-node k = bare-within true epsilon-type (λ e. e)
   node-within bottom-node k = bare-within false bottom-type (λ e. e)
   node-within (token-node t) k = record {
@@ -68,14 +73,12 @@ module _ (flags : List Bool) (types : List LanguageType) (rs : List Row) (w : (n
     heads-within = λ q m. subst (λ (z : Production). z .head ∈ 2 ^ t) (sym (List·Memᴰ·eq-of-singleton m)) (∈-self t);
     distinct = (λ r m e. List·Memᴰ·not-nil m, tt);
   }
-  node-within (sequence-node l r) k = go (derives-at flags r)
-    where
-      go : (b : Bool) → RowWithin (cond b (node-row rs (sequence-node l r)) no-productions) (node-type types (sequence-node l r))
-      go true = sequence-within l r
-      go false = bare-within false (node-type types (sequence-node l r)) (λ e. absurd (true≢false (sym e)))
-  node-within (alternative-node l r) k = alternative-within l r (k l r refl)
+  node-within (sequence-node l r) k = staying-within l r (derives-at flags r)
+  node-within (alternative-node l r) k = alternative-within (w l) (w r) ((k l r refl) .disjoint)
   node-within (fixed-point-node b) k = w b
   node-within (variable-node f guarded) k = w f
+  node-within (repetition-node b self) k = alternative-within (bare-within true epsilon-type (λ e. e)) (staying-within b self (derives-at flags self))
+      (disjoint-zero 0 ((node-type types (sequence-node b self)) .first) (λ i x y. ∈-zero i x))
 
 pub rows-within : (e : Expression) (types : List LanguageType) → Solves (nodes e) types → AlternativesApart (nodes e) types
     → (n : ℕ) → RowWithin (row-of (normal-form e) n) (type-of types n)
