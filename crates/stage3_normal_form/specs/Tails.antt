@@ -1,6 +1,7 @@
--- Tails: their members are nodes of the expression, and at a typed one a tail is no longer than the number of sequence nodes, so at
--- most `most-tail`. Heads are tokens of the sheet.
+-- Tails: their members are nodes of the expression, and at a typed one a tail is no longer than the number of sequence nodes, and one
+-- more where its row has ε, so at most `most-tail`. Heads are tokens of the sheet.
 use mathlib.Core.Path.{_≡_, refl, sym, ap, subst, _∙_}
+use mathlib.Core.Bool.{Bool, true, false, _||_, cond}
 use mathlib.Core.List.{List, [], _∷_, _++_, List·Memᴰ·not-nil, List·Memᴰ·eq-of-singleton, List·Memᴰ·append-cases, Memᴰ·of-map}
 use mathlib.Core.Option.{Option}
 use mathlib.Core.Logic.{⊎-elim}
@@ -9,18 +10,19 @@ use native.Mathlib.Omega.{arith}
 use lib.ListN.{length, length-append, replicate, List·getD-eq-default}
 use Rattle.stage0_laws.specs.Lists.{All}
 use Rattle.stage0_laws.specs.Members.{all-append}
-use Rattle.stage1_sheet.specs.Expression.{Expression, epsilon, bottom, token, sequence, alternative, fixed-point, variable, size}
+use Rattle.stage1_sheet.specs.Expression.{Expression, epsilon, bottom, token, sequence, alternative, fixed-point, variable, repetition, size}
 use Rattle.stage1_sheet.specs.Limits.{most-expression-nodes}
 use Rattle.stage1_sheet.specs.WellFormed.{Closed}
-use Rattle.stage2_types.specs.Types.{LanguageType, Context, _⊢_∶_, type-epsilon, type-bottom, type-token, type-variable, type-sequence, type-alternative, type-fixed-point}
+use Rattle.stage2_types.specs.Types.{LanguageType, Context, _⊢_∶_, type-epsilon, type-bottom, type-token, type-variable, type-sequence, type-alternative, type-fixed-point, type-repetition}
 use Rattle.stage2_types.specs.NodeRanges.{NodeInRange, node-in-range, nodes-in-range}
-use Rattle.stage2_types.specs.Nodes.{Node, epsilon-node, bottom-node, token-node, sequence-node, alternative-node, fixed-point-node, variable-node, nodes, node-at}
+use Rattle.stage2_types.specs.Nodes.{Node, epsilon-node, bottom-node, token-node, sequence-node, alternative-node, fixed-point-node, variable-node, repetition-node, nodes, node-at}
 use Rattle.stage3_normal_form.specs.Productions.{Production, most-tail, most-growth, Row, no-productions, ended-by, row-of, node-row, rows-after, rows}
 use Rattle.stage3_normal_form.specs.NormalForm.{normal-form}
 use Rattle.stage3_normal_form.specs.Places.{Placed, nodes-placed, everywhere-all, none-usable}
 use Rattle.stage3_normal_form.specs.Descent.{weight, head-weight, weight-parts, VariablesKeep, keep-in-body, bounded}
 use Rattle.stage3_normal_form.specs.RowEquations.{next-at, row-solves, rows-length}
-use Rattle.stage3_normal_form.specs.Unfolding.{_of_}
+use Rattle.stage3_normal_form.specs.Unfolding.{sequence-row, _of_}
+use Rattle.stage3_normal_form.specs.NullExact.{LeftNotNull, left-not-null}
 use Rattle.stage3_normal_form.specs.Pending.{TokenStep, GrowsBy, step-grows}
 use Rattle.stage3_normal_form.specs.KeptRows.{kept-production}
 
@@ -38,11 +40,31 @@ sequence-count-bound (sequence g h) = let a = sequence-count-bound g in let b = 
 sequence-count-bound (alternative g h) = let a = sequence-count-bound g in let b = sequence-count-bound h in omega arith
 sequence-count-bound (fixed-point g) = let a = sequence-count-bound g in omega arith
 sequence-count-bound (variable n) = omega arith
+sequence-count-bound (repetition g) = let a = sequence-count-bound g in omega arith
+
+-- One more where there is ε: a repetition has it, and adds a node to each tail of its part, which has none. So one such node is passed
+-- at most between two that count.
+abbrev pub epsilon-more : Bool → ℕ
+epsilon-more b = cond b 1 0
+
+more-left : (a b : Bool) → epsilon-more a ≤ epsilon-more (a || b)
+more-left true b = omega arith
+more-left false b = omega arith
+
+more-right : (a b : Bool) → epsilon-more b ≤ epsilon-more (a || b)
+more-right true true = omega arith
+more-right true false = omega arith
+more-right false b = omega arith
+
+more-most : (b : Bool) → epsilon-more b ≤ 1
+more-most true = omega arith
+more-most false = omega arith
 
 -- Lengths.
-module _ (table : ℕ → Node) (rs : List Row) (solves : (n : ℕ) → row-of rs n ≡ node-row rs (table n)) where
+module _ (table : ℕ → Node) (rs : List Row) (solves : (n : ℕ) → row-of rs n ≡ node-row rs (table n))
+    (left : (n : ℕ) → LeftNotNull rs (table n)) where
   abbrev Short : ℕ → Row → Type 0
-  Short m P = (q : Production) → q of P → length (q .tail) ≤ m
+  Short m P = (q : Production) → q of P → length (q .tail) ≤ m + epsilon-more (P .has-epsilon)
 
   abbrev ShortAt : ℕ → ℕ → Type 0
   ShortAt m n = Short m (row-of rs n)
@@ -53,6 +75,16 @@ module _ (table : ℕ → Node) (rs : List Row) (solves : (n : ℕ) → row-of r
   by-node : {x : Node} (m p : ℕ) → table p ≡ x → Short m (node-row rs x) → ShortAt m p
   by-node m p e f = subst (Short m) (sym (solves p ∙ ap (node-row rs) e)) f
 
+  -- A node added to the tails of a row that has no ε.
+  one-longer : (l n m : ℕ) → (row-of rs l) .has-epsilon ≡ false → ShortAt m l → (q : Production)
+      → q of sequence-row n (row-of rs l) → length (q .tail) ≤ m + 1
+  unfolding ended-by
+  one-longer l n m none f q x =
+      let o = Memᴰ·of-map (ended-by n) ((row-of rs l) .productions) x in
+      let a : length (o .0 .tail) ≤ m + 0 = rw none at (f (o .0) (o .1)) in
+      let b : length (o .0 .tail ++ (n ∷ [])) ≡ length (q .tail) = ap (λ (z : Production). length (z .tail)) (o .2) in
+      let c = length-append (o .0 .tail) (n ∷ []) in omega arith
+
   own-short : {Γ : Context} {g : Expression} {a : LanguageType} → Γ ⊢ g ∶ a → (p : ℕ) (fs : List ℕ) → Placed table g p fs → (m : ℕ)
       → VariablesKeep ShortAt Γ fs m → ShortAt (m + head-weight 0 g) p
   unfolding node-row ended-by
@@ -62,43 +94,47 @@ module _ (table : ℕ → Node) (rs : List Row) (solves : (n : ℕ) → row-of r
       (λ q x. rw (ap (λ (z : Production). length (z .tail)) (List·Memᴰ·eq-of-singleton x)) (omega arith))
   own-short (type-variable {n = n} {a = a} u) p fs t m k = by-node (m + 0) p (t .1) (λ q x. let b = k n a u q x in omega arith)
   own-short (type-sequence {g = g} d e s) p fs t m k = by-node (m + head-weight 0 (sequence g epsilon)) p (t .0)
-      (λ q x. let o = Memᴰ·of-map (ended-by (suc p + size g)) ((row-of rs (suc p)) .productions) x in
-      let a = own-short d (suc p) fs (t .1) m k (o .0) (o .1) in
-      let b : length (o .0 .tail ++ ((suc p + size g) ∷ [])) ≡ length (q .tail) = ap (λ (z : Production). length (z .tail)) (o .2) in
-      let c = length-append (o .0 .tail) ((suc p + size g) ∷ []) in omega arith)
-  own-short (type-alternative {g = g} {h = h} d e s) p fs t m k = by-node (m + head-weight 0 (alternative g h)) p (t .0)
-      (λ q x. ⊎-elim (λ y. let a = own-short d (suc p) fs (t .1) m k q y in omega arith)
-      (λ y. let a = own-short e (suc p + size g) fs (t .2) m k q y in omega arith)
+      (λ q x. let a = one-longer (suc p) (suc p + size g) (m + head-weight 0 g) (rw (t .0) at (left p)) (own-short d (suc p) fs (t .1) m k) q x in
+      omega arith)
+  own-short (type-alternative {g = g} {h = h} d e s) p fs t m k =
+      let l = (row-of rs (suc p)) .has-epsilon in
+      let r = (row-of rs (suc p + size g)) .has-epsilon in
+      by-node (m + head-weight 0 (alternative g h)) p (t .0)
+      (λ q x. ⊎-elim (λ y. let a = own-short d (suc p) fs (t .1) m k q y in omega (arith, a, more-left l r))
+      (λ y. let a = own-short e (suc p + size g) fs (t .2) m k q y in omega (arith, a, more-right l r))
       (List·Memᴰ·append-cases ((row-of rs (suc p)) .productions) x))
   own-short (type-fixed-point {Γ = Γ} {g = g} {a = a} d) p fs t m k = by-node (m + head-weight 0 (fixed-point g)) p (t .0)
       (λ q x. let b = own-short d (suc p) (p ∷ fs) (t .1) m (keep-in-body ShortAt Γ fs m p a k) q x in omega arith)
+  own-short (type-repetition {g = g} d s e) p fs t m k = by-node (m + head-weight 0 (repetition g)) p (t .0)
+      (λ q x. let a = one-longer (suc p) p (m + head-weight 0 g) (rw (t .0) at (left p)) (own-short d (suc p) fs (t .1) m k) q x in omega arith)
 
--- "A tail is at most as long as the number of sequence nodes"
+-- "A tail is at most as long as the number of sequence nodes", and one more where there is ε,
 pub tails-short : {e : Expression} {a : LanguageType} → [] ⊢ e ∶ a → (n : ℕ) (q : Production) → q of row-of (rows e) n
-    → length (q .tail) ≤ sequence-count e
-tails-short {e} d = everywhere-all (ShortAt (node-at (nodes e)) (rows e) (row-solves d) (sequence-count e)) e
-    (bounded (node-at (nodes e)) 0 (ShortAt (node-at (nodes e)) (rows e) (row-solves d))
-    (longer-bound (node-at (nodes e)) (rows e) (row-solves d))
-    (λ Γ g b. own-short (node-at (nodes e)) (rows e) (row-solves d) {Γ = Γ} {g = g} {a = b})
+    → length (q .tail) ≤ sequence-count e + epsilon-more ((row-of (rows e) n) .has-epsilon)
+tails-short {e} d = everywhere-all (ShortAt (node-at (nodes e)) (rows e) (row-solves d) (left-not-null d) (sequence-count e)) e
+    (bounded (node-at (nodes e)) 0 (ShortAt (node-at (nodes e)) (rows e) (row-solves d) (left-not-null d))
+    (longer-bound (node-at (nodes e)) (rows e) (row-solves d) (left-not-null d))
+    (λ Γ g b. own-short (node-at (nodes e)) (rows e) (row-solves d) (left-not-null d) {Γ = Γ} {g = g} {a = b})
     d 0 [] (nodes-placed e) 0 0 (sequence-count e) (λ i b u. none-usable u) (λ i b u. none-usable u)
     (omega arith) (let w = weight-parts 0 e in omega arith))
     (λ n h q x. absurd (List·Memᴰ·not-nil (rw (List·getD-eq-default (rows e) no-productions {n = n} (rw (rows-length e) h)) at x)))
 
--- ".. so at most 31."
+-- so at most 31 + 1: "Tails .. run to 32".
 pub tails-at-most : {e : Expression} {a : LanguageType} → [] ⊢ e ∶ a → size e ≤ most-expression-nodes
     → (n : ℕ) (q : Production) → q of row-of (normal-form e) n → length (q .tail) ≤ most-tail
 tails-at-most {e} d h n q m =
-    let a = tails-short d n q (kept-production e n q m .0) in let b = sequence-count-bound e in omega arith
+    omega (arith, tails-short d n q (kept-production e n q m .0), sequence-count-bound e, more-most ((row-of (rows e) n) .has-epsilon))
 
 -- So a take adds at most `most-growth` pending nodes.
 pub pending-grows : {e : Expression} {a : LanguageType} → [] ⊢ e ∶ a → size e ≤ most-expression-nodes
     → {t : ℕ} {β : List ℕ} {o : Option (List ℕ)} → TokenStep (row-of (normal-form e)) t β o → GrowsBy most-growth β o
 pending-grows {e} d h = step-grows most-growth (row-of (normal-form e)) (tails-at-most d h)
 
--- What every production has if tokens give it and sequence nodes keep it.
+-- What every production has if tokens give it and sequence and repetition nodes keep it.
 module _ (ns : List Node) (Q : Production → Type 0)
     (by-token : (n t : ℕ) → node-at ns n ≡ token-node t → Q (record { head = t; tail = [] }))
-    (by-sequence : (n l r : ℕ) → node-at ns n ≡ sequence-node l r → (q : Production) → Q q → Q (ended-by r q)) where
+    (by-sequence : (n l r : ℕ) → node-at ns n ≡ sequence-node l r → (q : Production) → Q q → Q (ended-by r q))
+    (by-repetition : (n b self : ℕ) → node-at ns n ≡ repetition-node b self → (q : Production) → Q q → Q (ended-by self q)) where
   no-row : (m n : ℕ) (q : Production) → q of row-of (replicate m no-productions) n → Q q
   no-row zero n q x = absurd (List·Memᴰ·not-nil x)
   no-row (suc m) zero q x = absurd (List·Memᴰ·not-nil x)
@@ -116,6 +152,8 @@ module _ (ns : List Node) (Q : Production → Type 0)
       ⊎-elim (λ x. f l q x) (λ x. f r q x) (List·Memᴰ·append-cases ((row-of rs l) .productions) m)
   next-productions rs f n (fixed-point-node b) e q m = f b q m
   next-productions rs f n (variable-node b guarded) e q m = f b q m
+  next-productions rs f n (repetition-node b self) e q m =
+      let o = Memᴰ·of-map (ended-by self) ((row-of rs b) .productions) m in subst Q (o .2) (by-repetition n b self e (o .0) (f b (o .0) (o .1)))
 
   pub every-production : (k n : ℕ) (q : Production) → q of row-of (rows-after k ns) n → Q q
   unfolding rows-after
@@ -131,7 +169,8 @@ pub record ProductionInRange (tokens count : ℕ) (q : Production) : Type 0 wher
 pub productions-in-range : (e : Expression) (tokens : ℕ) → Closed tokens 0 e
     → (n : ℕ) (q : Production) → q of row-of (rows e) n → ProductionInRange tokens (size e) q
 unfolding rows
-productions-in-range e tokens c = every-production (nodes e) (ProductionInRange tokens (size e)) by-token by-sequence (length (nodes e))
+productions-in-range e tokens c = every-production (nodes e) (ProductionInRange tokens (size e)) by-token
+    (λ n l r h. one-more r (right n l r h)) (λ n b self h. one-more self (itself n b self h)) (length (nodes e))
   where
     in-range : (n : ℕ) → NodeInRange tokens (size e) (node-at (nodes e) n)
     in-range = node-in-range tokens (size e) (nodes e) (nodes-in-range tokens e c)
@@ -142,12 +181,14 @@ productions-in-range e tokens c = every-production (nodes e) (ProductionInRange 
     by-token : (n t : ℕ) → node-at (nodes e) n ≡ token-node t → ProductionInRange tokens (size e) (record { head = t; tail = [] })
     by-token n t h = record { head-below = rw h at (in-range n); tail-below = tt }
 
-    by-sequence : (n l r : ℕ) → node-at (nodes e) n ≡ sequence-node l r → (q : Production) → ProductionInRange tokens (size e) q
-        → ProductionInRange tokens (size e) (ended-by r q)
-    by-sequence n l r h q x = unfold ended-by in
+    itself : (n b self : ℕ) → node-at (nodes e) n ≡ repetition-node b self → self < size e
+    itself n b self h = let x : (b < size e) × (self < size e) = rw h at (in-range n) in x .1
+
+    one-more : (r : ℕ) → r < size e → (q : Production) → ProductionInRange tokens (size e) q → ProductionInRange tokens (size e) (ended-by r q)
+    one-more r l q x = unfold ended-by in
         record {
           head-below = x .head-below;
-          tail-below = all-append (λ i. i < size e) (q .tail) (r ∷ []) (x .tail-below) ((right n l r h), tt);
+          tail-below = all-append (λ i. i < size e) (q .tail) (r ∷ []) (x .tail-below) (l, tt);
         }
 
 pub normal-form-in-range : (e : Expression) (tokens : ℕ) → Closed tokens 0 e
