@@ -1,126 +1,198 @@
--- The nodes that stand in tails are right parts of sequences, of which an expression has as many as sequence nodes, and repetitions.
--- A typed expression has few of both, since what a repetition repeats is not nullable.
+-- The nodes that stand in tails: right parts of sequences, and repetitions. Beside the start a typed expression has fewer than half as
+-- many of them as nodes: what stands left of a sequence or below a repetition is not nullable, and so is no repetition.
 use mathlib.Core.Path.{_≡_, refl, sym, ap, subst, _∙_}
-use mathlib.Core.List.{List, [], _∷_, _++_, map, flatMap, List·Memᴰ, List·Memᴰ·head, Memᴰ·append-left, Memᴰ·append-right}
-use mathlib.Core.Bool.{Bool, true, false, _&&_, _||_, cond}
-use Prim.Native.Nat.{ℕ, zero, suc, _+_, _*_, _≤_}
+use mathlib.Core.Bool.{Bool, true, false, _&&_, cond, true≢false}
+use mathlib.Core.List.{List, [], _∷_, _++_, List·Memᴰ, List·Memᴰ·head, List·Memᴰ·tail, List·Memᴰ·cases-cons, Memᴰ·append-left, Memᴰ·append-right}
+use mathlib.Core.Logic.{⊎-elim}
+use Prim.Native.Nat.{ℕ, suc, _+_, _*_, _≤_}
 use native.Mathlib.Omega.{arith}
-use lib.ListN.{length, length-append}
+use lib.ListN.{length, length-append, List·getD-eq-default}
 use Rattle.stage0_laws.specs.Lists.{All}
 use Rattle.stage0_laws.specs.Members.{all-append}
 use Rattle.stage1_sheet.specs.Expression.{Expression, epsilon, bottom, token, sequence, alternative, fixed-point, variable, repetition, size}
-use Rattle.stage1_sheet.specs.ListLaws.{flatMap-append}
-use Rattle.stage2_types.specs.Types.{LanguageType, epsilon-type, bottom-type, token-type, sequence-type, alternative-type, repetition-type, Context, _⊢_∶_, type-epsilon, type-bottom, type-token, type-variable, type-sequence, type-alternative, type-fixed-point, type-repetition}
-use Rattle.stage2_types.specs.Nodes.{Node, epsilon-node, bottom-node, token-node, sequence-node, alternative-node, fixed-point-node, variable-node, repetition-node, Binder, guard, nodes-from, nodes, node-at}
+use Rattle.stage2_types.specs.Types.{LanguageType, epsilon-type, alternative-type, repetition-type, Apart, Context, _⊢_∶_, type-epsilon, type-bottom, type-token, type-variable, type-sequence, type-alternative, type-fixed-point, type-repetition}
+use Rattle.stage2_types.specs.Nodes.{Node, epsilon-node, bottom-node, token-node, sequence-node, alternative-node, fixed-point-node, variable-node, repetition-node, nodes, node-at}
 use Rattle.stage3_normal_form.specs.Productions.{Production, row-of, ended-by, rows}
 use Rattle.stage3_normal_form.specs.NormalForm.{normal-form}
 use Rattle.stage3_normal_form.specs.KeptRows.{kept-production}
 use Rattle.stage3_normal_form.specs.Unfolding.{_of_}
+use Rattle.stage3_normal_form.specs.Places.{Placed, nodes-placed, nodes-count, Everywhere, everywhere-all}
 use Rattle.stage3_normal_form.specs.Tails.{every-production}
 
 -- What a node adds to tails: a sequence its right part, a repetition itself.
-abbrev pub right-part : Node → List ℕ
-right-part epsilon-node = []
-right-part bottom-node = []
-right-part (token-node t) = []
-right-part (sequence-node l r) = r ∷ []
-right-part (alternative-node l r) = []
-right-part (fixed-point-node b) = []
-right-part (variable-node f guarded) = []
-right-part (repetition-node b self) = self ∷ []
+abbrev added : Node → List ℕ
+added epsilon-node = []
+added bottom-node = []
+added (token-node t) = []
+added (sequence-node l r) = r ∷ []
+added (alternative-node l r) = []
+added (fixed-point-node b) = []
+added (variable-node f guarded) = []
+added (repetition-node b self) = self ∷ []
 
-abbrev pub right-parts : List Node → List ℕ
-right-parts ns = flatMap right-part ns
+-- A repetition's own node, before others.
+abbrev with-own : Expression → ℕ → List ℕ → List ℕ
+with-own epsilon p l = l
+with-own bottom p l = l
+with-own (token k) p l = l
+with-own (sequence g h) p l = l
+with-own (alternative g h) p l = l
+with-own (fixed-point g) p l = l
+with-own (variable n) p l = l
+with-own (repetition g) p l = p ∷ l
 
--- The sequence and repetition nodes of an expression.
-abbrev pub tail-count : Expression → ℕ
-tail-count epsilon = 0
-tail-count bottom = 0
-tail-count (token k) = 0
-tail-count (sequence g h) = 1 + (tail-count g + tail-count h)
-tail-count (alternative g h) = tail-count g + tail-count h
-tail-count (fixed-point g) = tail-count g
-tail-count (variable n) = 0
-tail-count (repetition g) = 1 + tail-count g
+-- The nodes below g's own, which is p, that are added to tails, each once.
+abbrev pub tail-nodes : Expression → ℕ → List ℕ
+tail-nodes epsilon p = []
+tail-nodes bottom p = []
+tail-nodes (token k) p = []
+tail-nodes (sequence g h) p = with-own g (suc p) (tail-nodes g (suc p)) ++ ((suc p + size g) ∷ tail-nodes h (suc p + size g))
+tail-nodes (alternative g h) p =
+    with-own g (suc p) (tail-nodes g (suc p)) ++ with-own h (suc p + size g) (tail-nodes h (suc p + size g))
+tail-nodes (fixed-point g) p = with-own g (suc p) (tail-nodes g (suc p))
+tail-nodes (variable n) p = []
+tail-nodes (repetition g) p = with-own g (suc p) (tail-nodes g (suc p))
 
-parts-append : (k l : List Node) → length (right-parts (k ++ l)) ≡ length (right-parts k) + length (right-parts l)
-parts-append k l = ap (λ (r : List ℕ). length r) (flatMap-append right-part k l) ∙ length-append (right-parts k) (right-parts l)
+-- ---- each tail's members are among them
 
-parts-from : (g : Expression) (p : ℕ) (fs : List Binder) → length (right-parts (nodes-from g p fs)) ≡ tail-count g
-unfolding nodes-from flatMap
-parts-from epsilon p fs = refl
-parts-from bottom p fs = refl
-parts-from (token k) p fs = refl
-parts-from (sequence g h) p fs =
-    omega (
-      arith,
-      parts-append (nodes-from g (suc p) fs) (nodes-from h (suc p + size g) (map guard fs)),
-      parts-from g (suc p) fs,
-      parts-from h (suc p + size g) (map guard fs),
-    )
-parts-from (alternative g h) p fs =
-    omega (
-      arith,
-      parts-append (nodes-from g (suc p) fs) (nodes-from h (suc p + size g) fs),
-      parts-from g (suc p) fs,
-      parts-from h (suc p + size g) fs,
-    )
-parts-from (fixed-point g) p fs = omega (arith, parts-from g (suc p) (record { node = p; guarded = false } ∷ fs))
-parts-from (variable n) p fs = refl
-parts-from (repetition g) p fs = omega (arith, parts-from g (suc p) fs)
+own-within : (g : Expression) (p : ℕ) (l : List ℕ) (r : ℕ) → List·Memᴰ r (with-own g p l) → List·Memᴰ r (p ∷ l)
+own-within epsilon p l r m = List·Memᴰ·tail m
+own-within bottom p l r m = List·Memᴰ·tail m
+own-within (token k) p l r m = List·Memᴰ·tail m
+own-within (sequence g h) p l r m = List·Memᴰ·tail m
+own-within (alternative g h) p l r m = List·Memᴰ·tail m
+own-within (fixed-point g) p l r m = List·Memᴰ·tail m
+own-within (variable n) p l r m = List·Memᴰ·tail m
+own-within (repetition g) p l r m = m
 
--- As many as sequence and repetition nodes.
-pub right-parts-count : (e : Expression) → length (right-parts (nodes e)) ≡ tail-count e
-unfolding nodes
-right-parts-count e = parts-from e 0 []
+module _ (table : ℕ → Node) (all : List ℕ) where
+  abbrev Listed : ℕ → Type 0
+  Listed n = All (λ r. List·Memᴰ r all) (added (table n))
 
-part-of : (ns : List Node) (n r : ℕ) → List·Memᴰ r (right-part (node-at ns n)) → List·Memᴰ r (right-parts ns)
-unfolding flatMap
-part-of [] n r m = m
-part-of (x ∷ ns) zero r m = Memᴰ·append-left (right-parts ns) m
-part-of (x ∷ ns) (suc n) r m = Memᴰ·append-right (right-part x) (part-of ns n r m)
+  listed : (g : Expression) (p : ℕ) (fs : List ℕ) → Placed table g p fs
+      → ((r : ℕ) → List·Memᴰ r (with-own g p (tail-nodes g p)) → List·Memᴰ r all) → Everywhere Listed g p
+  listed epsilon p fs t f = rw t tt
+  listed bottom p fs t f = rw t tt
+  listed (token k) p fs t f = rw t tt
+  listed (sequence g h) p fs t f =
+      let l = with-own g (suc p) (tail-nodes g (suc p)) in
+      let n = suc p + size g in (
+        rw (t .0) (f n (Memᴰ·append-right l (List·Memᴰ·head refl)), tt),
+        listed g (suc p) fs (t .1) (λ r m. f r (Memᴰ·append-left (n ∷ tail-nodes h n) m)),
+        listed h n fs (t .2) (λ r m. f r (Memᴰ·append-right l (own-within h n (tail-nodes h n) r m))),
+      )
+  listed (alternative g h) p fs t f =
+      let l = with-own g (suc p) (tail-nodes g (suc p)) in
+      let n = suc p + size g in (
+        rw (t .0) tt,
+        listed g (suc p) fs (t .1) (λ r m. f r (Memᴰ·append-left (with-own h n (tail-nodes h n)) m)),
+        listed h n fs (t .2) (λ r m. f r (Memᴰ·append-right l m)),
+      )
+  listed (fixed-point g) p fs t f = (rw (t .0) tt, listed g (suc p) (p ∷ fs) (t .1) f)
+  listed (variable n) p fs t f = rw (t .1) tt
+  listed (repetition g) p fs t f =
+      (rw (t .0) (f p (List·Memᴰ·head refl), tt), listed g (suc p) fs (t .1) (λ r m. f r (List·Memᴰ·tail m)))
 
--- Every member of every tail is a right part or a repetition.
+-- Every member of every tail is the start, a right part or a repetition.
 pub tails-right : (e : Expression) (n : ℕ) (q : Production) → q of row-of (normal-form e) n
-    → All (λ r. List·Memᴰ r (right-parts (nodes e))) (q .tail)
+    → All (λ r. List·Memᴰ r (0 ∷ tail-nodes e 0)) (q .tail)
 tails-right e n q m = unfold rows in
-    every-production (nodes e) (λ q. All (λ r. List·Memᴰ r (right-parts (nodes e))) (q .tail)) (λ n t h. tt)
-    (λ n l r h. one-more n r (subst (λ (x : Node). List·Memᴰ r (right-part x)) (sym h) (List·Memᴰ·head refl)))
-    (λ n b r h. one-more n r (subst (λ (x : Node). List·Memᴰ r (right-part x)) (sym h) (List·Memᴰ·head refl)))
+    every-production (nodes e) Within (λ n t h. tt) (λ n l r h. one-more n r (ap added h)) (λ n b r h. one-more n r (ap added h))
     (length (nodes e)) n q (kept-production e n q m .0)
   where
-    one-more : (n r : ℕ) → List·Memᴰ r (right-part (node-at (nodes e) n)) → (q : Production)
-        → All (λ r. List·Memᴰ r (right-parts (nodes e))) (q .tail) → All (λ r. List·Memᴰ r (right-parts (nodes e))) ((ended-by r q) .tail)
+    Within : Production → Type 0
+    Within q = All (λ r. List·Memᴰ r (0 ∷ tail-nodes e 0)) (q .tail)
+
+    at-node : (n : ℕ) → Listed (node-at (nodes e)) (0 ∷ tail-nodes e 0) n
+    at-node = everywhere-all (Listed (node-at (nodes e)) (0 ∷ tail-nodes e 0)) e
+        (listed (node-at (nodes e)) (0 ∷ tail-nodes e 0) e 0 [] (nodes-placed e) (own-within e 0 (tail-nodes e 0)))
+        (λ n h. rw (List·getD-eq-default (nodes e) bottom-node {n = n} (rw (nodes-count e) h)) tt)
+
+    one-more : (n r : ℕ) → added (node-at (nodes e) n) ≡ r ∷ [] → (q : Production) → Within q → Within (ended-by r q)
     one-more n r h q x = unfold ended-by in
-        all-append (λ r. List·Memᴰ r (right-parts (nodes e))) (q .tail) (r ∷ []) x (part-of (nodes e) n r h, tt)
+        all-append (λ r. List·Memᴰ r (0 ∷ tail-nodes e 0)) (q .tail) (r ∷ []) x
+        (subst (All (λ r. List·Memᴰ r (0 ∷ tail-nodes e 0))) h (at-node n))
 
--- Three for a sequence or repetition node, and one more for what is not nullable, are at most two for each node: a sequence has a left
--- part, and a repetition a part, that is not nullable.
-abbrev more-unless : Bool → ℕ
-more-unless b = cond b 0 1
+-- ---- how many they are
 
-abbrev not-null-more : LanguageType → ℕ
-not-null-more a = more-unless (a .null)
+-- 1 for a repetition.
+abbrev own-count : Expression → ℕ
+own-count g = length (with-own g 0 [])
 
-not-null-most : (b : Bool) → more-unless b ≤ 1
-not-null-most true = omega arith
-not-null-most false = omega arith
+own-length : (g : Expression) (p : ℕ) (l : List ℕ) → length (with-own g p l) ≡ own-count g + length l
+own-length epsilon p l = omega arith
+own-length bottom p l = omega arith
+own-length (token k) p l = omega arith
+own-length (sequence g h) p l = omega arith
+own-length (alternative g h) p l = omega arith
+own-length (fixed-point g) p l = omega arith
+own-length (variable n) p l = omega arith
+own-length (repetition g) p l = omega arith
 
-few : {Γ : Context} {g : Expression} {a : LanguageType} → Γ ⊢ g ∶ a → 3 * tail-count g + (1 + not-null-more a) ≤ 2 * size g
-unfolding size epsilon-type bottom-type token-type sequence-type alternative-type repetition-type
-few type-epsilon = omega arith
-few type-bottom = omega arith
-few (type-token t) = omega arith
-few (type-variable {a = a} u) = omega (arith, not-null-most (a .null))
-few (type-sequence {a = a} {b = b} d e s) =
-    let one : not-null-more a ≡ 1 = ap (λ (x : Bool). more-unless x) (s .not-null) in
-    omega (arith, few d, few e, one, not-null-most (a .null && b .null))
-few (type-alternative {a = a} {b = b} d e s) = omega (arith, few d, few e, not-null-most (a .null || b .null))
-few (type-fixed-point d) = omega (arith, few d)
-few (type-repetition {a = a} {b = b} d s e) =
-    let one : not-null-more a ≡ 1 = ap (λ (x : Bool). more-unless x) (s .not-null) in
-    let none : not-null-more b ≡ 0 = ap (λ (x : LanguageType). more-unless (x .null)) e in
-    omega (arith, few d, one, none)
+abbrev null-count : Bool → ℕ
+null-count b = cond b 1 0
 
-pub tail-count-bound : {e : Expression} {a : LanguageType} → [] ⊢ e ∶ a → 3 * tail-count e + 1 ≤ 2 * size e
-tail-count-bound d = omega (arith, few d)
+-- A repetition is nullable.
+own-null : {Γ : Context} {g : Expression} {a : LanguageType} → Γ ⊢ g ∶ a → own-count g ≤ null-count (a .null)
+unfolding repetition-type alternative-type epsilon-type
+own-null type-epsilon = omega arith
+own-null type-bottom = omega arith
+own-null (type-token t) = omega arith
+own-null (type-variable u) = omega arith
+own-null (type-sequence d e s) = omega arith
+own-null (type-alternative d e s) = omega arith
+own-null (type-fixed-point d) = omega arith
+own-null (type-repetition {b = b} d s e) =
+    let one : null-count (b .null) ≡ 1 = ap (λ (x : LanguageType). null-count (x .null)) e in omega arith
+
+not-null : {Γ : Context} {g : Expression} {a : LanguageType} → Γ ⊢ g ∶ a → a .null ≡ false → own-count g ≤ 0
+not-null {g = g} d e = subst (λ (b : Bool). own-count g ≤ null-count b) e (own-null d)
+
+one-null : (a b : Bool) → (a && b) ≡ false → null-count a + null-count b ≤ 1
+one-null true true e = absurd (true≢false e)
+one-null true false e = omega arith
+one-null false true e = omega arith
+one-null false false e = omega arith
+
+few : {Γ : Context} {g : Expression} {a : LanguageType} → Γ ⊢ g ∶ a → (p : ℕ) → 2 * length (tail-nodes g p) + 1 + own-count g ≤ size g
+unfolding size
+few type-epsilon p = omega arith
+few type-bottom p = omega arith
+few (type-token t) p = omega arith
+few (type-variable u) p = omega arith
+few (type-sequence {g = g} {h = h} d e s) p =
+    let l = with-own g (suc p) (tail-nodes g (suc p)) in
+    omega (
+      arith,
+      few d (suc p),
+      few e (suc p + size g),
+      not-null d (s .not-null),
+      own-length g (suc p) (tail-nodes g (suc p)),
+      length-append l ((suc p + size g) ∷ tail-nodes h (suc p + size g)),
+    )
+few (type-alternative {g = g} {h = h} {a = a} {b = b} d e s) p =
+    let l = with-own g (suc p) (tail-nodes g (suc p)) in
+    let r = with-own h (suc p + size g) (tail-nodes h (suc p + size g)) in
+    omega (
+      arith,
+      few d (suc p),
+      few e (suc p + size g),
+      own-null d,
+      own-null e,
+      one-null (a .null) (b .null) (s .one-null),
+      own-length g (suc p) (tail-nodes g (suc p)),
+      own-length h (suc p + size g) (tail-nodes h (suc p + size g)),
+      length-append l r,
+    )
+few (type-fixed-point {g = g} {a = a} d) p =
+    omega (arith, few d (suc p), own-length g (suc p) (tail-nodes g (suc p)), own-null d, null-most (a .null))
+  where
+    null-most : (b : Bool) → null-count b ≤ 1
+    null-most true = omega arith
+    null-most false = omega arith
+few (type-repetition {g = g} d s e) p =
+    omega (arith, few d (suc p), not-null d (s .not-null), own-length g (suc p) (tail-nodes g (suc p)))
+
+-- Fewer than half of the nodes.
+pub tail-nodes-few : {e : Expression} {a : LanguageType} → [] ⊢ e ∶ a → 2 * length (tail-nodes e 0) + 1 ≤ size e
+tail-nodes-few d = omega (arith, few d 0)
