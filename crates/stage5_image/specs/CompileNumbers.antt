@@ -7,7 +7,7 @@ use Rattle.stage1_sheet.specs.Spelling.{Bytes}
 use Rattle.stage1_sheet.specs.RefusalLaws.{refused-number}
 use Rattle.stage2_types.specs.Types.{LanguageType}
 use Rattle.stage2_types.specs.Nodes.{Node}
-use Rattle.stage2_types.specs.TypeFaults.{Fails, not-guarded, not-separable, not-apart}
+use Rattle.stage2_types.specs.TypeFaults.{Fails, not-guarded, not-separable, not-apart, not-self-separable}
 use Rattle.stage5_image.specs.Compile.{Compiled, refused, too-long, compiled, compile}
 use Rattle.stage5_image.specs.Compiles.{Compiles, short-work, long-sheet, not-a-sheet, empty-rule, untyped, no-room, success}
 use Rattle.stage5_image.specs.CompileQuestions.{compile-answers}
@@ -16,6 +16,7 @@ fault-number : {types : List LanguageType} {x : Node} {question : ℕ} → Fails
 fault-number not-guarded = (omega arith, omega arith)
 fault-number (not-separable n) = (omega arith, omega arith)
 fault-number (not-apart n) = (omega arith, omega arith)
+fault-number (not-self-separable n) = (omega arith, omega arith)
 
 abbrev Numbered : Compiled → Type 0
 Numbered (refused question place) = (1 ≤ question) × (question ≤ 10)

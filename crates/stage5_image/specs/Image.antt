@@ -43,7 +43,7 @@ unfoldable pub position-numbers : List Position → List ℕ
 position-numbers [] = []
 position-numbers (p ∷ ps) = p .low ∷ p .high ∷ p .rule ∷ flag (p .last) ∷ p .follow ∷ position-numbers ps
 
--- "productions by rising rule, each as rule, tail length 0 to 31, tail"
+-- "productions by rising rule, each as rule, tail length .., tail"
 unfoldable pub production-numbers : List Production → List ℕ
 production-numbers [] = []
 production-numbers (p ∷ ps) = p .head ∷ length (p .tail) ∷ (p .tail ++ production-numbers ps)

@@ -23,8 +23,7 @@ use Rattle.stage2_types.specs.Nodes.{nodes}
 use Rattle.stage2_types.specs.Types.{LanguageType, _⊢_∶_}
 use Rattle.stage3_normal_form.specs.Productions.{Production, Row, row-of, most-tail}
 use Rattle.stage3_normal_form.specs.NormalForm.{normal-form}
-use Rattle.stage3_normal_form.specs.RightParts.{right-parts, right-parts-count, tails-right}
-use Rattle.stage3_normal_form.specs.Tails.{sequence-count, sequence-count-bound}
+use Rattle.stage3_normal_form.specs.RightParts.{tail-nodes, tails-right, tail-nodes-few}
 use Rattle.stage4_lexer.specs.Positions.{Position, empty-match}
 use Rattle.stage5_image.specs.DistinctNodes.{distinct-few}
 use Rattle.stage5_image.specs.MetNodes.{first-met-member}
@@ -190,35 +189,34 @@ image-width i g =
 
 -- ---- a sheet's image
 
--- A node that is reached is the start or a right part.
+-- A node that is reached is the start, a right part or a repetition.
 reached-right : (rules : List Rule) (e : Expression) (tokens : ℕ) → Closed tokens 0 e → (n : ℕ)
     → List·Memᴰ n (reached (fused rules (normal-form e)))
-    → List·Memᴰ n (0 ∷ right-parts (nodes e))
+    → List·Memᴰ n (0 ∷ tail-nodes e 0)
 reached-right rules e tokens c n m =
     let rows = fused rules (normal-form e) in
     let r = reached-fused rules (normal-form e) (normal-form-inside e tokens c) (normal-form-some e) in
-    ⊎-elim (λ z. List·Memᴰ·head z) (λ k. List·Memᴰ·tail (in-tail
-    (of-flatMap (λ n. flatMap (λ p. p .tail) ((row-of rows n) .productions)) (reached rows) n k)))
+    ⊎-elim (λ z. List·Memᴰ·head z) (λ k. in-tail (of-flatMap (λ n. flatMap (λ p. p .tail) ((row-of rows n) .productions)) (reached rows) n k))
     (List·Memᴰ·cases-cons (first-met-member [] (0 ∷ row-by-row rows (reached rows)) n (subst (List·Memᴰ n) (r .in-order) m)))
   where
     in-tail : (k : ℕ) × List·Memᴰ k (reached (fused rules (normal-form e)))
         × List·Memᴰ n (flatMap (λ p. p .tail) ((row-of (fused rules (normal-form e)) k) .productions))
-        → List·Memᴰ n (right-parts (nodes e))
+        → List·Memᴰ n (0 ∷ tail-nodes e 0)
     in-tail k =
         let p = of-flatMap (λ p. p .tail) ((row-of (fused rules (normal-form e)) (k .0)) .productions) n (k .2) in
         let f = fused-member rules (normal-form e) (k .0) (p .0) (p .1) in
-        all-member (λ x. List·Memᴰ x (right-parts (nodes e))) (f .source .tail) (tails-right e (k .0) (f .source) (f .member)) n
+        all-member (λ x. List·Memᴰ x (0 ∷ tail-nodes e 0)) (f .source .tail) (tails-right e (k .0) (f .source) (f .member)) n
         (subst (List·Memᴰ n) (f .same-tail) (p .2))
 
--- At most the start and a nonterminal for each sequence node.
-pub nonterminals-few : (s : Sheet) → Closed (s .tokens) 0 (s .expression) → length ((image-of s) .rows) ≤ 1 + sequence-count (s .expression)
+-- At most the start and the nodes that stand in tails.
+pub nonterminals-few : (s : Sheet) → Closed (s .tokens) 0 (s .expression) → length ((image-of s) .rows) ≤ 1 + length (tail-nodes (s .expression) 0)
 unfolding image-of
 nonterminals-few s c =
     let e = s .expression in
     let rows = fused (s .rules) (normal-form e) in
     let r = reached-fused (s .rules) (normal-form e) (normal-form-inside e (s .tokens) c) (normal-form-some e) in
-    let few = distinct-few (reached rows) (0 ∷ right-parts (nodes e)) (r .once) (reached-right (s .rules) e (s .tokens) c) in
-    omega (arith, numbered-count rows, right-parts-count e)
+    let few = distinct-few (reached rows) (0 ∷ tail-nodes e 0) (r .once) (reached-right (s .rules) e (s .tokens) c) in
+    omega (arith, numbered-count rows)
 
 -- 1,070 bytes, and so many for each of 32 nonterminals.
 abbrev pub most-image-bytes : ℕ
@@ -230,4 +228,4 @@ pub image-fits : (s : Sheet) {a : LanguageType} → WithinLimits s → empty-mat
 image-fits s w m d =
     let few = nonterminals-few s (w .closed) in
     let most = w .nodes-most in
-    omega (arith, image-width (image-of s) (image-in-range s w m d), sequence-count-bound (s .expression))
+    omega (arith, image-width (image-of s) (image-in-range s w m d), tail-nodes-few d)
