@@ -4,8 +4,8 @@ use mathlib.Core.List.{List, [], _∷_, map}
 use mathlib.Core.Option.{Option, none, some}
 use Prim.Native.Nat.{ℕ}
 use Rattle.stage0_laws.specs.Lists.{settle}
-use Rattle.stage1_sheet.specs.Expression.{Expression, epsilon, bottom, token, sequence, alternative, fixed-point, variable, size}
-use Rattle.stage2_types.specs.Types.{epsilon-type, bottom-type, token-type, sequence-type, alternative-type}
+use Rattle.stage1_sheet.specs.Expression.{Expression, epsilon, bottom, token, sequence, alternative, fixed-point, variable, repetition, size}
+use Rattle.stage2_types.specs.Types.{epsilon-type, bottom-type, token-type, sequence-type, alternative-type, repetition-type}
 use Rattle.stage2_types.specs.Nodes.{nodes-from, nodes}
 use Rattle.stage2_types.specs.LeastTypes.{node-type, next-types, same-type, same-types, type-rounds, types-of, least-types}
 use Rattle.stage2_types.specs.Questions.{Fault, separable, apart, unless, node-fault, first-fault, type-fault}
@@ -43,9 +43,27 @@ examples =
     ∷ record { expression = sequence (sequence S (fixed-point (alternative epsilon (sequence N (variable 0))))) S; answer = none }
     -- N·⊥ ∨ N
     ∷ record { expression = alternative (sequence N bottom) N; answer = at 10 0 }
+    -- repetitions that have a type: (N)*, N·(S·N)*, (⊥)*, (N·(S)*)*
+    ∷ record { expression = repetition N; answer = none }
+    ∷ record { expression = sequence N (repetition (sequence S N)); answer = none }
+    ∷ record { expression = repetition bottom; answer = none }
+    ∷ record { expression = repetition (sequence N (repetition S)); answer = none }
+    -- (ε)*, (ε ∨ N)*, ((N)*)*, (N·(N)*)*
+    ∷ record { expression = repetition epsilon; answer = at 9 0 }
+    ∷ record { expression = repetition (alternative epsilon N); answer = at 9 0 }
+    ∷ record { expression = repetition (repetition N); answer = at 9 0 }
+    ∷ record { expression = repetition (sequence N (repetition N)); answer = at 9 0 }
+    -- (N·(S)*)·S, (N ∨ N)*
+    ∷ record { expression = sequence (sequence N (repetition S)) S; answer = at 9 0 }
+    ∷ record { expression = repetition (alternative N N); answer = at 10 1 }
+    -- μα.(α)* and μα.N·(S·α)*: 9 comes before 8
+    ∷ record { expression = fixed-point (repetition (variable 0)); answer = at 9 1 }
+    ∷ record { expression = fixed-point (sequence N (repetition (sequence S (variable 0)))); answer = at 9 3 }
+    -- μα.(N ∨ S·((S·α)·N)*): the variable counts past the repetition
+    ∷ record { expression = fixed-point (alternative N (sequence S (repetition (sequence (sequence S (variable 0)) N)))); answer = none }
     ∷ []
 
 examples-answered : map (λ x. type-fault (x .expression)) examples ≡ map (λ x. x .answer) examples
 unfolding type-fault first-fault node-fault unless separable apart least-types types-of settle type-rounds next-types node-type same-types same-type
-    nodes nodes-from size epsilon-type bottom-type token-type sequence-type alternative-type
+    nodes nodes-from size epsilon-type bottom-type token-type sequence-type alternative-type repetition-type
 examples-answered = refl

@@ -55,7 +55,7 @@ run-reading (got image end) entries text = run-image image entries text
 unfoldable pub run : List ℕ → List ℕ → ℕ → Answer
 run image text entries = cond (ltb most-text-bytes (length text)) (answer 12 0 0) (run-reading (read-image image) entries text)
 
--- "a long enough stack (1 + 30 × the text's length entries)"
+-- "a long enough stack .. is 1 + 31 × the text's length"
 abbrev pub long-enough : List ℕ → ℕ
 long-enough text = 1 + most-growth * length text
 

@@ -1,5 +1,5 @@
--- Every row of the table of worked cases holds: what is computed of a row, and, by the demands, what follows for the sheet that
--- its bytes spell. The rows themselves stand in `Cases`.
+-- Every row of the two tables of worked cases holds: what is computed of a row, and, by the demands, what follows for the sheet that
+-- its bytes spell. The rows themselves stand in `Cases` and `RepetitionCases`.
 use mathlib.Core.Path.{_≡_, refl, sym, ap, subst, _∙_}
 use mathlib.Core.List.{List, [], _∷_, _++_}
 use Prim.Native.Nat.{ℕ, zero, suc, _+_, _*_, _≤_}
@@ -28,6 +28,7 @@ use Rattle.stage7_demands.specs.Demands.{Demand2, Demand3}
 use Rattle.stage7_demands.specs.Proofs.{demand-2, demand-3}
 use Rattle.stage7_cases.specs.ImageD.{image-D, D-compiles}
 use Rattle.stage7_cases.specs.Cases.{Case, compiles, reads, denotes-nothing, compiled-sheet, run-of-sheet, Holds, endless, cases}
+use Rattle.stage7_cases.specs.RepetitionCases.{image-of-counts, image-of-numbers, repetition-cases}
 
 -- What is computed of a case: for a reading, the sheet's image and what the machine answers over it.
 abbrev Computes : Case → Type 0
@@ -96,6 +97,30 @@ all-computed =
     & refl
     & tt
 
+repetition-computed : All Computes repetition-cases
+unfolding repetition-cases compiled-sheet computing-machine
+repetition-computed =
+    refl
+    & (image-of-counts, refl, refl, tt, tt)
+    & (image-of-counts, refl, refl, tt, tt)
+    & (image-of-counts, refl, refl, tt, tt)
+    & refl
+    & (image-of-numbers, refl, refl, tt, tt)
+    & (image-of-numbers, refl, refl, tt, tt)
+    & refl
+    & refl
+    & refl
+    & refl
+    & refl
+    & refl
+    & refl
+    & refl
+    & refl
+    & tt
+
 -- Every row holds.
 pub cases-hold : All Holds cases
 cases-hold = all-hold cases all-computed
+
+pub repetition-cases-hold : All Holds repetition-cases
+repetition-cases-hold = all-hold repetition-cases repetition-computed

@@ -1,5 +1,6 @@
--- The worked cases of document 01 that are proved from the definitions: sheet D's image (`ImageD`), the table of cases (`Cases`),
--- and that every row holds (`CasesHold`).
+-- The worked cases that are proved from the definitions: sheet D's image (`ImageD`), document 01's cases (`Cases`), those of repetition
+-- (`RepetitionCases`), and that every row holds (`CasesHold`).
 pub mod ImageD
 pub mod Cases
+pub mod RepetitionCases
 pub mod CasesHold

@@ -77,7 +77,7 @@ pub record Demand2 (f : Functions) : Type 0 where
       → (s : Sheet) → Spells sheet s → (rules : List ℕ) → StartUnfolds ((image-of s) .rows) rules ↔ DenotedRules s rules
 
 -- Demand 3. "Whatever bytes a text holds, for every sheet that demand 2 accepts, running the image fixed there over the text gives
--- exactly the sheet's own answer .. Only, the text must be within the limit and the stack have at least 1 + 30 × its length entries."
+-- exactly the sheet's own answer .. Only, the text must be within the limit and the stack have at least 1 + 31 × its length entries."
 -- What follows from it by name is in `Corollaries`: `text-accepted-iff`, `text-accepted-answer`, `text-refused-place`, `nothing-accepted`,
 -- `stack-never-short`.
 pub record Demand3 (f : Functions) : Type 0 where
