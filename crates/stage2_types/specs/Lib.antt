@@ -24,7 +24,9 @@ pub mod TypedAt
 pub mod TypedNodes
 pub mod Typing
 pub mod TypeFaultLaws
+pub mod SomeSolution
 pub mod PutIn
 pub mod SpelledOutDenotation
 pub mod SpelledOutTyping
+pub mod SpelledOutLeast
 pub mod Examples
