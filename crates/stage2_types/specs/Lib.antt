@@ -29,4 +29,5 @@ pub mod PutIn
 pub mod SpelledOutDenotation
 pub mod SpelledOutTyping
 pub mod SpelledOutLeast
+pub mod SpelledOutExamples
 pub mod Examples

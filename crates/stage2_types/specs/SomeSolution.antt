@@ -16,15 +16,17 @@ use Rattle.stage2_types.specs.EachFrom.{EachFrom, each-left, each-right,
 use Rattle.stage2_types.specs.Equations.{EquationsAt, solves-iff}
 use Rattle.stage2_types.specs.TypedAt.{Listed}
 
+-- Types of two parts, and the type that a node has from theirs.
+abbrev pub FromBoth : (LanguageType → LanguageType → LanguageType) → (LanguageType → Type 0) → (LanguageType → Type 0) → LanguageType → Type 0
+FromBoth f X Y c = (a : LanguageType) × (b : LanguageType) × X a × Y b × (c ≡ f a b)
+
 -- Some solution of the equations over g gives g the type c, where the open fixed points have the given types.
 abbrev pub SomeSolution : Expression → List LanguageType → LanguageType → Type 0
 SomeSolution epsilon open-types c = c ≡ epsilon-type
 SomeSolution bottom open-types c = c ≡ bottom-type
 SomeSolution (token k) open-types c = c ≡ token-type k
-SomeSolution (sequence g h) open-types c =
-    (a : LanguageType) × (b : LanguageType) × SomeSolution g open-types a × SomeSolution h open-types b × (c ≡ sequence-type a b)
-SomeSolution (alternative g h) open-types c =
-    (a : LanguageType) × (b : LanguageType) × SomeSolution g open-types a × SomeSolution h open-types b × (c ≡ alternative-type a b)
+SomeSolution (sequence g h) open-types c = FromBoth sequence-type (SomeSolution g open-types) (SomeSolution h open-types) c
+SomeSolution (alternative g h) open-types c = FromBoth alternative-type (SomeSolution g open-types) (SomeSolution h open-types) c
 SomeSolution (fixed-point g) open-types c = SomeSolution g (c ∷ open-types) c
 SomeSolution (variable n) open-types c = c ≡ getD open-types n bottom-type
 SomeSolution (repetition g) open-types c = (a : LanguageType) × SomeSolution g open-types a × (c ≡ repetition-type a c)

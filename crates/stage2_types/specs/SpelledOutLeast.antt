@@ -1,8 +1,9 @@
 -- A closed expression and its spelled-out form have the same least type, also where neither has a derivation: their equations have
--- solutions for the same types.
-use mathlib.Core.Path.{_≡_, refl, sym, ap, ap₂, transport, subst, _∙_}
+-- solutions for the same types. Questions 8 to 10 find no fault in the one if and only if they find none in the other.
+use mathlib.Core.Path.{_≡_, refl, sym, ap, ap₂, transport, _∙_}
 use mathlib.Core.List.{List, [], _∷_}
-use mathlib.Core.Logic.{_↔_}
+use mathlib.Core.Option.{none}
+use mathlib.Core.Logic.{_↔_, Iff·rfl, Iff·symm, Iff·trans}
 use Prim.Native.Nat.{ℕ, zero, suc, _≤_, _<_}
 use native.Mathlib.Omega.{arith}
 use lib.ListN.{getD}
@@ -11,10 +12,13 @@ use Rattle.stage1_sheet.specs.Limits.{most-tokens}
 use Rattle.stage1_sheet.specs.WellFormed.{Closed}
 use Rattle.stage2_types.specs.Types.{LanguageType, epsilon-type, bottom-type, sequence-type, alternative-type, repetition-type}
 use Rattle.stage2_types.specs.LeastTypes.{type-of, least-types}
+use Rattle.stage2_types.specs.Questions.{type-fault}
 use Rattle.stage2_types.specs.TypeLaws.{⊑-antisym}
-use Rattle.stage2_types.specs.SomeSolution.{SomeSolution, least-type-some, least-type-least}
+use Rattle.stage2_types.specs.Typing.{typed-iff}
+use Rattle.stage2_types.specs.SomeSolution.{FromBoth, SomeSolution, least-type-some, least-type-least}
 use Rattle.stage2_types.specs.SpelledOut.{raise-count, raise, repetition-form, spelled-out}
 use Rattle.stage2_types.specs.PutIn.{PutIn, in-front, further-in}
+use Rattle.stage2_types.specs.SpelledOutTyping.{spelled-out-has-type}
 
 -- A raised expression is closed where one more fixed point is open.
 raised-count : (d n : ℕ) → raise-count d n ≤ suc n
@@ -55,10 +59,8 @@ raised-some : (g : Expression) {x : LanguageType} {d : ℕ} {l m : List Language
 raised-some epsilon s c = refl
 raised-some bottom s c = refl
 raised-some (token k) s c = refl
-raised-some (sequence g h) s c =
-    λ i. (a : LanguageType) × (b : LanguageType) × raised-some g s a i × raised-some h s b i × (c ≡ sequence-type a b)
-raised-some (alternative g h) s c =
-    λ i. (a : LanguageType) × (b : LanguageType) × raised-some g s a i × raised-some h s b i × (c ≡ alternative-type a b)
+raised-some (sequence g h) s c = λ i. FromBoth sequence-type (λ a. raised-some g s a i) (λ b. raised-some h s b i) c
+raised-some (alternative g h) s c = λ i. FromBoth alternative-type (λ a. raised-some g s a i) (λ b. raised-some h s b i) c
 raised-some (fixed-point g) s c = raised-some g (further-in s) c
 raised-some (variable n) s c = λ i. c ≡ raised-type s n i
 raised-some (repetition g) s c = λ i. (a : LanguageType) × raised-some g s a i × (c ≡ repetition-type a c)
@@ -76,31 +78,37 @@ repetition-some g l c = (
   ),
 )
 
+-- At every depth at once.
+both-iff : (f : LanguageType → LanguageType → LanguageType) {X X' Y Y' : LanguageType → Type 0} → ((a : LanguageType) → X a ↔ X' a)
+    → ((b : LanguageType) → Y b ↔ Y' b) → (c : LanguageType) → FromBoth f X Y c ↔ FromBoth f X' Y' c
+both-iff f x y c = (
+  λ s. (s .0, s .1, x (s .0) .0 (s .2), y (s .1) .0 (s .3), s .4),
+  λ s. (s .0, s .1, x (s .0) .1 (s .2), y (s .1) .1 (s .3), s .4),
+)
+
 some-spelled-out : (e : Expression) (l : List LanguageType) (c : LanguageType) → SomeSolution e l c ↔ SomeSolution (spelled-out e) l c
-some-spelled-out epsilon l c = (λ s. s, λ s. s)
-some-spelled-out bottom l c = (λ s. s, λ s. s)
-some-spelled-out (token k) l c = (λ s. s, λ s. s)
-some-spelled-out (sequence g h) l c = (
-  λ s. (s .0, s .1, some-spelled-out g l (s .0) .0 (s .2), some-spelled-out h l (s .1) .0 (s .3), s .4),
-  λ s. (s .0, s .1, some-spelled-out g l (s .0) .1 (s .2), some-spelled-out h l (s .1) .1 (s .3), s .4),
-)
-some-spelled-out (alternative g h) l c = (
-  λ s. (s .0, s .1, some-spelled-out g l (s .0) .0 (s .2), some-spelled-out h l (s .1) .0 (s .3), s .4),
-  λ s. (s .0, s .1, some-spelled-out g l (s .0) .1 (s .2), some-spelled-out h l (s .1) .1 (s .3), s .4),
-)
+some-spelled-out epsilon l c = Iff·rfl
+some-spelled-out bottom l c = Iff·rfl
+some-spelled-out (token k) l c = Iff·rfl
+some-spelled-out (sequence g h) l c = both-iff sequence-type (some-spelled-out g l) (some-spelled-out h l) c
+some-spelled-out (alternative g h) l c = both-iff alternative-type (some-spelled-out g l) (some-spelled-out h l) c
 some-spelled-out (fixed-point g) l c = some-spelled-out g (c ∷ l) c
-some-spelled-out (variable n) l c = (λ s. s, λ s. s)
+some-spelled-out (variable n) l c = Iff·rfl
 some-spelled-out (repetition g) l c =
     let form = repetition-some (spelled-out g) l c in (
       λ s. form .0 (s .0, some-spelled-out g l (s .0) .0 (s .1), s .2),
       λ s. let r = form .1 s in (r .0, some-spelled-out g l (r .0) .1 (r .1), r .2),
     )
 
-pub spelled-out-least-type : (tokens : ℕ) → tokens ≤ most-tokens → (e : Expression) → Closed tokens 0 e
-    → type-of (least-types e) 0 ≡ type-of (least-types (spelled-out e)) 0
-spelled-out-least-type tokens within e closed =
-    let k = spelled-out e in
-    let closed' = spelled-out-closed tokens 0 e closed in
-    ⊑-antisym
-    (least-type-least tokens within e closed _ (some-spelled-out e [] _ .1 (least-type-some tokens within k closed')))
-    (least-type-least tokens within k closed' _ (some-spelled-out e [] _ .0 (least-type-some tokens within e closed)))
+module _ (tokens : ℕ) (within : tokens ≤ most-tokens) (e : Expression) (closed : Closed tokens 0 e) where
+  abbrev form-closed : Closed tokens 0 (spelled-out e)
+  form-closed = spelled-out-closed tokens 0 e closed
+
+  pub spelled-out-least-type : type-of (least-types e) 0 ≡ type-of (least-types (spelled-out e)) 0
+  spelled-out-least-type = ⊑-antisym
+      (least-type-least tokens within e closed _ (some-spelled-out e [] _ .1 (least-type-some tokens within (spelled-out e) form-closed)))
+      (least-type-least tokens within (spelled-out e) form-closed _ (some-spelled-out e [] _ .0 (least-type-some tokens within e closed)))
+
+  pub spelled-out-faultless : (type-fault e ≡ none) ↔ (type-fault (spelled-out e) ≡ none)
+  spelled-out-faultless = Iff·trans (typed-iff tokens within e closed)
+      (Iff·trans (spelled-out-has-type e) (Iff·symm (typed-iff tokens within (spelled-out e) form-closed)))

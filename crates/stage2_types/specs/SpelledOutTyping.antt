@@ -10,9 +10,18 @@ use Rattle.stage2_types.specs.TypeLaws.{separable-from-repetition, separ
 use Rattle.stage2_types.specs.SpelledOut.{raise-count, raise, repetition-form, spelled-out}
 use Rattle.stage2_types.specs.PutIn.{PutIn, in-front, further-in, put-in-map}
 
--- What has a type in one context has it in another, for an expression made of parts of which this holds.
+-- Every type that g has in Γ, k has in Δ. Each rule of Figure 2 keeps this.
 abbrev Carries : Context → Expression → Context → Expression → Type 0
 Carries Γ g Δ k = (a : LanguageType) → Γ ⊢ g ∶ a → Δ ⊢ k ∶ a
+
+carries-epsilon : {Γ Δ : Context} → Carries Γ epsilon Δ epsilon
+carries-epsilon a type-epsilon = type-epsilon
+
+carries-bottom : {Γ Δ : Context} → Carries Γ bottom Δ bottom
+carries-bottom a type-bottom = type-bottom
+
+carries-token : {Γ Δ : Context} {t : ℕ} → Carries Γ (token t) Δ (token t)
+carries-token a (type-token t) = type-token t
 
 carries-sequence : {Γ Δ : Context} {g h k l : Expression} → Carries Γ g Δ k → Carries (all-usable Γ) h (all-usable Δ) l
     → Carries Γ (sequence g h) Δ (sequence k l)
@@ -49,15 +58,6 @@ same-fixed-point x = (carries-fixed-point (λ a. x a .0), carries-fixed-point (�
 
 same-repetition : {Γ Δ : Context} {g k : Expression} → SameTypes Γ g Δ k → SameTypes Γ (repetition g) Δ (repetition k)
 same-repetition x = (carries-repetition (x .0), carries-repetition (x .1))
-
-carries-epsilon : {Γ Δ : Context} → Carries Γ epsilon Δ epsilon
-carries-epsilon a type-epsilon = type-epsilon
-
-carries-bottom : {Γ Δ : Context} → Carries Γ bottom Δ bottom
-carries-bottom a type-bottom = type-bottom
-
-carries-token : {Γ Δ : Context} {t : ℕ} → Carries Γ (token t) Δ (token t)
-carries-token a (type-token t) = type-token t
 
 -- One more hypothesis in the context changes nothing for a raised expression.
 usable-raised : {h : Hypothesis} {d n : ℕ} {Γ Δ : Context} {a : LanguageType} → PutIn h d Γ Δ → Usable Γ n a → Usable Δ (raise-count d n) a
