@@ -24,10 +24,10 @@ pub mod TypedAt
 pub mod TypedNodes
 pub mod Typing
 pub mod TypeFaultLaws
-pub mod SomeSolution
 pub mod PutIn
 pub mod SpelledOutDenotation
 pub mod SpelledOutTyping
+pub mod SomeSolution
 pub mod SpelledOutLeast
 pub mod SpelledOutExamples
 pub mod Examples

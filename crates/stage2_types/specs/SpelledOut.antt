@@ -1,5 +1,5 @@
--- The form that a repetition stands for, "μβ.(ε ∨ g·β)", and an expression with every repetition written as its form. No law of
--- the pipeline goes by these: they say what repetition means.
+-- The form that a repetition stands for, "μβ.(ε ∨ g·β)", and an expression with every repetition written as its form. Nothing is
+-- computed by these: they say what repetition means.
 use Prim.Native.Nat.{ℕ, zero, suc}
 use Rattle.stage1_sheet.specs.Expression.{Expression, epsilon, bottom, token, sequence, alternative, fixed-point, variable, repetition}
 

@@ -4,7 +4,7 @@ use mathlib.Core.Path.{_≡_, refl, sym, ap, ap₂, transport, _∙_}
 use mathlib.Core.List.{List, [], _∷_}
 use mathlib.Core.Option.{none}
 use mathlib.Core.Logic.{_↔_, Iff·rfl, Iff·symm, Iff·trans}
-use Prim.Native.Nat.{ℕ, zero, suc, _≤_, _<_}
+use Prim.Native.Nat.{ℕ, zero, suc, _≤_}
 use native.Mathlib.Omega.{arith}
 use lib.ListN.{getD}
 use Rattle.stage1_sheet.specs.Expression.{Expression, epsilon, bottom, token, sequence, alternative, fixed-point, variable, repetition}
@@ -65,7 +65,7 @@ raised-some (fixed-point g) s c = raised-some g (further-in s) c
 raised-some (variable n) s c = λ i. c ≡ raised-type s n i
 raised-some (repetition g) s c = λ i. (a : LanguageType) × raised-some g s a i × (c ≡ repetition-type a c)
 
--- The repetition's one equation, and the four of its form.
+-- The repetition's own equation, and those of its form.
 repetition-some : (g : Expression) (l : List LanguageType) (c : LanguageType)
     → SomeSolution (repetition g) l c ↔ SomeSolution (repetition-form g) l c
 unfolding repetition-type
@@ -100,6 +100,7 @@ some-spelled-out (repetition g) l c =
       λ s. let r = form .1 s in (r .0, some-spelled-out g l (r .0) .1 (r .1), r .2),
     )
 
+-- Of a closed expression, typed or not.
 module _ (tokens : ℕ) (within : tokens ≤ most-tokens) (e : Expression) (closed : Closed tokens 0 e) where
   abbrev form-closed : Closed tokens 0 (spelled-out e)
   form-closed = spelled-out-closed tokens 0 e closed

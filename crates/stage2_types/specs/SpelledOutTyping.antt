@@ -1,11 +1,11 @@
 -- A repetition has just the types that its form has, in every context, and so has an expression those of its spelled-out form.
 use mathlib.Core.Path.{_≡_, refl, sym, ap, subst, _∙_}
 use mathlib.Core.Bool.{false}
-use mathlib.Core.List.{List, [], _∷_}
+use mathlib.Core.List.{[], _∷_}
 use mathlib.Core.Logic.{_↔_}
 use Prim.Native.Nat.{ℕ, zero, suc}
 use Rattle.stage1_sheet.specs.Expression.{Expression, epsilon, bottom, token, sequence, alternative, fixed-point, variable, repetition}
-use Rattle.stage2_types.specs.Types.{LanguageType, epsilon-type, sequence-type, alternative-type, repetition-type, Separable, Apart, Hypothesis, usable-now, Context, all-usable, Usable, here, there, _⊢_∶_, type-epsilon, type-bottom, type-token, type-variable, type-sequence, type-alternative, type-fixed-point, type-repetition, HasType}
+use Rattle.stage2_types.specs.Types.{LanguageType, epsilon-type, sequence-type, alternative-type, repetition-type, Separable, Hypothesis, usable-now, Context, all-usable, Usable, here, there, _⊢_∶_, type-epsilon, type-bottom, type-token, type-variable, type-sequence, type-alternative, type-fixed-point, type-repetition, HasType}
 use Rattle.stage2_types.specs.TypeLaws.{separable-from-repetition, separable-from-itself, epsilon-apart}
 use Rattle.stage2_types.specs.SpelledOut.{raise-count, raise, repetition-form, spelled-out}
 use Rattle.stage2_types.specs.PutIn.{PutIn, in-front, further-in, put-in-map}
@@ -96,7 +96,7 @@ usable-typed here = refl
 variable-typed : {h : Hypothesis} {Γ : Context} {a : LanguageType} → (h ∷ Γ) ⊢ variable zero ∶ a → a ≡ h .type
 variable-typed (type-variable u) = usable-typed u
 
--- A derivation for the repetition, and one for its form. Both have the type of the part's derivation in them.
+-- From a derivation for the repetition one for its form, over the same types of the part and of the whole, and back.
 module _ (Γ : Context) (g : Expression) where
   abbrev form-body : Expression
   form-body = alternative epsilon (sequence (raise zero g) (variable zero))
