@@ -8,6 +8,7 @@ pub mod LeastTypes
 pub mod LeastSolution
 pub mod TypeFaults
 pub mod Questions
+pub mod SpelledOut
 pub mod Computing
 pub mod DenotationLaws
 pub mod Soundness
@@ -23,4 +24,10 @@ pub mod TypedAt
 pub mod TypedNodes
 pub mod Typing
 pub mod TypeFaultLaws
+pub mod PutIn
+pub mod SpelledOutDenotation
+pub mod SpelledOutTyping
+pub mod SomeSolution
+pub mod SpelledOutLeast
+pub mod SpelledOutExamples
 pub mod Examples
