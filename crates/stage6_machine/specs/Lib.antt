@@ -10,6 +10,7 @@ pub mod TurnLaws
 pub mod RunsLaws
 pub mod OwnAnswerLaws
 pub mod AcceptanceLaws
+pub mod SpelledOutAnswers
 pub mod TakingLaws
 pub mod RunAnswers
 pub mod FaithfulImage
