@@ -4,7 +4,7 @@ use mathlib.Core.Bool.{true, false}
 use mathlib.Core.List.{List, [], _∷_}
 use Prim.Native.Nat.{ℕ}
 use Rattle.stage0_laws.specs.Lists.{All, settle}
-use Rattle.stage1_sheet.specs.Expression.{Expression, epsilon, bottom, token, sequence, alternative, fixed-point, variable}
+use Rattle.stage1_sheet.specs.Expression.{Expression, epsilon, bottom, token, sequence, alternative, fixed-point, variable, repetition}
 use Rattle.stage2_types.specs.Nodes.{nodes-from, nodes}
 use Rattle.stage3_normal_form.specs.Productions.{Production, Row, ended-by, node-row, next-rows, rows-after, rows}
 use Rattle.stage3_normal_form.specs.Derives.{node-derives, next-derives, same-flags, derives}
@@ -57,8 +57,18 @@ examples =
           ∷ nullable-row [] ∷ row (goes 1 (7 ∷ []) ∷ []) ∷ row (goes 1 [] ∷ []) ∷ row (goes 0 (9 ∷ []) ∷ []) ∷ row (goes 0 [] ∷ [])
           ∷ nullable-row (goes 1 (7 ∷ []) ∷ []) ∷ [];
     }
+    -- N·(S·N)*: the repetition, node 2, comes at the end of its part's tails.
+    ∷ record {
+      expression = sequence N (repetition (sequence S N));
+      expected =
+          row (goes 0 (2 ∷ []) ∷ []) ∷ row (goes 0 [] ∷ []) ∷ nullable-row (goes 1 (5 ∷ 2 ∷ []) ∷ []) ∷ row (goes 1 (5 ∷ []) ∷ [])
+          ∷ row (goes 1 [] ∷ []) ∷ row (goes 0 [] ∷ []) ∷ [];
+    }
+    -- (N)* names itself, the start; (⊥)* has ε alone.
+    ∷ record { expression = repetition N; expected = nullable-row (goes 0 (0 ∷ []) ∷ []) ∷ row (goes 0 [] ∷ []) ∷ [] }
+    ∷ record { expression = repetition bottom; expected = nullable-row [] ∷ row [] ∷ [] }
     ∷ []
 
 pub examples-hold : All (λ (x : Example). normal-form (x .expression) ≡ x .expected) examples
 unfolding normal-form kept-row kept all-derive rows rows-after next-rows node-row ended-by derives settle next-derives node-derives same-flags nodes nodes-from
-examples-hold = (refl, (refl, (refl, (refl, tt))))
+examples-hold = (refl, (refl, (refl, (refl, (refl, (refl, (refl, tt)))))))

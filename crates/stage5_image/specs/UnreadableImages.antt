@@ -45,6 +45,9 @@ offences =
     ∷ offence (1 ∷ 1 ∷ 1 ∷ 1 ∷ 97 ∷ 97 ∷ 0 ∷ 1 ∷ 0 ∷ 1 ∷ 1 ∷ 0 ∷ 1 ∷ 0 ∷ 0 ∷ []) 13
     -- one that does not rise
     ∷ offence (start ++ (1 ∷ 0 ∷ 2 ∷ 0 ∷ 0 ∷ 0 ∷ 0 ∷ [])) 15
+    -- a tail length of 33; one of 32 is allowed, and its first member is missing
+    ∷ offence (start ++ (1 ∷ 0 ∷ 1 ∷ 0 ∷ 33 ∷ [])) 14
+    ∷ offence (start ++ (1 ∷ 0 ∷ 1 ∷ 0 ∷ 32 ∷ [])) 15
     -- a tail member not below the nonterminal count
     ∷ offence (start ++ (1 ∷ 0 ∷ 1 ∷ 0 ∷ 1 ∷ 1 ∷ [])) 15
     -- zero written as 80 00
@@ -71,4 +74,4 @@ unfolding offences computing-image
 offences-found =
     all-offend offences
     ((tt, refl) & (tt, refl) & (tt, refl) & (tt, refl) & (tt, refl) & (tt, refl) & (tt, refl) &
-    (tt, refl) & (tt, refl) & (tt, refl) & (tt, refl) & (tt, refl) & (tt, refl) & tt)
+    (tt, refl) & (tt, refl) & (tt, refl) & (tt, refl) & (tt, refl) & (tt, refl) & (tt, refl) & (tt, refl) & tt)
