@@ -3,7 +3,7 @@ use mathlib.Core.Path.{_≡_}
 use mathlib.Core.List.{List, [], _∷_, map, flatMap}
 use Prim.Native.Nat.{ℕ, _≤_}
 use lib.ListN.{length, take}
-use Rattle.stage1_sheet.specs.Items.{RegexItem, empty-item, class-item, concat-item, union-item, star-item, ExpressionItem, epsilon-item, bottom-item, token-item, sequence-item, alternative-item, fixed-point-item, variable-item}
+use Rattle.stage1_sheet.specs.Items.{RegexItem, empty-item, class-item, concat-item, union-item, star-item, ExpressionItem, epsilon-item, bottom-item, token-item, sequence-item, alternative-item, fixed-point-item, variable-item, repetition-item}
 use Rattle.stage1_sheet.specs.RegexItems.{regex-items-of, regex-tag}
 use Rattle.stage1_sheet.specs.ExpressionItems.{expression-items-of, expression-tag}
 use Rattle.stage1_sheet.specs.Expression.{Expression}
@@ -35,6 +35,7 @@ number-after sequence-item = 0
 number-after alternative-item = 0
 number-after fixed-point-item = 0
 number-after (variable-item n) = n
+number-after repetition-item = 0
 
 -- The columns hold these actions with their places, and these items over all rules.
 pub record RulesHold (c : RuleColumns) (actions places : List ℕ) (items : List RegexItem) : Type 0 where

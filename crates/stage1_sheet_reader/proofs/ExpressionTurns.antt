@@ -14,7 +14,7 @@ use Rattle.stage0_laws.specs.Order.{compare-cases, lt-or-le}
 use Rattle.stage1_sheet.specs.Limits.{most-expression-tag}
 use Rattle.stage1_sheet.specs.Field.{Reading, stop, got, and-then, between}
 use Rattle.stage1_sheet.specs.FieldLaws.{Outcome, refused, accepted, then-outcome, outcome-got, true-between}
-use Rattle.stage1_sheet.specs.Items.{ExpressionItem, epsilon-item, bottom-item, token-item, sequence-item, alternative-item, fixed-point-item, variable-item, part-depths}
+use Rattle.stage1_sheet.specs.Items.{ExpressionItem, epsilon-item, bottom-item, token-item, sequence-item, alternative-item, fixed-point-item, variable-item, repetition-item, part-depths}
 use Rattle.stage1_sheet.specs.Reading.{sheet-field, ReadNode, expression-item, expression-nodes}
 use Rattle.stage1_sheet.specs.ExpressionItems.{expression-tag}
 use Rattle.stage1_sheet_columns.specs.Holds.{number-after}
@@ -112,7 +112,8 @@ module _ (bytes : List ℕ) (tokens count opened at : ℕ) where
           go (suc (suc (suc (suc zero)))) s = record { item = alternative-item; read = node-tag ∙ rw s; same-tag = sym s; no-number = refl }
           go (suc (suc (suc (suc (suc zero))))) s = record { item = fixed-point-item; read = node-tag ∙ rw s; same-tag = sym s; no-number = refl }
           go (suc (suc (suc (suc (suc (suc zero)))))) s = absurd (n6 s)
-          go (suc (suc (suc (suc (suc (suc (suc t))))))) s = absurd (omega (arith, most))
+          go (suc (suc (suc (suc (suc (suc (suc zero))))))) s = record { item = repetition-item; read = node-tag ∙ rw s; same-tag = sym s; no-number = refl }
+          go (suc (suc (suc (suc (suc (suc (suc (suc t)))))))) s = absurd (omega (arith, most))
 
       -- A token's and a variable's number, with the code's range.
       module _ (c : NodeColumns) (p : Pending) where
@@ -169,7 +170,7 @@ module _ (bytes : List ℕ) where
   item-keeps : (tokens left opened at tag next : ℕ) → next ≤ length bytes
       → Outcome Any (ExpressionKept bytes (suc left)) (expression-item bytes tokens opened at tag next)
   unfolding expression-item
-  item-keeps tokens left opened at tag next h = go (eqb tag 0) (eqb tag 1) (eqb tag 2) (eqb tag 3) (eqb tag 4) (eqb tag 5) (eqb tag 6)
+  item-keeps tokens left opened at tag next h = go (eqb tag 0) (eqb tag 1) (eqb tag 2) (eqb tag 3) (eqb tag 4) (eqb tag 5) (eqb tag 6) (eqb tag 7)
     where
       numbered : (bound : ℕ) (make : ℕ → ExpressionItem)
           → Outcome Any (ExpressionKept bytes (suc left)) (and-then (sheet-field (λ k. ltb k bound) bytes next) (λ k end. got (make k) end))
@@ -180,19 +181,21 @@ module _ (bytes : List ℕ) where
       plain : (item : ExpressionItem) → Outcome Any (ExpressionKept bytes (suc left)) (got item next)
       plain item = accepted item next (record { node-allowed = omega arith; inside = h })
 
-      go : (a b d f g i j : Bool) → Outcome Any (ExpressionKept bytes (suc left))
+      go : (a b d f g i j k : Bool) → Outcome Any (ExpressionKept bytes (suc left))
           (cond a (got epsilon-item next) (cond b (got bottom-item next)
           (cond d (and-then (sheet-field (λ k. ltb k tokens) bytes next) (λ k end. got (token-item k) end))
           (cond f (got sequence-item next) (cond g (got alternative-item next) (cond i (got fixed-point-item next)
-          (cond j (and-then (sheet-field (λ n. ltb n opened) bytes next) (λ n end. got (variable-item n) end)) (stop 4 at))))))))
-      go true b d f g i j = plain epsilon-item
-      go false true d f g i j = plain bottom-item
-      go false false true f g i j = numbered tokens token-item
-      go false false false true g i j = plain sequence-item
-      go false false false false true i j = plain alternative-item
-      go false false false false false true j = plain fixed-point-item
-      go false false false false false false true = numbered opened variable-item
-      go false false false false false false false = refused 4 at tt
+          (cond j (and-then (sheet-field (λ n. ltb n opened) bytes next) (λ n end. got (variable-item n) end))
+          (cond k (got repetition-item next) (stop 4 at)))))))))
+      go true b d f g i j k = plain epsilon-item
+      go false true d f g i j k = plain bottom-item
+      go false false true f g i j k = numbered tokens token-item
+      go false false false true g i j k = plain sequence-item
+      go false false false false true i j k = plain alternative-item
+      go false false false false false true j k = plain fixed-point-item
+      go false false false false false false true k = numbered opened variable-item
+      go false false false false false false false true = plain repetition-item
+      go false false false false false false false false = refused 4 at tt
 
   turn-keeps : (tokens left opened at : ℕ) → Outcome Any (ExpressionKept bytes left) (expression-turn bytes tokens left opened at)
   unfolding expression-turn
@@ -244,6 +247,7 @@ module _ (p : Pending) (some : 0 < p .count) where
     due-parts alternative-item = two-more
     due-parts fixed-point-item = one-more
     due-parts (variable-item n) = refl
+    due-parts repetition-item = due-first
 
 -- ---- that they fit
 
@@ -280,6 +284,10 @@ module _ (c : NodeColumns) (p : Pending) (tag number at : ℕ) (some : 0 < p .co
     entries = length-set (p .opened) (p .count - 1) (next-opened p + 1) ∙ f .entries;
   }
 
+  -- As many are due, each as deep as before.
+  as-deep : PendingFit (with-node c tag number at) p
+  as-deep = record { nodes = omega arith; due = omega (arith, f .due); opened = λ i. omega (arith, f .opened i); entries = f .entries }
+
   fit-parts : (item : ExpressionItem) → PendingFit (with-node c tag number at) (with-parts p (expression-tag item))
   unfolding with-parts expression-tag
   fit-parts epsilon-item = fewer
@@ -289,6 +297,7 @@ module _ (c : NodeColumns) (p : Pending) (tag number at : ℕ) (some : 0 < p .co
   fit-parts alternative-item = one-added
   fit-parts fixed-point-item = deeper
   fit-parts (variable-item n) = fewer
+  fit-parts repetition-item = as-deep
 
 -- What the parts of a node ask of the expressions due.
 pub parts-room : (c : NodeColumns) (p : Pending) → c .count < 64 → 0 < p .count → PendingFit c p

@@ -112,10 +112,12 @@ due-of p = due-from (p .count) (p .opened)
 abbrev pub next-opened : Pending → ℕ
 next-opened p = getD (p .opened) (p .count - 1) 0
 
--- The parts of a node with this tag take the place of the next one: one part inside one more fixed point, none, or two.
+-- The parts of a node with this tag take the place of the next one: one part inside one more fixed point, one inside as many, none,
+-- or two.
 unfoldable pub with-parts : Pending → ℕ → Pending
 with-parts p t =
     cond (eqb t 5) (record { count = p .count; opened = set (p .opened) (p .count - 1) (next-opened p + 1) })
+    (cond (eqb t 7) p
     (cond (ltb t 3) (record { count = p .count - 1; opened = p .opened })
     (cond (eqb t 6) (record { count = p .count - 1; opened = p .opened })
-    (record { count = p .count + 1; opened = set (p .opened) (p .count) (next-opened p) })))
+    (record { count = p .count + 1; opened = set (p .opened) (p .count) (next-opened p) }))))

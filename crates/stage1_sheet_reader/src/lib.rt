@@ -31,7 +31,7 @@ const MOST_NODES: usize = 64;
 // How many tags a regex and an expression have: from 0 on, all below it are allowed.
 const REGEX_TAGS: u64 = 5;
 
-const EXPRESSION_TAGS: u64 = 7;
+const EXPRESSION_TAGS: u64 = 8;
 
 // Whether all was read, or the question that fails and its place.
 pub enum Outcome {
@@ -180,6 +180,10 @@ fn with_parts(pending: Pending, tag: u8) -> Pending
     let opened = out.opened[last];
     if tag == 5 {
         out.opened[last] = opened + 1;
+        return out;
+    }
+    if tag == 7 {
+        // A repetition is no fixed point: its part is due where it was itself.
         return out;
     }
     if tag < 3 {

@@ -19,15 +19,24 @@ element-write-out c = search needs
 
 returns : tie.Need-returns
 unfolding with-parts
-returns c = simp (eq-eqb _ _ (c .if1 .taken))
+returns c = let t = c .before .before .args .tag in simp (eq-eqb t 5 (c .if1 .taken))
 
 returns-2 : tie.Need-returns-2
 unfolding with-parts
-returns-2 c = simp (ne-eqb _ _ (c .before .if1 .left), lt-ltb _ _ (c .if2 .taken))
+returns-2 c = let t = c .before .before .before .args .tag in simp (ne-eqb t 5 (c .before .if1 .left), eq-eqb t 7 (c .if2 .taken))
 
 returns-3 : tie.Need-returns-3
 unfolding with-parts
-returns-3 c = simp (ne-eqb _ _ (c .before .before .if1 .left), le-ltb _ _ (c .before .if2 .left), eq-eqb _ _ (c .if3 .taken))
+returns-3 c =
+    let t = c .before .before .before .before .args .tag in
+    simp (ne-eqb t 5 (c .before .before .if1 .left), ne-eqb t 7 (c .before .if2 .left), lt-ltb t 3 (c .if3 .taken))
+
+returns-4 : tie.Need-returns-4
+unfolding with-parts
+returns-4 c =
+    let one = c .before .before in
+    let t = one .before .before .before .args .tag in
+    simp (ne-eqb t 5 (one .before .if1 .left), ne-eqb t 7 (one .if2 .left), le-ltb t 3 (c .before .if3 .left), eq-eqb t 6 (c .if4 .taken))
 
 element-write-out-2 : tie.Need-element-write-out-2
 element-write-out-2 c = search needs
@@ -35,9 +44,12 @@ element-write-out-2 c = search needs
 add-out-2 : tie.Need-add-out-2
 add-out-2 c = search needs
 
-returns-4 : tie.Need-returns-4
+returns-5 : tie.Need-returns-5
 unfolding with-parts
-returns-4 c = simp (ne-eqb _ _ (c .before .before .if1 .left), le-ltb _ _ (c .before .if2 .left), ne-eqb _ _ (c .if3 .left))
+returns-5 c =
+    let one = c .before .before in
+    let t = one .before .before .before .args .tag in
+    simp (ne-eqb t 5 (one .before .if1 .left), ne-eqb t 7 (one .if2 .left), le-ltb t 3 (c .before .if3 .left), ne-eqb t 6 (c .if4 .left))
 
 pub with-parts-spec : {M : Type 1} → statement M
 with-parts-spec =
@@ -50,6 +62,7 @@ with-parts-spec =
     returns
     returns-2
     returns-3
+    returns-4
     element-write-out-2
     add-out-2
-    returns-4)
+    returns-5)
