@@ -6,7 +6,7 @@ use lib.Dec.{eqb}
 use lib.ListN.{getD}
 use Rattle.stage0_laws.specs.Bits.{bit}
 use Rattle.stage2_types.specs.Types.{LanguageType}
-use Rattle.stage2_types.specs.Nodes.{Node, epsilon-node, bottom-node, token-node, sequence-node, alternative-node, fixed-point-node, variable-node}
+use Rattle.stage2_types.specs.Nodes.{Node, epsilon-node, bottom-node, token-node, sequence-node, alternative-node, fixed-point-node, variable-node, repetition-node}
 use Rattle.stage2_types_columns.specs.Tabulate.{tabulate}
 use Rattle.stage2_types_columns.specs.declared.NodeLinks.{NodeLinks}
 use Rattle.stage2_types_columns.specs.declared.TypeColumns.{TypeColumns}
@@ -21,7 +21,8 @@ node-of tag link guarded i =
     (cond (eqb tag 3) (sequence-node (suc i) link)
     (cond (eqb tag 4) (alternative-node (suc i) link)
     (cond (eqb tag 5) (fixed-point-node (suc i))
-    (cond (eqb tag 6) (variable-node link guarded) bottom-node))))))
+    (cond (eqb tag 6) (variable-node link guarded)
+    (cond (eqb tag 7) (repetition-node (suc i) link) bottom-node)))))))
 
 -- Node i of columns of tags and links, and a set.
 unfoldable pub held-node : List ℕ → List ℕ → ℕ → ℕ → Node

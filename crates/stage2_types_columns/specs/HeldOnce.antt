@@ -7,7 +7,7 @@ use native.Mathlib.Omega.{arith}
 use lib.Dec.{eqb}
 use lib.ListN.{length}
 use Rattle.stage1_sheet.specs.Expression.{Expression}
-use Rattle.stage1_sheet.specs.Items.{ExpressionItem, epsilon-item, bottom-item, token-item, sequence-item, alternative-item, fixed-point-item, variable-item, expressions}
+use Rattle.stage1_sheet.specs.Items.{ExpressionItem, epsilon-item, bottom-item, token-item, sequence-item, alternative-item, fixed-point-item, variable-item, repetition-item, expressions}
 use Rattle.stage1_sheet.specs.ExpressionItems.{expression-items-of, expression-tag, expressions-items}
 use Rattle.stage1_sheet_columns.specs.Holds.{number-after, NodesOf}
 use Rattle.stage1_sheet_columns.specs.declared.NodeColumns.{NodeColumns}
@@ -21,7 +21,8 @@ item-of tag number =
     (cond (eqb tag 3) sequence-item
     (cond (eqb tag 4) alternative-item
     (cond (eqb tag 5) fixed-point-item
-    (cond (eqb tag 6) (variable-item number) bottom-item))))))
+    (cond (eqb tag 6) (variable-item number)
+    (cond (eqb tag 7) repetition-item bottom-item)))))))
 
 item-back : (i : ExpressionItem) → item-of (expression-tag i) (number-after i) ≡ i
 unfolding item-of expression-tag number-after
@@ -32,6 +33,7 @@ item-back sequence-item = refl
 item-back alternative-item = refl
 item-back fixed-point-item = refl
 item-back (variable-item n) = refl
+item-back repetition-item = refl
 
 items-same : (k l : List ExpressionItem) → map expression-tag k ≡ map expression-tag l → map number-after k ≡ map number-after l → k ≡ l
 items-same [] [] e f = refl

@@ -1,8 +1,9 @@
 // The columns in which code holds an expression's nodes with their links, and the types of all nodes: one entry a node, in
 // sheet order, by value. This crate has no functions.
 
-// A node's tag, as in a sheet, and its link: a token's number, the right part of a sequence or of an alternative, or a
-// variable's own fixed point. The left part, and a fixed point's body, is the next node. A variable is in the set if it is guarded.
+// A node's tag, as in a sheet, and its link: a token's number, the right part of a sequence or of an alternative, a variable's
+// own fixed point, or a repetition itself. The left part, a fixed point's body and a repetition's part is the next node. A
+// variable is in the set if it is guarded.
 pub struct NodeLinks {
     pub count: usize,
     pub tag: [u8; 64],

@@ -35,14 +35,24 @@ module _ (tag number i : ℕ) (w v r : Walk) (v-is : v ≡ taken w (w .height - 
   unfolding walk-step step-at
   turn-variable e f = f ∙ ap (λ (x : Walk). with-variable x i (depth - 1 - number) guarded) v-is ∙ rw e
 
-  pub turn-leaf : (tag ≡ 2 → ⊥) → (tag ≡ 3 → ⊥) → (tag ≡ 4 → ⊥) → (tag ≡ 5 → ⊥) → (tag ≡ 6 → ⊥) → v ≡ walk-step tag number i w
+  pub turn-repetition : (o : Walk) → tag ≡ 7 → o ≡ with-link v i i → r ≡ with-due o (due depth guarded 64) → r ≡ walk-step tag number i w
   unfolding walk-step step-at
-  turn-leaf a b c d e = v-is ∙ rw (ne-eqb tag 2 a, ne-eqb tag 3 b, ne-eqb tag 4 c, ne-eqb tag 5 d, ne-eqb tag 6 e)
+  turn-repetition o e f g =
+      g ∙ ap (λ (x : Walk). with-due x (due depth guarded 64)) (f ∙ ap (λ (x : Walk). with-link x i i) v-is) ∙ rw e
+
+  pub turn-leaf : (tag ≡ 2 → ⊥) → (tag ≡ 3 → ⊥) → (tag ≡ 4 → ⊥) → (tag ≡ 5 → ⊥) → (tag ≡ 6 → ⊥) → (tag ≡ 7 → ⊥)
+      → v ≡ walk-step tag number i w
+  unfolding walk-step step-at
+  turn-leaf a b c d e f = v-is ∙ rw (ne-eqb tag 2 a, ne-eqb tag 3 b, ne-eqb tag 4 c, ne-eqb tag 5 d, ne-eqb tag 6 e, ne-eqb tag 7 f)
 
 -- The room that is left on the stack.
 pub taken-height : (w v : Walk) (top parent i : ℕ) → v ≡ taken w top parent i → v .height ≡ top
 unfolding taken
 taken-height w v top parent i e = ap (λ (x : Walk). x .height) e
+
+pub link-height : (w v : Walk) (i to : ℕ) → v ≡ with-link w i to → v .height ≡ w .height
+unfolding with-link
+link-height w v i to e = ap (λ (x : Walk). x .height) e
 
 pub owner-height : (w v : Walk) (depth i : ℕ) → v ≡ with-owner w depth i → v .height ≡ w .height
 unfolding with-owner

@@ -11,11 +11,11 @@ use lib.Dec.{ltb}
 use lib.ListN.{getD, set, length-set}
 use lib.Seq.{getD-set-same}
 use borrow.Author.Tests.{lt-ltb, le-ltb}
-use Rattle.stage1_sheet.specs.Expression.{Expression, epsilon, bottom, token, sequence, alternative, fixed-point, variable, size}
-use Rattle.stage1_sheet.specs.Items.{ExpressionItem, epsilon-item, bottom-item, token-item, sequence-item, alternative-item, fixed-point-item, variable-item}
+use Rattle.stage1_sheet.specs.Expression.{Expression, epsilon, bottom, token, sequence, alternative, fixed-point, variable, repetition, size}
+use Rattle.stage1_sheet.specs.Items.{ExpressionItem, epsilon-item, bottom-item, token-item, sequence-item, alternative-item, fixed-point-item, variable-item, repetition-item}
 use Rattle.stage1_sheet.specs.ExpressionItems.{expression-items-of}
 use Rattle.stage1_sheet.specs.WellFormed.{Closed}
-use Rattle.stage2_types.specs.Nodes.{Node, epsilon-node, bottom-node, token-node, sequence-node, alternative-node, fixed-point-node, Binder, no-binder, variable-of, guard, nodes-from}
+use Rattle.stage2_types.specs.Nodes.{Node, epsilon-node, bottom-node, token-node, sequence-node, alternative-node, fixed-point-node, repetition-node, Binder, no-binder, variable-of, guard, nodes-from}
 use Rattle.stage2_types_columns.specs.Joining.{joined, joined-here, joined-below, joined-low}
 use Rattle.stage2_types_columns.specs.Held.{node-of}
 use Rattle.stage2_types_linker.specs.declared.Due.{Due}
@@ -162,3 +162,22 @@ module _ (tokens : ℕ) (tag : List ℕ) (items : List ExpressionItem) (ns : Lis
       (rw (t, joined-here b guarded i (before .guarded-low), binders-at owner (d .depth) (d .guarded) n (before .fit .0 .closed)))
       (joined-low b guarded i (before .guarded-low))
       (length-set here-linked i v ∙ linked-long link (d .parent) i ∙ before .link-long)
+
+  -- The part, with the same fixed points open, as many of them guarded.
+  pub walked-repetition : (g : Expression) → Before (repetition g) → getD tag i 0 ≡ 7
+      → After (set here-linked i i) guarded owner (due (d .depth) (d .guarded) 64 ∷ ds) (g ∷ gs)
+  unfolding expression-items-of nodes-from size node-of linked
+  walked-repetition g before t = relinked tokens tag items ns i link guarded owner d ds (repetition g) gs before small repetition-item
+      (repetition-node (suc i) i) i guarded (set here-linked i i) (due (d .depth) (d .guarded) 64 ∷ ds) (g ∷ gs)
+      refl
+      (ap (λ (n : ℕ). (repetition-node (suc i) i ∷ nodes-from g (suc i) (binders owner (d .depth) (d .guarded))) ++ nodes-due owner n gs ds) (omega arith)) (
+        record {
+          closed = before .fit .0 .closed;
+          guarded-open = before .fit .0 .guarded-open;
+          within = omega (arith, before .fit .0 .within);
+          parent-past = inr (omega arith);
+        },
+        rest-fit (repetition g) before,
+      )
+      (ap (λ (n : ℕ). completed (set here-linked i i) n gs ds) (omega arith)) (λ q l. refl) (rw t) (stays-low before)
+      (length-set here-linked i i ∙ linked-long link (d .parent) i ∙ before .link-long)

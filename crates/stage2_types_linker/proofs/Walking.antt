@@ -4,8 +4,8 @@ use mathlib.Core.List.{List, [], _∷_, _++_}
 use Prim.Native.Nat.{ℕ, zero, suc, _-_, _≤_, _<_}
 use native.Mathlib.Omega.{arith}
 use lib.ListN.{getD, set, drop, length, length-set, length-append, length-drop}
-use Rattle.stage1_sheet.specs.Expression.{Expression, epsilon, bottom, token, sequence, alternative, fixed-point, variable}
-use Rattle.stage1_sheet.specs.Items.{ExpressionItem, epsilon-item, bottom-item, token-item, sequence-item, alternative-item, fixed-point-item, variable-item}
+use Rattle.stage1_sheet.specs.Expression.{Expression, epsilon, bottom, token, sequence, alternative, fixed-point, variable, repetition}
+use Rattle.stage1_sheet.specs.Items.{ExpressionItem, epsilon-item, bottom-item, token-item, sequence-item, alternative-item, fixed-point-item, variable-item, repetition-item}
 use Rattle.stage1_sheet.specs.ExpressionItems.{expression-items-of, expression-tag}
 use Rattle.stage1_sheet_columns.specs.Holds.{number-after}
 use Rattle.stage2_types.specs.Nodes.{Node}
@@ -14,7 +14,7 @@ use Rattle.stage2_types_linker.specs.declared.Walk.{Walk}
 use Rattle.stage2_types_linker.specs.Walking.{due, due-at, next-due, linked, taken, with-due, with-link, with-owner, with-variable, with-parts, step-at, walk-step, CanStep}
 use Rattle.stage2_types_linker.proofs.Parts.{pending, pending-push, items-due, DuesFit}
 use Rattle.stage2_types_linker.proofs.Walked.{Walked, drop-head}
-use Rattle.stage2_types_linker.proofs.Turns.{walked-epsilon, walked-bottom, walked-token, walked-sequence, walked-alternative, walked-fixed-point, walked-variable}
+use Rattle.stage2_types_linker.proofs.Turns.{walked-epsilon, walked-bottom, walked-token, walked-sequence, walked-alternative, walked-fixed-point, walked-variable, walked-repetition}
 
 -- ---- an expression's own item
 
@@ -26,6 +26,7 @@ own-item (sequence g h) = sequence-item
 own-item (alternative g h) = alternative-item
 own-item (fixed-point g) = fixed-point-item
 own-item (variable n) = variable-item n
+own-item (repetition g) = repetition-item
 
 -- It is the first of the items, before those of the parts.
 abbrev part-items : Expression → List ExpressionItem
@@ -36,6 +37,7 @@ part-items (sequence g h) = expression-items-of g ++ expression-items-of h
 part-items (alternative g h) = expression-items-of g ++ expression-items-of h
 part-items (fixed-point g) = expression-items-of g
 part-items (variable n) = []
+part-items (repetition g) = expression-items-of g
 
 own-first : (g : Expression) → expression-items-of g ≡ own-item g ∷ part-items g
 unfolding expression-items-of
@@ -46,6 +48,7 @@ own-first (sequence g h) = refl
 own-first (alternative g h) = refl
 own-first (fixed-point g) = refl
 own-first (variable n) = refl
+own-first (repetition g) = refl
 
 due-items : (gs : List Expression) (ds : List Due) (tokens i most : ℕ) → DuesFit tokens i most gs ds → length ds ≤ length (items-due gs)
 due-items [] [] tokens i most h = omega arith
@@ -125,6 +128,18 @@ module _ (tokens : ℕ) (tag : List ℕ) (items : List ExpressionItem) (ns : Lis
             height-small = omega arith;
           }
 
+      -- A node with one part, for which x is due.
+      one-turned : (link owner : List ℕ) (x : Due) (a : Expression)
+          → Walked tokens tag items ns (suc i) link (w .guarded) owner (x ∷ pending (w .stack) k) (a ∷ gs)
+          → Walking (suc i) (record { link = link; guarded = w .guarded; owner = owner; stack = set (w .stack) k x; height = suc k })
+      one-turned link owner x a h = record {
+        parts = a ∷ gs;
+        walked = subst (λ (l : List Due). Walked tokens tag items ns (suc i) link (w .guarded) owner l (a ∷ gs))
+            (sym (pending-push (w .stack) k x (omega arith))) h;
+        stack-long = length-set (w .stack) k x ∙ long;
+        height-small = omega arith;
+      }
+
       turned : (g : Expression) → At (g ∷ gs)
           → getD tag i 0 ≡ expression-tag (own-item g) → Walking (suc i) (step-at k (expression-tag (own-item g)) (number-after (own-item g)) i w)
       unfolding step-at taken with-link with-due with-owner with-variable with-parts expression-tag number-after
@@ -150,20 +165,16 @@ module _ (tokens : ℕ) (tag : List ℕ) (items : List ExpressionItem) (ns : Lis
           (walked-sequence tokens tag items ns i (w .link) (w .guarded) (w .owner) top (pending (w .stack) k) gs small a b h t)
       turned (alternative a b) h t = two-turned (top .guarded) a b
           (walked-alternative tokens tag items ns i (w .link) (w .guarded) (w .owner) top (pending (w .stack) k) gs small a b h t)
-      turned (fixed-point a) h t = record {
-        parts = a ∷ gs;
-        walked = subst (λ (l : List Due). Walked tokens tag items ns (suc i) linked-here (w .guarded) (set (w .owner) (top .depth) i) l (a ∷ gs))
-            (sym (pending-push (w .stack) k (due (suc (top .depth)) (top .guarded) 64) (omega arith)))
-            (walked-fixed-point tokens tag items ns i (w .link) (w .guarded) (w .owner) top (pending (w .stack) k) gs small a h t);
-        stack-long = length-set (w .stack) k (due (suc (top .depth)) (top .guarded) 64) ∙ long;
-        height-small = omega arith;
-      }
+      turned (fixed-point a) h t = one-turned linked-here (set (w .owner) (top .depth) i) (due (suc (top .depth)) (top .guarded) 64) a
+          (walked-fixed-point tokens tag items ns i (w .link) (w .guarded) (w .owner) top (pending (w .stack) k) gs small a h t)
       turned (variable n) h t = record {
         parts = gs;
         walked = walked-variable tokens tag items ns i (w .link) (w .guarded) (w .owner) top (pending (w .stack) k) gs small n h t;
         stack-long = long;
         height-small = omega arith;
       }
+      turned (repetition a) h t = one-turned (set linked-here i i) (w .owner) (due (top .depth) (top .guarded) 64) a
+          (walked-repetition tokens tag items ns i (w .link) (w .guarded) (w .owner) top (pending (w .stack) k) gs small a h t)
 
       variable-bound : (g : Expression) → At (g ∷ gs)
           → expression-tag (own-item g) ≡ 6 → number-after (own-item g) < top .depth
@@ -175,6 +186,7 @@ module _ (tokens : ℕ) (tag : List ℕ) (items : List ExpressionItem) (ns : Lis
       variable-bound (alternative a b) h e = absurd (omega arith)
       variable-bound (fixed-point a) h e = absurd (omega arith)
       variable-bound (variable n) h e = h .fit .0 .closed
+      variable-bound (repetition a) h e = absurd (omega arith)
 
   -- ---- the turn, as the code makes it
 

@@ -80,7 +80,8 @@ step-at top tag number i w =
     (cond (eqb tag 3) (with-parts v i (d .depth) (d .guarded) (d .depth))
     (cond (eqb tag 4) (with-parts v i (d .depth) (d .guarded) (d .guarded))
     (cond (eqb tag 5) (with-due (with-owner v (d .depth) i) (due (suc (d .depth)) (d .guarded) 64))
-    (cond (eqb tag 6) (with-variable v i (d .depth - 1 - number) (d .guarded)) v))))
+    (cond (eqb tag 6) (with-variable v i (d .depth - 1 - number) (d .guarded))
+    (cond (eqb tag 7) (with-due (with-link v i i) (due (d .depth) (d .guarded) 64)) v)))))
 
 unfoldable pub walk-step : ℕ → ℕ → ℕ → Walk → Walk
 walk-step tag number i w = step-at (w .height - 1) tag number i w

@@ -142,6 +142,11 @@ fn walk_step(tag: u8, number: u8, i: usize, w: Walk) -> Walk
     if tag == 6 {
         return with_variable(v, i, depth - 1 - number, guarded);
     }
+    if tag == 7 {
+        // No fixed point opens, and none is guarded by it.
+        let own = with_link(v, i, node);
+        return with_due(own, depth, guarded, 64);
+    }
     v
 }
 

@@ -1,8 +1,8 @@
 -- `stage2_types_linker::walk_step` meets its contract: a law for each tag.
 use native.Mathlib.Omega.{arith}
 use borrow.Author.Needs.{needs}
-use Rattle.stage2_types_linker.proofs.Turn.{turn-token, turn-sequence, turn-alternative, turn-fixed-point, turn-variable, turn-leaf}
-use Rattle.stage2_types_linker.proofs.Turn.{taken-height, owner-height}
+use Rattle.stage2_types_linker.proofs.Turn.{turn-token, turn-sequence, turn-alternative, turn-fixed-point, turn-variable, turn-repetition, turn-leaf}
+use Rattle.stage2_types_linker.proofs.Turn.{taken-height, link-height, owner-height}
 use Rattle.stage2_types_linker.proofs.walk_step.Statement.{statement}
 use Rattle.stage2_types_linker.proofs.walk_step.Tie as tie
 
@@ -76,12 +76,29 @@ returns-5 c =
     turn-variable (z .args .tag) (z .args .number) (z .args .i) (z .args .t4) _ _ (c .before .before .before .before .before .before .taken .ensures)
     (c .before .if5 .taken) (c .with-variable .ensures)
 
+with-link-requires-2 : tie.Need-with-link-requires-2
+with-link-requires-2 c κs = search needs
+
+with-due-requires-2 : tie.Need-with-due-requires-2
+with-due-requires-2 c κs =
+    let v = c .before .before .before .before .before .before .before .taken in
+    omega (arith, link-height _ _ _ _ (c .with-link2 .ensures), taken-height _ _ _ _ _ (v .ensures))
+
 returns-6 : tie.Need-returns-6
 returns-6 c =
-    let z = c .before .before .before .before .before .before .before in
-    let v = c .before .before .before .before .before .taken in
-    turn-leaf (z .args .tag) (z .args .number) (z .args .i) (z .args .t4) _ (v .result) (v .ensures) (c .before .before .before .before .if1 .left)
-    (c .before .before .before .if2 .left) (c .before .before .if3 .left) (c .before .if4 .left) (c .if5 .left)
+    let called = c .before .before .before .before .before .before .before .before in
+    let z = called .before .before in
+    turn-repetition (z .args .tag) (z .args .number) (z .args .i) (z .args .t4) _ _ (called .taken .ensures) _
+    (c .before .before .if6 .taken) (c .before .with-link2 .ensures) (c .with-due2 .ensures)
+
+returns-7 : tie.Need-returns-7
+returns-7 c =
+    let called = c .before .before .before .before .before .before in
+    let z = called .before .before in
+    let v = called .taken in
+    turn-leaf (z .args .tag) (z .args .number) (z .args .i) (z .args .t4) _ (v .result) (v .ensures)
+    (c .before .before .before .before .before .if1 .left) (c .before .before .before .before .if2 .left)
+    (c .before .before .before .if3 .left) (c .before .before .if4 .left) (c .before .if5 .left) (c .if6 .left)
 
 pub walk-step-spec : {M : Type 1} → statement M
 walk-step-spec =
@@ -106,4 +123,7 @@ walk-step-spec =
     sub-with-variable-2
     with-variable-requires
     returns-5
-    returns-6)
+    with-link-requires-2
+    with-due-requires-2
+    returns-6
+    returns-7)
