@@ -7,7 +7,7 @@ use native.Mathlib.Numerals.{add-one}
 use native.Mathlib.Omega.{arith}
 use lib.Pow.{shl-exact}
 use borrow.Author.Tests.{ne-eqb}
-use Rattle.stage2_types.specs.Types.{LanguageType, epsilon-type, bottom-type, token-type, sequence-type, alternative-type}
+use Rattle.stage2_types.specs.Types.{LanguageType, epsilon-type, bottom-type, token-type, sequence-type, alternative-type, repetition-type}
 use Rattle.stage2_types_columns.specs.Held.{node-of}
 use Rattle.stage1_sheet.specs.Limits.{most-tokens}
 use Rattle.stage2_types.specs.NodeRanges.{NodeInRange}
@@ -24,10 +24,11 @@ module _ (tag link i : ℕ) (guarded : Bool) where
     unfolding node-of
     token-small e = let h : link < 24 = rw e at within in omega arith
 
-    pub parts-small : (tag ≡ 3) ⊎ (tag ≡ 4) → (i + 1 < 64) × (link < 64)
+    pub parts-small : (tag ≡ 3) ⊎ ((tag ≡ 4) ⊎ (tag ≡ 7)) → (i + 1 < 64) × (link < 64)
     unfolding node-of
     parts-small (inl e) = let h : (suc i < 64) × (link < 64) = rw e at within in (omega arith, h .1)
-    parts-small (inr e) = let h : (suc i < 64) × (link < 64) = rw e at within in (omega arith, h .1)
+    parts-small (inr (inl e)) = let h : (suc i < 64) × (link < 64) = rw e at within in (omega arith, h .1)
+    parts-small (inr (inr e)) = let h : (suc i < 64) × (link < 64) = rw e at within in (omega arith, h .1)
 
     pub body-small : tag ≡ 5 → i + 1 < 64
     unfolding node-of
@@ -71,9 +72,14 @@ module _ (tag link i : ℕ) (guarded : Bool) where
     unfolding type-by node-of
     type-variable e h = rw e h
 
+    pub type-again : {a b : LanguageType} → tag ≡ 7 → a ≡ f (i + 1) → b ≡ f link → t ≡ repetition-type a b
+        → t ≡ type-by f (node-of tag link guarded i)
+    unfolding type-by node-of
+    type-again e p q h = rw e (h ∙ ap₂ repetition-type (p ∙ ap f (add-one i)) q)
+
     -- A number that is no tag has the type of ⊥.
     pub type-other : (tag ≡ 0 → ⊥) → (tag ≡ 1 → ⊥) → (tag ≡ 2 → ⊥) → (tag ≡ 3 → ⊥) → (tag ≡ 4 → ⊥) → (tag ≡ 5 → ⊥) → (tag ≡ 6 → ⊥)
-        → t ≡ record { null = false; first = 0; flast = 0 } → t ≡ type-by f (node-of tag link guarded i)
+        → (tag ≡ 7 → ⊥) → t ≡ record { null = false; first = 0; flast = 0 } → t ≡ type-by f (node-of tag link guarded i)
     unfolding type-by node-of bottom-type
-    type-other p q r s u v w h =
-        rw (ne-eqb tag 0 p, ne-eqb tag 1 q, ne-eqb tag 2 r, ne-eqb tag 3 s, ne-eqb tag 4 u, ne-eqb tag 5 v, ne-eqb tag 6 w) h
+    type-other p q r s u v w x h =
+        rw (ne-eqb tag 0 p, ne-eqb tag 1 q, ne-eqb tag 2 r, ne-eqb tag 3 s, ne-eqb tag 4 u, ne-eqb tag 5 v, ne-eqb tag 6 w, ne-eqb tag 7 x) h

@@ -48,10 +48,10 @@ module _ (a b : LanguageType) where
 -- ---- the question
 
 module _ (f : ℕ → LanguageType) (tag link i : ℕ) (guarded : Bool) where
-  -- A sequence, an alternative and a variable are asked something, and nothing else is.
-  pub asked-nothing : (tag ≡ 3 → ⊥) → (tag ≡ 4 → ⊥) → (tag ≡ 6 → ⊥) → asked 0 i ≡ fault-by f (node-of tag link guarded i) i
+  -- A sequence, an alternative, a variable and a repetition are asked something, and nothing else is.
+  pub asked-nothing : (tag ≡ 3 → ⊥) → (tag ≡ 4 → ⊥) → (tag ≡ 6 → ⊥) → (tag ≡ 7 → ⊥) → asked 0 i ≡ fault-by f (node-of tag link guarded i) i
   unfolding asked fault-by node-of
-  asked-nothing a b c = rw (ne-eqb tag 3 a, ne-eqb tag 4 b, ne-eqb tag 6 c) (go (eqb tag 0) (eqb tag 1) (eqb tag 2) (eqb tag 5))
+  asked-nothing a b c d = rw (ne-eqb tag 3 a, ne-eqb tag 4 b, ne-eqb tag 6 c, ne-eqb tag 7 d) (go (eqb tag 0) (eqb tag 1) (eqb tag 2) (eqb tag 5))
     where
       go : (p q r s : Bool) → asked 0 i
           ≡ fault-by f (cond p epsilon-node (cond q bottom-node (cond r (token-node link) (cond s (fixed-point-node (suc i)) bottom-node)))) i
@@ -68,6 +68,15 @@ module _ (f : ℕ → LanguageType) (tag link i : ℕ) (guarded : Bool) where
   pub variable-fails : tag ≡ 6 → guarded ≡ false → asked 8 i ≡ fault-by f (node-of tag link guarded i) i
   unfolding asked fault-by unless node-of
   variable-fails e g = rw (e, g)
+
+  module _ {a : LanguageType} (part : a ≡ f (i + 1)) {r : Bool} where
+    pub repetition-passes : tag ≡ 7 → r ≡ separable a a → r ≡ true → asked 0 i ≡ fault-by f (node-of tag link guarded i) i
+    unfolding asked fault-by unless node-of
+    repetition-passes e h t = rw (e, ← add-one i, ← part, ← h, t)
+
+    pub repetition-fails : tag ≡ 7 → r ≡ separable a a → r ≡ false → asked 9 i ≡ fault-by f (node-of tag link guarded i) i
+    unfolding asked fault-by unless node-of
+    repetition-fails e h t = rw (e, ← add-one i, ← part, ← h, t)
 
   module _ {a b : LanguageType} (left : a ≡ f (i + 1)) (right : b ≡ f link) {r : Bool} where
     pub sequence-passes : tag ≡ 3 → r ≡ separable a b → r ≡ true → asked 0 i ≡ fault-by f (node-of tag link guarded i) i

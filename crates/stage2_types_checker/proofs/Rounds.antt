@@ -18,7 +18,7 @@ use Rattle.stage0_laws.specs.BitLaws.{bit-zero}
 use Rattle.stage0_laws.specs.Lists.{settle, or-else}
 use Rattle.stage0_laws.specs.Order.{compare-cases}
 use Rattle.stage2_types.specs.Types.{LanguageType, bottom-type}
-use Rattle.stage2_types.specs.Nodes.{Node, epsilon-node, bottom-node, token-node, sequence-node, alternative-node, fixed-point-node, variable-node}
+use Rattle.stage2_types.specs.Nodes.{Node, epsilon-node, bottom-node, token-node, sequence-node, alternative-node, fixed-point-node, variable-node, repetition-node}
 use Rattle.stage2_types.specs.LeastTypes.{node-type, next-types, same-type, same-types, type-rounds, types-of, type-height}
 use Rattle.stage2_types.specs.Questions as questions
 use Rattle.stage2_types.specs.Questions.{first-fault}
@@ -47,22 +47,24 @@ type-in c = held-type (c .null) (c .first) (c .flast)
 within-guard : (n tag link i : ℕ) (g h : Bool) → NodeInRange most-tokens n (node-of tag link g i)
     → NodeInRange most-tokens n (node-of tag link h i)
 unfolding node-of
-within-guard n tag link i g h = go (eqb tag 0) (eqb tag 1) (eqb tag 2) (eqb tag 3) (eqb tag 4) (eqb tag 5) (eqb tag 6)
+within-guard n tag link i g h = go (eqb tag 0) (eqb tag 1) (eqb tag 2) (eqb tag 3) (eqb tag 4) (eqb tag 5) (eqb tag 6) (eqb tag 7)
   where
-    pick : Bool → Bool → Bool → Bool → Bool → Bool → Bool → Bool → Node
-    pick a b c d e f v g =
+    pick : Bool → Bool → Bool → Bool → Bool → Bool → Bool → Bool → Bool → Node
+    pick a b c d e f v r g =
         cond a epsilon-node (cond b bottom-node (cond c (token-node link) (cond d (sequence-node (suc i) link)
-        (cond e (alternative-node (suc i) link) (cond f (fixed-point-node (suc i)) (cond v (variable-node link g) bottom-node))))))
+        (cond e (alternative-node (suc i) link) (cond f (fixed-point-node (suc i)) (cond v (variable-node link g)
+        (cond r (repetition-node (suc i) link) bottom-node)))))))
 
-    go : (a b c d e f v : Bool) → NodeInRange most-tokens n (pick a b c d e f v g) → NodeInRange most-tokens n (pick a b c d e f v h)
-    go true b c d e f v w = w
-    go false true c d e f v w = w
-    go false false true d e f v w = w
-    go false false false true e f v w = w
-    go false false false false true f v w = w
-    go false false false false false true v w = w
-    go false false false false false false true w = w
-    go false false false false false false false w = w
+    go : (a b c d e f v r : Bool) → NodeInRange most-tokens n (pick a b c d e f v r g) → NodeInRange most-tokens n (pick a b c d e f v r h)
+    go true b c d e f v r w = w
+    go false true c d e f v r w = w
+    go false false true d e f v r w = w
+    go false false false true e f v r w = w
+    go false false false false true f v r w = w
+    go false false false false false true v r w = w
+    go false false false false false false true r w = w
+    go false false false false false false false true w = w
+    go false false false false false false false false w = w
 
 pub node-fits : (links : NodeLinks) → LinksFit links → (i : ℕ) → i < links .count → (guarded : Bool)
     → NodeInRange most-tokens 64 (node-of (getD (links .tag) i 0) (getD (links .link) i 0) guarded i)

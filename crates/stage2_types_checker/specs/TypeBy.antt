@@ -4,8 +4,8 @@ use mathlib.Core.Path.{_≡_, refl, ap, ap₂, _∙_}
 use mathlib.Core.Option.{Option, none}
 use Prim.Native.Nat.{ℕ, _<_}
 use native.Mathlib.Omega.{arith}
-use Rattle.stage2_types.specs.Types.{LanguageType, epsilon-type, bottom-type, token-type, sequence-type, alternative-type}
-use Rattle.stage2_types.specs.Nodes.{Node, epsilon-node, bottom-node, token-node, sequence-node, alternative-node, fixed-point-node, variable-node}
+use Rattle.stage2_types.specs.Types.{LanguageType, epsilon-type, bottom-type, token-type, sequence-type, alternative-type, repetition-type}
+use Rattle.stage2_types.specs.Nodes.{Node, epsilon-node, bottom-node, token-node, sequence-node, alternative-node, fixed-point-node, variable-node, repetition-node}
 use Rattle.stage2_types.specs.LeastTypes.{type-of, node-type}
 use Rattle.stage2_types.specs.Questions.{Fault, separable, apart, unless, node-fault}
 use Rattle.stage2_types_columns.specs.Tabulate.{tabulate, tabulate-at}
@@ -20,6 +20,7 @@ type-by f (sequence-node l r) = sequence-type (f l) (f r)
 type-by f (alternative-node l r) = alternative-type (f l) (f r)
 type-by f (fixed-point-node b) = f b
 type-by f (variable-node v guarded) = f v
+type-by f (repetition-node b self) = repetition-type (f b) (f self)
 
 unfoldable pub fault-by : (ℕ → LanguageType) → Node → ℕ → Option Fault
 fault-by f epsilon-node p = none
@@ -29,6 +30,7 @@ fault-by f (sequence-node l r) p = unless (separable (f l) (f r)) 9 p
 fault-by f (alternative-node l r) p = unless (apart (f l) (f r)) 10 p
 fault-by f (fixed-point-node b) p = none
 fault-by f (variable-node v guarded) p = unless guarded 8 p
+fault-by f (repetition-node b self) p = unless (separable (f b) (f b)) 9 p
 
 module _ (f : ℕ → LanguageType) (n : ℕ) where
   pub type-of-listed : (k : ℕ) → k < n → type-of (tabulate f 0 n) k ≡ f k
@@ -43,6 +45,7 @@ module _ (f : ℕ → LanguageType) (n : ℕ) where
   node-type-by (alternative-node l r) w = ap₂ alternative-type (type-of-listed l (w .0)) (type-of-listed r (w .1))
   node-type-by (fixed-point-node b) w = type-of-listed b w
   node-type-by (variable-node v guarded) w = type-of-listed v w
+  node-type-by (repetition-node b self) w = ap₂ repetition-type (type-of-listed b (w .0)) (type-of-listed self (w .1))
 
   pub node-fault-by : (x : Node) (p : ℕ) → NodeInRange most-tokens n x → node-fault (tabulate f 0 n) x p ≡ fault-by f x p
   unfolding node-fault fault-by
@@ -53,3 +56,4 @@ module _ (f : ℕ → LanguageType) (n : ℕ) where
   node-fault-by (alternative-node l r) p w = ap (λ b. unless b 10 p) (ap₂ apart (type-of-listed l (w .0)) (type-of-listed r (w .1)))
   node-fault-by (fixed-point-node b) p w = refl
   node-fault-by (variable-node v guarded) p w = refl
+  node-fault-by (repetition-node b self) p w = ap (λ t. unless (separable t t) 9 p) (type-of-listed b (w .0))

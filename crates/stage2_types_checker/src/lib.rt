@@ -8,7 +8,7 @@ ghost use mathlib.Core.Path.{_≡_};
 ghost use mathlib.Core.Bool.{Bool, cond};
 ghost use Prim.Native.Nat.{ℕ, _+_, _-_, _*_, _^_, _≤_, _<_};
 ghost use Rattle.stage0_laws.specs.Bits.{bit};
-ghost use Rattle.stage2_types.specs.Types.{if-null, sequence-type, alternative-type};
+ghost use Rattle.stage2_types.specs.Types.{if-null, sequence-type, alternative-type, repetition-type};
 ghost use Rattle.stage2_types.specs.LeastTypes.{next-types, same-type, same-types, types-of};
 ghost use Rattle.stage2_types.specs.Questions.{separable, apart, first-fault};
 ghost use Rattle.stage2_types_columns.specs.Held.{node-of, held-nodes, held-type, held-types};
@@ -103,6 +103,15 @@ fn alternative_type(a: NodeType, b: NodeType) -> NodeType
     }
 }
 
+// From the types of a repetition's part and of the repetition itself: either nothing, or the part and then the repetition.
+fn repetition_type(a: NodeType, b: NodeType) -> NodeType
+    ensures { λ r. ⌜ language-type r ≡ repetition-type (language-type a) (language-type b) ⌝ }
+{
+    let nothing = without_flast(true, 0);
+    let again = sequence_type(a, b);
+    alternative_type(nothing, again)
+}
+
 fn same_type(a: NodeType, b: NodeType) -> bool
     ensures { λ r. ⌜ r ≡ same-type (language-type a) (language-type b) ⌝ }
 {
@@ -188,6 +197,11 @@ fn node_type<'a>(
     }
     if tag == 6 {
         return type_at(null, first, flast, to);
+    }
+    if tag == 7 {
+        let part = type_at(null, first, flast, i + 1);
+        let own = type_at(null, first, flast, to);
+        return repetition_type(part, own);
     }
     without_flast(false, 0)
 }
@@ -296,6 +310,13 @@ fn node_fault<'a>(
             return 0;
         }
         return 8;
+    }
+    if tag == 7 {
+        let part = type_at(null, first, flast, i + 1);
+        if separable(part, part) {
+            return 0;
+        }
+        return 9;
     }
     0
 }

@@ -7,7 +7,7 @@ use borrow.Author.Needs.{needs}
 use Rattle.stage2_types.specs.Types.{LanguageType}
 use Rattle.stage2_types_columns.specs.Held.{held-type}
 use Rattle.stage2_types_checker.proofs.Equation.{parts-small}
-use Rattle.stage2_types_checker.proofs.Question.{asked-nothing, variable-passes, variable-fails}
+use Rattle.stage2_types_checker.proofs.Question.{asked-nothing, variable-passes, variable-fails, repetition-passes, repetition-fails}
 use Rattle.stage2_types_checker.proofs.Question.{sequence-passes, sequence-fails, alternative-passes, alternative-fails}
 use Rattle.stage2_types_checker.proofs.node_fault.Statement.{statement}
 use Rattle.stage2_types_checker.proofs.node_fault.Tie as tie
@@ -16,7 +16,7 @@ use Rattle.stage2_types_checker.proofs.node_fault.Tie as tie
 abbrev types : tie.Start → ℕ → LanguageType
 types z = held-type (z .args .null) (z .args .first .now) (z .args .flast .now)
 
-parts : (z : tie.Start) → (z .args .tag ≡ 3) ⊎ (z .args .tag ≡ 4) → (z .args .i + 1 < 64) × (z .args .link < 64)
+parts : (z : tie.Start) → (z .args .tag ≡ 3) ⊎ ((z .args .tag ≡ 4) ⊎ (z .args .tag ≡ 7)) → (z .args .i + 1 < 64) × (z .args .link < 64)
 parts z = parts-small (z .args .tag) (z .args .link) (z .args .i) (z .args .guarded) (z .pre)
 
 add-type-at : tie.Need-add-type-at
@@ -44,13 +44,13 @@ returns-2 c =
     (c .before .before .type-at2 .ensures) (c .before .before .before .before .if1 .taken) (c .before .separable .ensures) (c .if2 .left)
 
 add-type-at-2 : tie.Need-add-type-at-2
-add-type-at-2 c = omega (arith, parts (c .before .before) (inr (c .if3 .taken)) .0)
+add-type-at-2 c = omega (arith, parts (c .before .before) (inr (inl (c .if3 .taken))) .0)
 
 type-at-requires-3 : tie.Need-type-at-requires-3
-type-at-requires-3 c κs = parts (c .before .before) (inr (c .if3 .taken)) .0
+type-at-requires-3 c κs = parts (c .before .before) (inr (inl (c .if3 .taken))) .0
 
 type-at-requires-4 : tie.Need-type-at-requires-4
-type-at-requires-4 c κs = parts (c .before .before .before) (inr (c .before .if3 .taken)) .1
+type-at-requires-4 c κs = parts (c .before .before .before) (inr (inl (c .before .if3 .taken))) .1
 
 apart-requires : tie.Need-apart-requires
 apart-requires c κs = search needs
@@ -77,11 +77,34 @@ returns-6 c =
     let z = c .before .before .before .before in
     variable-fails (types z) (z .args .tag) (z .args .link) (z .args .i) (z .args .guarded) (c .before .if5 .taken) (c .if6 .left)
 
+add-type-at-3 : tie.Need-add-type-at-3
+add-type-at-3 c = omega (arith, parts (c .before .before .before .before) (inr (inr (c .if7 .taken))) .0)
+
+type-at-requires-5 : tie.Need-type-at-requires-5
+type-at-requires-5 c κs = parts (c .before .before .before .before) (inr (inr (c .if7 .taken))) .0
+
+separable-requires-2 : tie.Need-separable-requires-2
+separable-requires-2 c κs = search needs
+
 returns-7 : tie.Need-returns-7
 returns-7 c =
-    let z = c .before .before .before in
-    asked-nothing (types z) (z .args .tag) (z .args .link) (z .args .i) (z .args .guarded) (c .before .before .if1 .left) (c .before .if3 .left)
-    (c .if5 .left)
+    let asks = c .before .before .before in
+    let z = asks .before .before .before .before in
+    repetition-passes (types z) (z .args .tag) (z .args .link) (z .args .i) (z .args .guarded) (c .before .before .type-at5 .ensures)
+    (asks .if7 .taken) (c .before .separable2 .ensures) (c .if8 .taken)
+
+returns-8 : tie.Need-returns-8
+returns-8 c =
+    let asks = c .before .before .before in
+    let z = asks .before .before .before .before in
+    repetition-fails (types z) (z .args .tag) (z .args .link) (z .args .i) (z .args .guarded) (c .before .before .type-at5 .ensures)
+    (asks .if7 .taken) (c .before .separable2 .ensures) (c .if8 .left)
+
+returns-9 : tie.Need-returns-9
+returns-9 c =
+    let z = c .before .before .before .before in
+    asked-nothing (types z) (z .args .tag) (z .args .link) (z .args .i) (z .args .guarded) (c .before .before .before .if1 .left)
+    (c .before .before .if3 .left) (c .before .if5 .left) (c .if7 .left)
 
 pub node-fault-spec : {M : Type 1} → statement M
 node-fault-spec =
@@ -101,4 +124,9 @@ node-fault-spec =
     returns-4
     returns-5
     returns-6
-    returns-7)
+    add-type-at-3
+    type-at-requires-5
+    separable-requires-2
+    returns-7
+    returns-8
+    returns-9)

@@ -8,7 +8,7 @@ use borrow.Author.Needs.{needs}
 use Rattle.stage2_types.specs.Types.{LanguageType}
 use Rattle.stage2_types_columns.specs.Held.{held-type}
 use Rattle.stage2_types_checker.proofs.Equation.{token-small, parts-small, body-small, binder-small}
-use Rattle.stage2_types_checker.proofs.Equation.{type-epsilon, type-bottom, type-token, type-sequence, type-alternative, type-body, type-variable, type-other}
+use Rattle.stage2_types_checker.proofs.Equation.{type-epsilon, type-bottom, type-token, type-sequence, type-alternative, type-body, type-variable, type-again, type-other}
 use Rattle.stage2_types_checker.proofs.node_type.Statement.{statement}
 use Rattle.stage2_types_checker.proofs.node_type.Tie as tie
 
@@ -16,7 +16,7 @@ use Rattle.stage2_types_checker.proofs.node_type.Tie as tie
 abbrev types : tie.Start → ℕ → LanguageType
 types z = held-type (z .args .null) (z .args .first .now) (z .args .flast .now)
 
-parts : (z : tie.Start) → (z .args .tag ≡ 3) ⊎ (z .args .tag ≡ 4) → (z .args .i + 1 < 64) × (z .args .link < 64)
+parts : (z : tie.Start) → (z .args .tag ≡ 3) ⊎ ((z .args .tag ≡ 4) ⊎ (z .args .tag ≡ 7)) → (z .args .i + 1 < 64) × (z .args .link < 64)
 parts z = parts-small (z .args .tag) (z .args .link) (z .args .i) true (z .pre true)
 
 body : (z : tie.Start) → z .args .tag ≡ 5 → z .args .i + 1 < 64
@@ -75,13 +75,13 @@ returns-4 c = λ g.
     (c .before .before .type-at .ensures) (c .before .type-at2 .ensures) (c .sequence-type .ensures)
 
 add-type-at-2 : tie.Need-add-type-at-2
-add-type-at-2 c = omega (arith, parts (c .before .before .before .before .before) (inr (c .if5 .taken)) .0)
+add-type-at-2 c = omega (arith, parts (c .before .before .before .before .before) (inr (inl (c .if5 .taken))) .0)
 
 type-at-requires-3 : tie.Need-type-at-requires-3
-type-at-requires-3 c κs = parts (c .before .before .before .before .before) (inr (c .if5 .taken)) .0
+type-at-requires-3 c κs = parts (c .before .before .before .before .before) (inr (inl (c .if5 .taken))) .0
 
 type-at-requires-4 : tie.Need-type-at-requires-4
-type-at-requires-4 c κs = parts (c .before .before .before .before .before .before) (inr (c .before .if5 .taken)) .1
+type-at-requires-4 c κs = parts (c .before .before .before .before .before .before) (inr (inl (c .before .if5 .taken))) .1
 
 alternative-type-requires : tie.Need-alternative-type-requires
 alternative-type-requires c κs = search needs
@@ -111,17 +111,37 @@ returns-7 c = λ g.
     let z = c .before .before .before .before .before .before .before .before in
     type-variable (z .args .tag) (z .args .link) (z .args .i) g (types z) (c .before .if7 .taken) (c .type-at6 .ensures)
 
+add-type-at-4 : tie.Need-add-type-at-4
+add-type-at-4 c = omega (arith, parts (c .before .before .before .before .before .before .before .before) (inr (inr (c .if8 .taken))) .0)
+
+type-at-requires-7 : tie.Need-type-at-requires-7
+type-at-requires-7 c κs = parts (c .before .before .before .before .before .before .before .before) (inr (inr (c .if8 .taken))) .0
+
+type-at-requires-8 : tie.Need-type-at-requires-8
+type-at-requires-8 c κs =
+    parts (c .before .before .before .before .before .before .before .before .before) (inr (inr (c .before .if8 .taken))) .1
+
+repetition-type-requires : tie.Need-repetition-type-requires
+repetition-type-requires c κs = search needs
+
+returns-8 : tie.Need-returns-8
+returns-8 c = λ g.
+    let called = c .before .before .before in
+    let z = called .before .before .before .before .before .before .before .before in
+    type-again (z .args .tag) (z .args .link) (z .args .i) g (types z) (called .if8 .taken)
+    (c .before .before .type-at7 .ensures) (c .before .type-at8 .ensures) (c .repetition-type .ensures)
+
 without-flast-requires-4 : tie.Need-without-flast-requires-4
 without-flast-requires-4 c κs = search needs
 
 -- No test took the tag.
-returns-8 : tie.Need-returns-8
-returns-8 c = λ g.
-    let b = c .before .before .before .before in
+returns-9 : tie.Need-returns-9
+returns-9 c = λ g.
+    let b = c .before .before .before .before .before in
     let z = b .before .before .before .before in
     type-other (z .args .tag) (z .args .link) (z .args .i) g (types z) (b .before .before .before .if1 .left) (b .before .before .if2 .left)
-    (b .before .if3 .left) (b .if4 .left) (c .before .before .before .if5 .left) (c .before .before .if6 .left) (c .before .if7 .left)
-    (c .without-flast4 .ensures)
+    (b .before .if3 .left) (b .if4 .left) (c .before .before .before .before .if5 .left) (c .before .before .before .if6 .left)
+    (c .before .before .if7 .left) (c .before .if8 .left) (c .without-flast4 .ensures)
 
 pub node-type-spec : {M : Type 1} → statement M
 node-type-spec =
@@ -149,5 +169,10 @@ node-type-spec =
     returns-6
     type-at-requires-6
     returns-7
+    add-type-at-4
+    type-at-requires-7
+    type-at-requires-8
+    repetition-type-requires
+    returns-8
     without-flast-requires-4
-    returns-8)
+    returns-9)
