@@ -11,7 +11,7 @@ use Rattle.stage0_laws.specs.Bits.{bit}
 use Rattle.stage1_sheet.specs.Expression.{Expression, size}
 use Rattle.stage2_types.specs.Types.{_⊢_∶_}
 use Rattle.stage2_types.specs.NodeRanges.{NodeInRange, node-in-range, nodes-in-range}
-use Rattle.stage2_types.specs.Nodes.{Node, epsilon-node, bottom-node, token-node, sequence-node, alternative-node, fixed-point-node, variable-node, nodes, node-at}
+use Rattle.stage2_types.specs.Nodes.{Node, epsilon-node, bottom-node, token-node, sequence-node, alternative-node, fixed-point-node, variable-node, repetition-node, nodes, node-at}
 use Rattle.stage2_types.specs.LeastTypes.{type-of, next-types, least-types}
 use Rattle.stage2_types.specs.LeastTypeLaws.{least-solves}
 use Rattle.stage2_types.specs.Typing.{no-fault-typed}
@@ -60,6 +60,7 @@ module _ (tag link first : List ℕ) (productive : ℕ) (e : Expression) (c : Co
       ∙ ap₂ (λ x y. cond (bit ((type-of (least-types e) l) .first) t) x y) (h l rights (b .0)) (h r rights (b .1))
   step-same k h (fixed-point-node i) b rights = h i rights b
   step-same k h (variable-node f guarded) b rights = h f rights b
+  step-same k h (repetition-node i self) b rights = ap₂ (λ x o. cond x o none) (c .productive-held self) (h i (self ∷ rights) (b .0))
 
   walk-same : (k n : ℕ) (rights : List ℕ) → n < size e → walks k n rights ≡ walk-of e t k n rights
   unfolding walk

@@ -43,6 +43,10 @@ module _ (flags : List Bool) (guarded : Bool) (link n : ℕ) where
   unfolding node-of node-derives
   by-token tag e = rw e
 
+  pub by-repetition : (tag : ℕ) → tag ≡ 7 → true ≡ equation tag
+  unfolding node-of node-derives
+  by-repetition tag e = rw e
+
   module _ (set : ℕ) (s : SetOf set flags) (left right : Bool) (l : left ≡ bit set (n + 1)) (r : right ≡ bit set link) where
     left-flag : left ≡ derives-at flags (suc n)
     left-flag = l ∙ (ap (bit set) (add-one n) ∙ s (suc n))
@@ -68,10 +72,10 @@ module _ (flags : List Bool) (guarded : Bool) (link n : ℕ) where
 
   -- A number that is no tag derives nothing.
   pub by-other : (tag : ℕ) → (tag ≡ 0 → ⊥) → (tag ≡ 2 → ⊥) → (tag ≡ 3 → ⊥) → (tag ≡ 4 → ⊥) → (tag ≡ 5 → ⊥) → (tag ≡ 6 → ⊥)
-      → false ≡ equation tag
+      → (tag ≡ 7 → ⊥) → false ≡ equation tag
   unfolding node-of node-derives
-  by-other tag a b c d f g =
-      rw (ne-eqb tag 0 a, ne-eqb tag 2 b, ne-eqb tag 3 c, ne-eqb tag 4 d, ne-eqb tag 5 f, ne-eqb tag 6 g) (go (eqb tag 1))
+  by-other tag a b c d f g h =
+      rw (ne-eqb tag 0 a, ne-eqb tag 2 b, ne-eqb tag 3 c, ne-eqb tag 4 d, ne-eqb tag 5 f, ne-eqb tag 6 g, ne-eqb tag 7 h) (go (eqb tag 1))
     where
       go : (x : Bool) → false ≡ node-derives flags (cond x bottom-node bottom-node)
       go true = refl

@@ -1,9 +1,9 @@
 -- Laws of the walk over columns: one for each way through a step, the remembered nodes in their array, and the nodes moved to the
 -- front. That the walk over the columns of a typed expression is the definition's walk is proved elsewhere.
 use mathlib.Core.Path.{_≡_, refl, sym, ap, ap₂, _∙_}
-use mathlib.Core.Bool.{Bool, true, false, not, cond}
+use mathlib.Core.Bool.{Bool, true, false, not, _||_, cond, true≢false}
 use mathlib.Core.List.{List, [], _∷_, _++_}
-use mathlib.Core.Logic.{⊎-elim}
+use mathlib.Core.Logic.{_⊎_, inl, inr, ⊎-elim}
 use mathlib.Core.Option.{Option, none, some}
 use Prim.Native.Nat.{ℕ, zero, suc, _+_, _-_, _≤_, _<_}
 use native.Mathlib.Omega.{arith}
@@ -11,7 +11,7 @@ use native.Mathlib.Numerals.{add-one}
 use lib.Dec.{eqb}
 use lib.ListN.{getD, length, set, take, drop, length-set, length-drop, drop-of-length-le}
 use lib.Seq.{drop-cons, getD-set-same, drop-set-lt, take-all, take-suc-set, getD-drop, take-suc}
-use borrow.Author.Tests.{ne-eqb, eqb-true, lt-ltb, le-ltb}
+use borrow.Author.Tests.{ne-eqb, eq-eqb, eqb-true, eqb-false, lt-ltb, le-ltb}
 use Rattle.stage0_laws.specs.Bits.{bit}
 use Rattle.stage0_laws.specs.BitLaws.{bit-zero}
 use Rattle.stage0_laws.specs.Order.{lt-or-le}
@@ -29,6 +29,25 @@ not-true false e = refl
 pub not-false : (b : Bool) → not b ≡ false → b ≡ true
 not-false true e = refl
 not-false false e = sym e
+
+-- The tags of nodes that remember their link: a sequence, a repetition.
+abbrev pub Remembers : ℕ → Type 0
+Remembers k = (k ≡ 3) ⊎ (k ≡ 7)
+
+pub remembers : (k : ℕ) → (eqb k 3 || eqb k 7) ≡ true → Remembers k
+remembers k = go (eqb k 3) refl
+  where
+    go : (b : Bool) → eqb k 3 ≡ b → (b || eqb k 7) ≡ true → Remembers k
+    go true e h = inl (eqb-true k 3 e)
+    go false e h = inr (eqb-true k 7 h)
+
+pub remembers-not : (k : ℕ) → (eqb k 3 || eqb k 7) ≡ false → Remembers k → ⊥
+remembers-not k h (inl e) = true≢false (rw (eq-eqb k 3 e) at h)
+remembers-not k h (inr e) = go (eqb k 3) (rw (eq-eqb k 7 e) at h)
+  where
+    go : (b : Bool) → (b || true) ≡ false → ⊥
+    go true h = true≢false h
+    go false h = true≢false h
 
 -- Past the column a node begins with nothing.
 pub begins-past : (first : List ℕ) (n t : ℕ) → 64 ≤ n → false ≡ bit (column-first first n) t
@@ -113,16 +132,21 @@ module _ (tag link : List ℕ) (guarded : ℕ) (first : List ℕ) (productive t 
     unfolding walk-step held-node node-of
     walk-token e = one-here left n rights more here ∙ rw e
 
-    pub walk-dead : getD tag n 0 ≡ 3 → bit productive (getD link n 0) ≡ false → walks left n rights ≡ none
+    -- A sequence or a repetition.
+    walk-link : Remembers (getD tag n 0)
+        → walks left n rights ≡ cond (bit productive (getD link n 0)) (walks (left - 1) (suc n) (getD link n 0 ∷ rights)) none
     unfolding walk-step held-node node-of
-    walk-dead e b = one-here left n rights more here ∙ rw (e, b)
+    walk-link (inl e) = one-here left n rights more here ∙ rw e
+    walk-link (inr e) = one-here left n rights more here ∙ rw e
 
-    pub walk-right : getD tag n 0 ≡ 3 → bit productive (getD link n 0) ≡ true
+    pub walk-dead : Remembers (getD tag n 0) → bit productive (getD link n 0) ≡ false → walks left n rights ≡ none
+    walk-dead e b = walk-link e ∙ rw b
+
+    pub walk-right : Remembers (getD tag n 0) → bit productive (getD link n 0) ≡ true
         → walks left n rights ≡ walks (left - 1) (n + 1) (getD link n 0 ∷ rights)
-    unfolding walk-step held-node node-of
-    walk-right e b = one-here left n rights more here ∙ rw (e, b, add-one n)
+    walk-right e b = walk-link e ∙ rw (b, add-one n)
 
-    pub walk-on : (getD tag n 0 < 2 → ⊥) → (getD tag n 0 ≡ 2 → ⊥) → (getD tag n 0 ≡ 3 → ⊥)
+    pub walk-on : (getD tag n 0 < 2 → ⊥) → (getD tag n 0 ≡ 2 → ⊥) → (Remembers (getD tag n 0) → ⊥)
         → walks left n rights ≡ walks (left - 1) (next-node (getD tag n 0) (getD link n 0) n first t) rights
     unfolding walk-step held-node node-of next-node
     walk-on a b c = one-here left n rights more here ∙ go (eqb (getD tag n 0) 4) refl (eqb (getD tag n 0) 5) refl (eqb (getD tag n 0) 6) refl
@@ -147,10 +171,11 @@ module _ (tag link : List ℕ) (guarded : ℕ) (first : List ℕ) (productive t 
               ne-eqb (getD tag n 0) 0 (λ z. a (omega arith)),
               ne-eqb (getD tag n 0) 1 (λ z. a (omega arith)),
               ne-eqb (getD tag n 0) 2 b,
-              ne-eqb (getD tag n 0) 3 c,
+              ne-eqb (getD tag n 0) 3 (λ z. c (inl z)),
               e,
               f,
               g,
+              ne-eqb (getD tag n 0) 7 (λ z. c (inr z)),
             ) (sym (no-more (left - 1) rights))
 
 -- A node remembered before the others.
@@ -220,7 +245,7 @@ module _ (tag link first : List ℕ) (productive node t : ℕ) where
       pub ended-bare : getD tag at 0 < 2 → Ended tag link first productive node t w
       ended-bare h = ended-none (λ guarded. walk-none tag link guarded first productive t left at _ more here h)
 
-      pub ended-dead : getD tag at 0 ≡ 3 → bit productive (getD link at 0) ≡ false → Ended tag link first productive node t w
+      pub ended-dead : Remembers (getD tag at 0) → bit productive (getD link at 0) ≡ false → Ended tag link first productive node t w
       ended-dead e b = ended-none (λ guarded. walk-dead tag link guarded first productive t left at _ more here e b)
 
       pub ended-token : getD tag at 0 ≡ 2
@@ -231,7 +256,7 @@ module _ (tag link first : List ℕ) (productive node t : ℕ) where
         λ guarded. sym (walk-token tag link guarded first productive t left at _ more here e) ∙ x .same guarded,
       )
 
-      pub walking-right : getD tag at 0 ≡ 3 → bit productive (getD link at 0) ≡ true
+      pub walking-right : Remembers (getD tag at 0) → bit productive (getD link at 0) ≡ true
           → Goes (record { found = w .found; start = w .start - 1; rights = set (w .rights) (w .start - 1) (getD link at 0) })
           (at + 1) (left - 1)
       walking-right e b = let r = x .room in let i = x .within in let f = x .full in record {
@@ -244,7 +269,7 @@ module _ (tag link first : List ℕ) (productive node t : ℕ) where
             ∙ (sym (walk-right tag link guarded first productive t left at _ more here e b) ∙ x .same guarded);
       }
 
-      pub walking-on : (getD tag at 0 < 2 → ⊥) → (getD tag at 0 ≡ 2 → ⊥) → (getD tag at 0 ≡ 3 → ⊥) → (next : ℕ)
+      pub walking-on : (getD tag at 0 < 2 → ⊥) → (getD tag at 0 ≡ 2 → ⊥) → (Remembers (getD tag at 0) → ⊥) → (next : ℕ)
           → next ≡ next-node (getD tag at 0) (getD link at 0) at first t → Goes w next (left - 1)
       walking-on a b c next e = let r = x .room in record {
         not-found = x .not-found;

@@ -82,6 +82,9 @@ fn node_derives(tag: u8, link: u8, n: usize, set: u64) -> bool
     if tag == 6 {
         return right;
     }
+    if tag == 7 {
+        return true;
+    }
     false
 }
 
@@ -188,7 +191,8 @@ fn next_node(tag: u8, link: u8, n: usize, first: &[u32; 64], token: u8) -> usize
 }
 
 // The walk for a token from a node. A sequence remembers its right node and leads into its left part; one whose right node
-// derives no token sequence has no production. No typed expression needs more steps than it has nodes.
+// derives no token sequence has no production. A repetition does the same, and what it remembers is itself. No typed expression
+// needs more steps than it has nodes.
 fn walk<'a>(
     tag: &'a [u8; 64],
     link: &'a [u8; 64],
@@ -218,7 +222,7 @@ fn walk<'a>(
             return w;
         }
         left -= 1;
-        if kind == 3 {
+        if (kind == 3) | (kind == 7) {
             if !has_entry(productive, to) {
                 return w;
             }
@@ -233,7 +237,7 @@ fn walk<'a>(
     w
 }
 
-// The remembered nodes as a tail. A tail has at most 31 members, so more than 32 are none.
+// The remembered nodes as a tail. A tail has at most 32 members, so more are none.
 fn tail_of(rights: [u8; 64], start: usize) -> Tail
     requires { ⌜ start ≤ 64 ⌝ }
     ensures { λ r. ⌜ TailCounted r × (32 ≤ start → tail-held r ≡ some (drop start rights)) ⌝ }

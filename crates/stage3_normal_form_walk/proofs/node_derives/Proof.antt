@@ -2,7 +2,7 @@
 use borrow.Author.Needs.{needs}
 use native.Mathlib.Omega.{arith}
 use Rattle.stage3_normal_form_walk.proofs.Rounds.{by-epsilon, by-bottom, by-token}
-use Rattle.stage3_normal_form_walk.proofs.Rounds.{by-sequence, by-alternative, by-fixed-point, by-variable, by-other}
+use Rattle.stage3_normal_form_walk.proofs.Rounds.{by-sequence, by-alternative, by-fixed-point, by-variable, by-repetition, by-other}
 use Rattle.stage3_normal_form_walk.proofs.node_derives.Statement.{statement}
 use Rattle.stage3_normal_form_walk.proofs.node_derives.Tie as tie
 
@@ -41,10 +41,13 @@ returns-7 c flags guarded s = let r = c .before .before .before .before in
     by-variable flags guarded _ _ _ s _ _ (r .before .has .ensures) (r .has-entry .ensures) _ (c .if7 .taken)
 
 returns-8 : tie.Need-returns-8
-returns-8 c flags guarded s =
-    let t = c .before .before .before .before .before .before in
-    by-other flags guarded _ _ _ (t .before .before .if1 .left) (t .if3 .left) (c .before .before .before .if4 .left)
-    (c .before .before .if5 .left) (c .before .if6 .left) (c .if7 .left)
+returns-8 c flags guarded s = by-repetition flags guarded _ _ _ (c .if8 .taken)
+
+returns-9 : tie.Need-returns-9
+returns-9 c flags guarded s =
+    let t = c .before .before .before .before .before .before .before in
+    by-other flags guarded _ _ _ (t .before .before .if1 .left) (t .if3 .left) (c .before .before .before .before .if4 .left)
+    (c .before .before .before .if5 .left) (c .before .before .if6 .left) (c .before .if7 .left) (c .if8 .left)
 
 pub node-derives-spec : {M : Type 1} → statement M
 node-derives-spec =
@@ -60,4 +63,5 @@ node-derives-spec =
     returns-5
     returns-6
     returns-7
-    returns-8)
+    returns-8
+    returns-9)

@@ -4,7 +4,7 @@ use borrow.Author.Needs.{needs}
 use native.Mathlib.Omega.{arith}
 use mathlib.Core.Path.{_≡_, sym, _∙_}
 use lib.ListN.{length}
-use Rattle.stage3_normal_form_walk.proofs.Walking.{not-true, not-false, Walking, walking-first, walking-right, walking-on}
+use Rattle.stage3_normal_form_walk.proofs.Walking.{not-true, not-false, remembers, remembers-not, Walking, walking-first, walking-right, walking-on}
 use Rattle.stage3_normal_form_walk.proofs.Walking.{ended-steps, ended-past, ended-bare, ended-dead, ended-token}
 use Rattle.stage3_normal_form_walk.proofs.walk.Statement.{statement}
 use Rattle.stage3_normal_form_walk.proofs.walk.Tie as tie
@@ -51,7 +51,7 @@ has-entry-requires c κs = tt
 
 returns-4 : tie.Need-returns-4 Inv-loop μ-loop
 returns-4 c = let l = c .before .before .before .before .before .before .before .before .before .loop in
-    ended-dead _ _ _ _ _ _ (l .w) (l .at) (l .left) (l .inv) (omega arith) (omega arith) (c .before .before .if4 .taken)
+    ended-dead _ _ _ _ _ _ (l .w) (l .at) (l .left) (l .inv) (omega arith) (omega arith) (remembers _ (c .before .before .if4 .taken))
     (sym (c .before .has-entry .ensures) ∙ not-true _ (c .if5 .taken))
 
 sub-start : tie.Need-sub-start Inv-loop μ-loop
@@ -68,7 +68,7 @@ loop-less c = omega arith
 
 loop-again : tie.Need-loop-again Inv-loop μ-loop
 loop-again c = let l = c .before .before .before .before .before .before .before .before .before .loop in
-    walking-right _ _ _ _ _ _ (l .w) (l .at) (l .left) (l .inv) (omega arith) (omega arith) (c .before .before .if4 .taken)
+    walking-right _ _ _ _ _ _ (l .w) (l .at) (l .left) (l .inv) (omega arith) (omega arith) (remembers _ (c .before .before .if4 .taken))
     (sym (c .before .has-entry .ensures) ∙ not-false _ (c .if5 .left))
 
 next-node-requires : tie.Need-next-node-requires Inv-loop μ-loop
@@ -80,7 +80,7 @@ loop-less-2 c = omega arith
 loop-again-2 : tie.Need-loop-again-2 Inv-loop μ-loop
 loop-again-2 c = let l = c .before .before .before .before .before .before .before .before .loop in
     walking-on _ _ _ _ _ _ (l .w) (l .at) (l .left) (l .inv) (omega arith) (omega arith)
-    (λ h. omega (arith, h, c .before .before .before .if2 .left)) (c .before .before .if3 .left) (c .before .if4 .left) _ (c .next-node .ensures)
+    (λ h. omega (arith, h, c .before .before .before .if2 .left)) (c .before .before .if3 .left) (remembers-not _ (c .before .if4 .left)) _ (c .next-node .ensures)
 
 returns-5 : tie.Need-returns-5 Inv-loop μ-loop
 returns-5 c = let l = c .before .loop in
