@@ -1,8 +1,8 @@
 /*
  * Vinzagew: a proved grammar compiler, and the machine that reads by its images.
  *
- * The functions of the static library libvinzagew.a. Their contract is document 01; the numbers and
- * places below are those of document 01.
+ * The functions of the static library libvinzagew.a. Their contract is document 01 with request 1 of
+ * document 02; the numbers and places below are the contract's.
  *
  * Every buffer is a pointer to its first byte (or number) and a length. All buffers must be valid for
  * their length, pointers must not be null (any address that is not null will do for a length of 0),
@@ -31,9 +31,9 @@ extern "C" {
 #define VINZAGEW_TEXT_LIMIT 1048576
 
 /* The most members that a production's tail has. A take removes one pending nonterminal at least and adds a tail. */
-#define VINZAGEW_TAIL_LIMIT 31
+#define VINZAGEW_TAIL_LIMIT 32
 
-/* The length of a stack that is enough for every text of n bytes. */
+/* The length of a stack that is enough for every text of n bytes: 1 + 31 times n. */
 #define VINZAGEW_STACK_LENGTH(n) (1 + (VINZAGEW_TAIL_LIMIT - 1) * (size_t)(n))
 
 /* The numbers: 0 for success, otherwise the question that was answered with no. */
@@ -46,7 +46,7 @@ extern "C" {
 #define VINZAGEW_SHEET_GOES_ON 6     /* bytes are left over after the expression */
 #define VINZAGEW_EMPTY_WORD 7        /* a rule matches the empty word */
 #define VINZAGEW_NOT_GUARDED 8       /* a variable is not guarded */
-#define VINZAGEW_NOT_SEPARABLE 9     /* a sequence is not separable */
+#define VINZAGEW_NOT_SEPARABLE 9     /* a sequence is not separable, or a repetition's part from itself */
 #define VINZAGEW_NOT_APART 10        /* alternatives are not apart */
 #define VINZAGEW_IMAGE_TOO_LONG 11   /* the image does not fit in its buffer */
 #define VINZAGEW_TEXT_TOO_LONG 12    /* the text has more than 1,048,576 bytes */

@@ -5,6 +5,20 @@
  * place and count. If the sheet is refused, that refusal's number and place are printed, and count 0.
  * The exit status is 0 if the text was accepted, 1 if the sheet or the text was refused, and 2 if a
  * file could not be read.
+ *
+ * A sheet for numbers between slashes, with its numbers in octal for printf: version and counts; the
+ * rules for a number N, a slash S and a blank that is skipped; the expression, N and then any number
+ * of times S and N (tag 7 is the repetition):
+ *
+ *   printf '\1\2\3' >sheet
+ *   printf '\1\2\1\60\71\4\1\60\71' >>sheet
+ *   printf '\2\1\57\57' >>sheet
+ *   printf '\0\1\40\40' >>sheet
+ *   printf '\3\2\0\7\3\2\1\2\0' >>sheet
+ *   printf '12/7' >text
+ *   ./read sheet text
+ *
+ * prints `0 4 3`.
  */
 #include <inttypes.h>
 #include <stdio.h>

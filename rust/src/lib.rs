@@ -2,8 +2,8 @@
 //!
 //! A *sheet* has lexer rules and one typed context-free expression. [`compile`] turns a sheet into an
 //! [`Image`], and [`Image::run`] reads a text by it. Both call a static library whose code is proved to
-//! meet its contract, document 01; this package links it and lends it the buffers that it needs. The
-//! places and numbers in this documentation are those of document 01.
+//! meet its contract, document 01 with request 1 of document 02; this package links it and lends it the
+//! buffers that it needs. The places and numbers in this documentation are those of the contract.
 //!
 //! [`builder`] writes sheets as Rust code.
 //!
@@ -13,7 +13,7 @@
 //!
 #![cfg_attr(vinzagew_library, doc = "```")]
 #![cfg_attr(not(vinzagew_library), doc = "```no_run")]
-//! use vinzagew::builder::{Expression, Regex, SheetBuilder};
+//! use vinzagew::builder::{Regex, SheetBuilder};
 //!
 //! let mut builder = SheetBuilder::new();
 //! let number = builder.token("number");
@@ -23,10 +23,7 @@
 //! builder.skip(Regex::byte(b' '));
 //!
 //! // A number, then any number of times a slash and a number.
-//! let more = number.then(Expression::fix(|more| {
-//!     Expression::epsilon().or(slash.then(number.then(more)))
-//! }));
-//! let sheet = builder.finish(more)?;
+//! let sheet = builder.finish(number.then(slash.then(number).star()))?;
 //!
 //! let image = vinzagew::compile(&sheet.to_bytes())?;
 //! assert_eq!(image.run(b"12 /7"), Ok(3));
@@ -71,12 +68,12 @@ pub const TEXT_LIMIT: usize = 1_048_576;
 
 /// The most members that a production's tail has. A take removes one pending nonterminal at least and
 /// adds a tail.
-pub const TAIL_LIMIT: usize = 31;
+pub const TAIL_LIMIT: usize = 32;
 
-/// The length of a stack that is enough for every text of `text_length` bytes.
+/// The length of a stack that is enough for every text of `text_length` bytes, 1 + 31 × its length.
 ///
 /// ```
-/// assert_eq!(vinzagew::stack_length(4), 121);
+/// assert_eq!(vinzagew::stack_length(4), 125);
 /// ```
 pub const fn stack_length(text_length: usize) -> usize {
     1 + (TAIL_LIMIT - 1) * text_length

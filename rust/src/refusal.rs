@@ -34,7 +34,7 @@ impl Refusal {
             6 => "Does the sheet end after its expression?",
             7 => "Does every rule match only non-empty words?",
             8 => "Is the variable guarded?",
-            9 => "Is the sequence separable?",
+            9 => "Is the sequence separable, or the repetition's part separable from itself?",
             10 => "Are the alternatives apart?",
             11 => "Does the image fit in its buffer?",
             12 => "Is the text within 1,048,576 bytes?",
@@ -97,7 +97,8 @@ mod tests {
         );
         assert_eq!(
             words(9, 20, 0, 0),
-            "refused with 9 at place 20 of the sheet: Is the sequence separable? No"
+            "refused with 9 at place 20 of the sheet: Is the sequence separable, \
+             or the repetition's part separable from itself? No"
         );
         assert_eq!(
             words(11, 0, 48, 0),

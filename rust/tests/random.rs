@@ -11,10 +11,11 @@ use common::random::{for_case, seed_and_cases, Random};
 use common::{compile_checked, engines, generate, run_checked, Engine, LIBRARY, REFERENCE};
 use std::collections::BTreeMap;
 use std::fmt;
-use vinzagew::builder::{Expression, PartKind};
-use vinzagew::stack_length;
+use vinzagew::builder::{self, Expression, PartKind};
+use vinzagew::{stack_length, TAIL_LIMIT};
 use vinzagew_reference::image::Image;
-use vinzagew_reference::sheet::Sheet;
+use vinzagew_reference::sheet::{Kind, Node, Sheet};
+use vinzagew_reference::types::least_types;
 use vinzagew_reference::{answer, image_of};
 
 /// A call with all its buffers.
@@ -215,6 +216,7 @@ fn run_call(random: &mut Random) -> Call {
     let image = match random.below(6) {
         0 => generate::damage(random, &image.to_bytes()),
         1 => generate::damage_field(random, &image),
+        2 if random.once_in(2) => generate::stretch_tail(random, &image).to_bytes(),
         _ => image.to_bytes(),
     };
     let entries = match random.below(8) {
@@ -281,11 +283,73 @@ fn typed_sheets_are_accepted() {
             panic!("seed {seed}, case {case}: {refusal:?}: {part}");
         });
         nodes += Sheet::read(sheet.as_bytes()).expect("accepted").nodes.len();
+        // The nonterminals are the start, right parts and repetitions: never more than half the nodes.
+        assert!(image.rows.len() <= 32, "seed {seed}, case {case}");
         rows += image.rows.len();
         let productions = image.rows.iter().flat_map(|row| &row.productions);
         members += productions.map(|(_, tail)| tail.len()).sum::<usize>();
     }
     println!("seed {seed}, {cases} sheets: {nodes} nodes, {rows} rows, {members} tail members");
+}
+
+/// The node after the last one of an expression.
+fn end(nodes: &[Node], node: usize) -> usize {
+    match nodes[node].kind {
+        Kind::Epsilon | Kind::Bottom | Kind::Token(_) | Kind::Variable(_) => node + 1,
+        Kind::Fix(part) | Kind::Repetition(part) => end(nodes, part),
+        Kind::Sequence(_, right) | Kind::Alternative(_, right) => end(nodes, right),
+    }
+}
+
+/// What kinds of repetition this one is of.
+fn repetition_kinds(nodes: &[Node], repetition: usize, part: usize) -> Vec<&'static str> {
+    let below = &nodes[part..end(nodes, part)];
+    let counts_past = below
+        .iter()
+        .any(|node| matches!(node.kind, Kind::Variable(fix) if fix < repetition));
+    let nested = below
+        .iter()
+        .any(|node| matches!(node.kind, Kind::Repetition(_)));
+    let kinds = [
+        ("any", true),
+        ("whole expression", repetition == 0),
+        ("of ⊥", nodes[part].kind == Kind::Bottom),
+        ("with one below it", nested),
+        ("with a variable that counts past it", counts_past),
+    ];
+    let held = kinds.iter().filter(|(_, holds)| *holds);
+    held.map(|(kind, _)| *kind).collect()
+}
+
+/// Repetitions come up in many places of accepted sheets, and the longest tail does.
+#[test]
+fn repetitions_come_up() {
+    let (seed, cases) = seed_and_cases(2_000);
+    let mut tally = BTreeMap::new();
+    for case in 0..cases {
+        let random = &mut for_case(seed, case);
+        let sheet = match random.below(8) {
+            0 => generate::long_tailed_sheet(random),
+            _ => generate::accepted_sheet(random),
+        };
+        let nodes = Sheet::read(sheet.as_bytes()).expect("accepted").nodes;
+        let mut found: Vec<&str> = (0..nodes.len())
+            .flat_map(|node| match nodes[node].kind {
+                Kind::Repetition(part) => repetition_kinds(&nodes, node, part),
+                _ => Vec::new(),
+            })
+            .collect();
+        let image = image_of(sheet.as_bytes()).expect("accepted");
+        let mut productions = image.rows.iter().flat_map(|row| &row.productions);
+        if productions.any(|(_, tail)| tail.len() == TAIL_LIMIT) {
+            found.push("longest tail");
+        }
+        for kind in found {
+            *tally.entry(kind).or_insert(0) += 1;
+        }
+    }
+    println!("seed {seed}, {cases} cases: {tally:?}");
+    assert!(cases < 2_000 || tally.len() == 6, "{tally:?}");
 }
 
 /// The place of a refusal leads back to a part of the kind that the question is about.
@@ -315,7 +379,10 @@ fn refusals_lead_back_to_their_parts() {
             5 => matches!(part.kind, PartKind::Regex { .. }) || expression.is_some(),
             7 => matches!(part.kind, PartKind::Action { .. }),
             8 => matches!(expression, Some(Expression::Variable(_))),
-            9 => matches!(expression, Some(Expression::Sequence(..))),
+            9 => matches!(
+                expression,
+                Some(Expression::Sequence(..) | Expression::Repetition(_))
+            ),
             10 => matches!(expression, Some(Expression::Alternative(..))),
             _ => false,
         };
@@ -362,6 +429,108 @@ fn runs_give_the_sheets_own_answer() {
         }
     }
     println!("seed {seed}, {cases} cases: {tally:?}");
+}
+
+/// A sheet, and the same with its repetitions spelled out as fixed points, if it has some and both keep
+/// the limits: a repetition that is spelled out has four nodes more.
+fn two_spellings(random: &mut Random) -> Option<[builder::Sheet; 2]> {
+    let sheet = match random.below(4) {
+        0 | 1 => generate::accepted_sheet(random),
+        2 => generate::nearly_accepted_sheet(random),
+        _ => generate::untyped_sheet(random),
+    };
+    let spelled_out = generate::spelled_out_sheet(&sheet);
+    let differ = sheet.as_bytes() != spelled_out.as_bytes();
+    let readable = |sheet: &builder::Sheet| Sheet::read(sheet.as_bytes()).is_ok();
+    (differ && readable(&sheet) && readable(&spelled_out)).then_some([sheet, spelled_out])
+}
+
+/// Both sheets are accepted, or both are refused with the same number, which is given. A repetition of a
+/// nullable part is the one exception: its fixed point meets 10 at the alternative, before 9.
+fn same_verdict([sheet, spelled_out]: &[builder::Sheet; 2], context: &str) -> u64 {
+    let start_type = |sheet: &builder::Sheet| {
+        let parts = Sheet::read(sheet.as_bytes()).expect("readable");
+        least_types(&parts.nodes)[0]
+    };
+    assert_eq!(start_type(sheet), start_type(spelled_out), "{context}");
+    let mut verdict = 0;
+    for engine in engines() {
+        let compile = |sheet: &builder::Sheet| {
+            let ([number, place, _], _) = compile_checked(engine, sheet.as_bytes(), 65_536, 65_536);
+            (number, place as usize)
+        };
+        let (number, place) = compile(sheet);
+        let (other, _) = compile(spelled_out);
+        let at_repetition = match sheet.locate(place).kind {
+            PartKind::Expression { expression, .. } => {
+                matches!(expression, Expression::Repetition(_))
+            }
+            _ => false,
+        };
+        let excepted = (number, other) == (9, 10) && at_repetition;
+        assert!(
+            number == other || excepted,
+            "{context}: {}: {number} and {other}",
+            engine.name
+        );
+        verdict = number;
+    }
+    verdict
+}
+
+/// The own answers of both sheets and the runs of both images, if they have one, are all the same.
+fn same_answers(sheets: &[builder::Sheet; 2], text: &[u8], context: &str) {
+    let mut answers = Vec::new();
+    for sheet in sheets {
+        let sheet = sheet.as_bytes();
+        let own = answer(&Sheet::read(sheet).expect("readable"), text);
+        answers.push([own.number, own.place as u64, own.tokens as u64]);
+        for engine in engines() {
+            let (compiled, image) = compile_checked(engine, sheet, 65_536, 65_536);
+            if compiled[0] == 0 {
+                answers.push(run_checked(engine, &image, text, stack_length(text.len())));
+            }
+        }
+    }
+    assert!(
+        answers.iter().all(|answer| *answer == answers[0]),
+        "{context}, text {}: {answers:?}",
+        hexadecimal(text)
+    );
+}
+
+/// A repetition has the type, the verdict and the answers of the fixed point that it stands for.
+#[test]
+fn repetitions_are_like_their_fixed_points() {
+    let (seed, cases) = seed_and_cases(2_000);
+    let mut tally = BTreeMap::new();
+    for case in 0..cases {
+        let random = &mut for_case(seed, case);
+        let sheets = match two_spellings(random) {
+            Some(sheets) => sheets,
+            None => continue,
+        };
+        let context = format!(
+            "seed {seed}, case {case}, sheet {}",
+            hexadecimal(sheets[0].as_bytes())
+        );
+        let verdict = same_verdict(&sheets, &context);
+        *tally.entry(verdict).or_insert(0) += 1;
+        // With an empty word in a rule the own answer need not end.
+        if verdict == 7 {
+            continue;
+        }
+        for sheet in sheets.iter().chain(&sheets) {
+            let mut text = match image_of(sheet.as_bytes()) {
+                Ok(image) => generate::text(random, &image),
+                Err(_) => generate::letters(random),
+            };
+            text.truncate(24);
+            same_answers(&sheets, &text, &context);
+        }
+    }
+    println!("seed {seed}, {cases} cases: {tally:?}");
+    assert!(cases < 2_000 || tally.len() == 5, "{tally:?}");
 }
 
 /// The library and the reference agree on all results and all buffers.

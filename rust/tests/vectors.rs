@@ -5,9 +5,17 @@ mod common;
 use common::json_lines::{self, Object};
 use common::{compile_checked, engines, run_checked, Engine};
 use vinzagew::stack_length;
+use vinzagew_reference::answer;
+use vinzagew_reference::sheet::Sheet;
 
-fn vectors(kind: &str) -> Vec<Object> {
-    let vectors: Vec<Object> = include_str!("data/base.jsonl")
+/// The files of vectors: of the base, and of request 1, which has sheets with tag 7.
+const FILES: [(&str, &str); 2] = [
+    ("base", include_str!("data/base.jsonl")),
+    ("request 1", include_str!("data/request-01.jsonl")),
+];
+
+fn vectors(file: &str, kind: &str) -> Vec<Object> {
+    let vectors: Vec<Object> = file
         .lines()
         .map(json_lines::read)
         .filter(|vector| vector.text("kind") == kind)
@@ -16,22 +24,23 @@ fn vectors(kind: &str) -> Vec<Object> {
     vectors
 }
 
-/// Holds every vector of a kind against every engine.
+/// Holds every vector of a kind, from all files, against every engine.
 fn compare(kind: &str, differs: impl Fn(Engine, &Object) -> Option<String>) {
-    for engine in engines() {
-        let differences: Vec<String> = vectors(kind)
-            .iter()
-            .filter_map(|vector| {
+    for (name, file) in FILES {
+        let vectors = vectors(file, kind);
+        for engine in engines() {
+            let differences = vectors.iter().filter_map(|vector| {
                 let difference = differs(engine, vector)?;
                 Some(format!("case {}: {difference}", vector.number("case")))
-            })
-            .collect();
-        assert!(
-            differences.is_empty(),
-            "{}: {} differences, {differences:#?}",
-            engine.name,
-            differences.len()
-        );
+            });
+            let differences: Vec<String> = differences.collect();
+            assert!(
+                differences.is_empty(),
+                "{name}, {}: {} differences, {differences:#?}",
+                engine.name,
+                differences.len()
+            );
+        }
     }
 }
 
@@ -67,6 +76,18 @@ fn read() {
         let found = run_checked(engine, &image, &text, stack_length(text.len()));
         unequal(found, three(vector, "count"))
     });
+}
+
+/// The sheet's own answer gives the same, with no image and no machine.
+#[test]
+fn read_by_the_own_answer() {
+    for vector in FILES.iter().flat_map(|(_, file)| vectors(file, "read")) {
+        let sheet = Sheet::read(&vector.bytes("sheet")).expect("accepted");
+        let own = answer(&sheet, &vector.bytes("text"));
+        let found = [own.number, own.place as u64, own.tokens as u64];
+        let case = vector.number("case");
+        assert_eq!(found, three(&vector, "count"), "case {case}");
+    }
 }
 
 #[test]

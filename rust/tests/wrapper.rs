@@ -3,9 +3,11 @@
 mod common;
 
 use common::{compile_checked, engines, run_checked, FILL};
-use vinzagew::builder::{Expression, PartKind, Regex, Sheet, SheetBuilder};
+use vinzagew::builder::{Expression, PartKind, Regex, Sheet, SheetBuilder, Token};
 #[cfg(vinzagew_library)]
 use vinzagew::{compile, compile_into, run_with, Image};
+use vinzagew::{stack_length, Refusal};
+use vinzagew_reference::image::Image as Parts;
 
 fn builder() -> SheetBuilder {
     let mut builder = SheetBuilder::new();
@@ -17,10 +19,15 @@ fn builder() -> SheetBuilder {
     builder
 }
 
+/// The tokens N and S of [`builder`].
+fn tokens() -> (Token, Token) {
+    let mut other = SheetBuilder::new();
+    (other.token("N"), other.token("S"))
+}
+
 /// Sheet D.
 fn sheet_d() -> Sheet {
-    let mut other = SheetBuilder::new();
-    let (number, slash) = (other.token("N"), other.token("S"));
+    let (number, slash) = tokens();
     let more = Expression::fix(|more| Expression::epsilon().or(slash.then(number.then(more))));
     builder().finish(number.then(more)).unwrap()
 }
@@ -90,6 +97,77 @@ fn labels_and_names_show() {
 }
 
 #[test]
+fn star_and_plus_are_repetitions() {
+    let (number, slash) = tokens();
+    let expression = |expression: Expression| {
+        let sheet = builder().finish(expression).unwrap();
+        (
+            sheet.as_bytes()[20..].to_vec(),
+            sheet.locate(20).to_string(),
+        )
+    };
+    let (tags, words) = expression(number.star());
+    assert_eq!(tags, [7, 2, 0]);
+    assert_eq!(words, "expression node 0: (N)*");
+    let (tags, words) = expression(number.then(slash).plus());
+    assert_eq!(tags, [3, 3, 2, 0, 2, 1, 7, 3, 2, 0, 2, 1]);
+    assert_eq!(words, "expression node 0: ((N·S)·(N·S)*)");
+    let (tags, words) = expression(number.or(slash).label("item").star().star());
+    assert_eq!(tags, [7, 7, 4, 2, 0, 2, 1]);
+    assert_eq!(words, "expression node 0: ((N ∨ S)*)*");
+}
+
+/// A repetition is no fixed point in a variable's count.
+#[test]
+fn variables_count_past_repetitions() {
+    let (number, slash) = tokens();
+    let brackets =
+        Expression::fix(|own| number.then(Expression::from(slash).or(own.plus().then(slash))));
+    let sheet = builder().finish(brackets).unwrap();
+    assert_eq!(
+        sheet.as_bytes()[20..],
+        [5, 3, 2, 0, 4, 2, 1, 3, 3, 6, 0, 7, 6, 0, 2, 1]
+    );
+    let words = |place| sheet.locate(place).to_string();
+    assert_eq!(words(20), "expression node 0: μx0.(N·(S ∨ ((x0·(x0)*)·S)))");
+    assert_eq!(words(31), "expression node 8: (x0)*");
+    assert_eq!(words(33), "number of expression node 9: x0");
+    for engine in engines() {
+        let (compiled, image) = compile_checked(engine, sheet.as_bytes(), 65_536, 65_536);
+        assert_eq!(compiled[0], 0);
+        let room = stack_length(10);
+        assert_eq!(run_checked(engine, &image, b"1 1/1 1///", room), [0, 10, 8]);
+    }
+
+    let (outer, inner) = (Expression::variable("outer"), Expression::variable("inner"));
+    let body = Expression::fix_named("inner", outer.then(inner).star());
+    let sheet = builder().finish(Expression::fix_named("outer", body.star()));
+    assert_eq!(sheet.unwrap().as_bytes()[20..], [5, 7, 5, 7, 3, 6, 1, 6, 0]);
+}
+
+#[test]
+fn a_refused_repetition_is_named() {
+    let (number, slash) = tokens();
+    let sheet = builder().finish(number.then(slash.star().star())).unwrap();
+    for engine in engines() {
+        let ([number, place, _], _) = compile_checked(engine, sheet.as_bytes(), 65_536, 0);
+        let refusal = Refusal {
+            number,
+            place: place as usize,
+            needed: 0,
+            tokens: 0,
+        };
+        assert_eq!(
+            refusal.to_string(),
+            "refused with 9 at place 23 of the sheet: Is the sequence separable, \
+             or the repetition's part separable from itself? No"
+        );
+        let part = sheet.locate(refusal.place);
+        assert_eq!(part.to_string(), "expression node 2: ((S)*)*");
+    }
+}
+
+#[test]
 fn a_variable_outside_its_fixed_point_is_refused() {
     let error = builder().finish(Expression::variable("x")).unwrap_err();
     assert_eq!(
@@ -136,6 +214,48 @@ fn limits() {
         assert_eq!(run_checked(engine, &image, b"", 0), [17, 0, 0]);
         assert_eq!(run_checked(engine, &image, b"h", 0), [17, 0, 0]);
     }
+}
+
+/// A repetition of 31 sequences has 64 nodes, and its tail is as long as a tail can be: after one byte
+/// the long enough stack is full.
+#[test]
+fn the_longest_tail_is_reached() {
+    let mut builder = SheetBuilder::new();
+    let a = builder.token("a");
+    builder.rule(a, Regex::byte(b'a'));
+    let row = (0..31).fold(Expression::token(a), |row, _| row.then(a));
+    let sheet = builder.finish(row.star()).unwrap();
+    for engine in engines() {
+        let (compiled, bytes) = compile_checked(engine, sheet.as_bytes(), 65_536, 65_536);
+        assert_eq!(compiled[0], 0);
+        let image = Parts::read(&bytes).unwrap();
+        // The right parts from the innermost on, then the repetition itself, which is the start.
+        let tail: Vec<usize> = (1..=31).chain([0]).collect();
+        assert_eq!(image.rows[0].productions, [(0, tail)]);
+        assert_eq!(stack_length(1), 32);
+        assert_eq!(run_checked(engine, &bytes, b"a", 32), [16, 1, 1]);
+        assert_eq!(run_checked(engine, &bytes, b"a", 31), [17, 0, 0]);
+        assert_eq!(run_checked(engine, &bytes, &[b'a'; 64], 32), [0, 64, 64]);
+    }
+}
+
+/// In every image a tail has at most 32 members, and the long enough stack is enough.
+#[test]
+fn tails_of_images_run_to_32() {
+    // One rule, one position and one nullable nonterminal, whose tail is itself so many times.
+    let image = |length: u8| {
+        let mut image = vec![1, 1, 0, 1, 97, 97, 0, 1, 0, 1, 1, 1, 1, 0, length];
+        image.resize(15 + usize::from(length), 0);
+        image
+    };
+    for engine in engines() {
+        let run = |length, room| run_checked(engine, &image(length), b"aaa", room);
+        assert_eq!(run(31, 1 + 30 * 3), [0, 3, 3]);
+        assert_eq!(run(32, 1 + 31 * 3), [0, 3, 3]);
+        assert_eq!(run(32, 31 * 3), [17, 2, 2]);
+        assert_eq!(run(33, 1 + 32 * 3), [13, 14, 0]);
+    }
+    assert_eq!(stack_length(3), 1 + 31 * 3);
 }
 
 /// With an `out` shorter than 3 nothing changes.

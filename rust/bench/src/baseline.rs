@@ -168,7 +168,8 @@ mod tests {
     /// off and damaged, on stacks long and short.
     #[test]
     fn baseline_and_reference_agree() {
-        for grammar in grammars::all() {
+        let pairs = grammars::pairs().into_iter().flatten();
+        for grammar in grammars::all().into_iter().chain(pairs) {
             let image = match image_of(grammar.sheet.as_bytes()) {
                 Ok(image) => image.to_bytes(),
                 Err(refusal) => {

@@ -1,6 +1,6 @@
-//! The grammars that are measured, each with a text that it accepts.
+//! The grammars that are measured, each with a text that it accepts. Nothing is measured here.
 
-use vinzagew::builder::{Expression, Regex, Sheet, SheetBuilder};
+use vinzagew::builder::{Expression, Regex, Sheet, SheetBuilder, Token};
 use vinzagew::TEXT_LIMIT;
 
 /// A grammar with a way to make texts.
@@ -13,9 +13,18 @@ pub struct Grammar {
     pub text: Vec<u8>,
 }
 
-/// All grammars.
+/// The grammars that the targets are about.
 pub fn all() -> Vec<Grammar> {
     vec![sheet_d(), s_expressions(), json(), csv()]
+}
+
+/// Grammars written with fixed points, each beside one that is written with repetitions. Both of a pair
+/// have the same rules and the same text.
+pub fn pairs() -> Vec<[Grammar; 2]> {
+    vec![
+        [json(), json_with_repetition()],
+        [csv(), csv_with_repetition()],
+    ]
 }
 
 /// Numbers that vary from one to the next and are the same in every run.
@@ -84,6 +93,27 @@ fn s_expressions() -> Grammar {
 
 /// JSON.
 fn json() -> Grammar {
+    json_with_lists("JSON", |item, comma, close| {
+        // An item and more of them after commas, up to the closing token; or none.
+        let more =
+            Expression::fix(|more| Expression::from(close).or(comma.then(item.clone().then(more))));
+        Expression::from(close).or(item.then(more))
+    })
+}
+
+/// JSON, with repetitions in its lists; the language is the same.
+fn json_with_repetition() -> Grammar {
+    json_with_lists("JSON with repetition", |item, comma, close| {
+        let items = item.clone().then(comma.then(item).star());
+        Expression::from(close).or(items.then(close))
+    })
+}
+
+/// JSON; `list` makes of an item, the comma and a closing token what may follow the opening one.
+fn json_with_lists(
+    name: &'static str,
+    list: impl Fn(Expression, Token, Token) -> Expression,
+) -> Grammar {
     let mut builder = SheetBuilder::new();
     let string = builder.token("string");
     let scalar = builder.token("scalar");
@@ -93,8 +123,38 @@ fn json() -> Grammar {
         token
     });
     let [open_object, close_object, open_array, close_array, comma, colon] = punctuation;
+    builder.rule(string, json_string());
+    builder.rule(scalar, json_number());
+    for word in [&b"true"[..], b"false", b"null"] {
+        builder.rule(scalar, Regex::literal(word));
+    }
+    builder.skip(Regex::alternative([
+        Regex::byte(b' '),
+        Regex::class(b'\t', b'\n'),
+        Regex::byte(b'\r'),
+    ]));
 
-    let digit = || Regex::class(b'0', b'9');
+    let value = Expression::fix(|value| {
+        let member = string.then(colon.then(value.clone())).label("member");
+        let members = list(member, comma, close_object);
+        let object = open_object.then(members).label("object");
+        let array = open_array
+            .then(list(value, comma, close_array))
+            .label("array");
+        Expression::alternative([string.into(), scalar.into(), object, array])
+    });
+    Grammar {
+        name,
+        sheet: builder.finish(value).expect("bound"),
+        text: json_text(),
+    }
+}
+
+fn digit() -> Regex {
+    Regex::class(b'0', b'9')
+}
+
+fn json_string() -> Regex {
     let hexadecimal =
         || Regex::alternative([digit(), Regex::class(b'A', b'F'), Regex::class(b'a', b'f')]);
     let escape = Regex::one_of(b"\"\\/bfnrt").or(Regex::sequence(
@@ -107,59 +167,61 @@ fn json() -> Grammar {
         Regex::byte(b'\\').then(escape),
     ]);
     let quote = || Regex::byte(b'"');
-    builder.rule(string, Regex::sequence([quote(), sign.star(), quote()]));
-    builder.rule(
-        scalar,
-        Regex::sequence([
-            Regex::byte(b'-').optional(),
-            Regex::byte(b'0').or(Regex::class(b'1', b'9').then(digit().star())),
-            Regex::byte(b'.').then(digit().plus()).optional(),
-            Regex::sequence([
-                Regex::one_of(b"eE"),
-                Regex::one_of(b"+-").optional(),
-                digit().plus(),
-            ])
-            .optional(),
-        ]),
-    );
-    for word in [&b"true"[..], b"false", b"null"] {
-        builder.rule(scalar, Regex::literal(word));
-    }
-    builder.skip(Regex::alternative([
-        Regex::byte(b' '),
-        Regex::class(b'\t', b'\n'),
-        Regex::byte(b'\r'),
-    ]));
+    Regex::sequence([quote(), sign.star(), quote()])
+}
 
-    let value = Expression::fix(|value| {
-        // An item and more of them after commas, up to the closing token; or none.
-        let list = |item: Expression, close| {
-            let more = Expression::fix(|more| {
-                Expression::from(close).or(comma.then(item.clone().then(more)))
-            });
-            Expression::from(close).or(item.then(more))
-        };
-        let member = string.then(colon.then(value.clone())).label("member");
-        let object = open_object.then(list(member, close_object)).label("object");
-        let array = open_array.then(list(value, close_array)).label("array");
-        Expression::alternative([string.into(), scalar.into(), object, array])
-    });
-    Grammar {
-        name: "JSON",
-        sheet: builder.finish(value).expect("bound"),
-        text: fill("[", "]", |state, first| {
-            let comma = if first { "" } else { "," };
-            let (one, other) = (varied(state), varied(state) % 1_000);
-            format!(
-                "{comma}\n  {{\"number\": {one}, \"name\": \"sample \\\"{other}\\\"\", \
-                 \"values\": [1.5, -2e+3, {other}, null], \"sown\": true}}"
-            )
-        }),
-    }
+fn json_number() -> Regex {
+    Regex::sequence([
+        Regex::byte(b'-').optional(),
+        Regex::byte(b'0').or(Regex::class(b'1', b'9').then(digit().star())),
+        Regex::byte(b'.').then(digit().plus()).optional(),
+        Regex::sequence([
+            Regex::one_of(b"eE"),
+            Regex::one_of(b"+-").optional(),
+            digit().plus(),
+        ])
+        .optional(),
+    ])
+}
+
+fn json_text() -> Vec<u8> {
+    fill("[", "]", |state, first| {
+        let comma = if first { "" } else { "," };
+        let (one, other) = (varied(state), varied(state) % 1_000);
+        format!(
+            "{comma}\n  {{\"number\": {one}, \"name\": \"sample \\\"{other}\\\"\", \
+             \"values\": [1.5, -2e+3, {other}, null], \"sown\": true}}"
+        )
+    })
 }
 
 /// Fields between commas and line ends; a field may be empty, bare or quoted.
 fn csv() -> Grammar {
+    csv_with_lines("CSV", |field, comma, end| {
+        Expression::fix(|file| {
+            let next = comma.then(file.clone()).or(end.then(file));
+            let after_field = Expression::epsilon().or(next.clone());
+            Expression::epsilon().or(field.then(after_field).or(next))
+        })
+    })
+}
+
+/// CSV as repeated lines, each of them repeated fields; here the last line ends with a line end too.
+fn csv_with_repetition() -> Grammar {
+    csv_with_lines("CSV with repetition", |field, comma, end| {
+        // A repetition is nullable, so none can be the left part of a sequence: what comes first in a
+        // line is written apart.
+        let next = comma.then(field.optional());
+        let line = field.or(next.clone()).then(next.star());
+        end.or(line.then(end)).star()
+    })
+}
+
+/// CSV; `file` makes of a field, the comma and the line end what is read.
+fn csv_with_lines(
+    name: &'static str,
+    file: impl FnOnce(Token, Token, Token) -> Expression,
+) -> Grammar {
     let mut builder = SheetBuilder::new();
     let field = builder.token("field");
     let comma = builder.token("comma");
@@ -181,14 +243,9 @@ fn csv() -> Grammar {
     builder.rule(field, Regex::sequence([quote(), quoted.star(), quote()]));
     builder.rule(comma, Regex::byte(b','));
     builder.rule(end, Regex::byte(b'\r').optional().then(Regex::byte(b'\n')));
-    let file = Expression::fix(|file| {
-        let next = comma.then(file.clone()).or(end.then(file));
-        let after_field = Expression::epsilon().or(next.clone());
-        Expression::epsilon().or(field.then(after_field).or(next))
-    });
     Grammar {
-        name: "CSV",
-        sheet: builder.finish(file).expect("bound"),
+        name,
+        sheet: builder.finish(file(field, comma, end)).expect("bound"),
         text: fill("number,name,place,count\n", "", |state, _| {
             let (one, other) = (varied(state), varied(state) % 1_000);
             format!("{one},\"plot {other}, \"\"north\"\"\",,{other}\r\n")

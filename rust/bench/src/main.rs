@@ -4,7 +4,7 @@
 //! compared with [`baseline`]. Compiling is compared with the reference implementation, which works on
 //! vectors. All buffers are lent and stay the same from round to round; both sides clear them as the
 //! contract says, and this time counts. Each figure is the median of several rounds, in which the two
-//! sides take turns.
+//! sides take turns; so do the two spellings of a grammar, with fixed points and with repetitions.
 
 mod baseline;
 mod grammars;
@@ -14,6 +14,7 @@ use std::time::{Duration, Instant};
 use vinzagew::{
     compile_into, run_with, stack_length, IMAGE_BYTES, LIBRARY_LINKED, TEXT_LIMIT, WORK_BYTES,
 };
+use vinzagew_reference::image::Image;
 
 const ROUNDS: usize = 9;
 
@@ -37,7 +38,14 @@ fn main() {
     println!("| Grammar | Image bytes | Positions | Text bytes | Tokens | Library, MiB/s | Baseline, MiB/s | Library time / baseline time |");
     println!("|---|---|---|---|---|---|---|---|");
     for grammar in &grammars {
-        run_row(grammar, &mut work, &mut image, &mut stack);
+        run_row(grammar, &mut stack);
+    }
+
+    println!("\nRunning, with fixed points / with repetitions, {ROUNDS} rounds, median:\n");
+    println!("| Grammar | Image bytes | Tokens | Library, ms | Baseline, ms |");
+    println!("|---|---|---|---|---|");
+    for pair in &grammars::pairs() {
+        pair_row(pair, &mut stack);
     }
 
     println!("\nCompiling, {ROUNDS} rounds, median:\n");
@@ -50,43 +58,106 @@ fn main() {
     }
 }
 
-fn run_row(grammar: &Grammar, work: &mut [u8], image: &mut [u8], stack: &mut [u8]) {
-    let compiled = vinzagew_reference::compile(grammar.sheet.as_bytes(), work, image);
-    assert_eq!(compiled.number, 0, "{}", grammar.name);
-    let image = &image[..compiled.length];
-    let text = &grammar.text[..];
-    let stack = &mut stack[..stack_length(text.len())];
+/// What running a grammar's image over its text showed; the times are medians.
+struct Figures {
+    image_bytes: usize,
+    positions: usize,
+    tokens: usize,
+    library: Option<Duration>,
+    baseline: Option<Duration>,
+}
 
-    let [number, _, tokens] = baseline::run(image, text, stack);
-    assert_eq!(number, 0, "{}", grammar.name);
-    if LIBRARY_LINKED {
-        assert_eq!(run_with(image, text, stack), Ok(tokens), "{}", grammar.name);
-    }
-    let parts = vinzagew_reference::image::Image::read(image).expect("compiled");
-
-    let mut own = Vec::new();
-    let mut other = Vec::new();
+/// Runs the images of some grammars over their texts; in each round they take turns.
+fn run_figures(grammars: &[Grammar], stack: &mut [u8]) -> Vec<Figures> {
+    let images: Vec<Vec<u8>> = grammars.iter().map(image_bytes).collect();
+    let cases = grammars.iter().zip(&images);
+    let tokens: Vec<usize> = cases
+        .map(|(grammar, image)| accepted_tokens(grammar, image, stack))
+        .collect();
+    let mut library = vec![Vec::new(); grammars.len()];
+    let mut baseline = vec![Vec::new(); grammars.len()];
     for _ in 0..ROUNDS {
-        if LIBRARY_LINKED {
-            own.push(time(1, || {
-                black_box(run_with(black_box(image), black_box(text), stack)).ok();
+        for (index, grammar) in grammars.iter().enumerate() {
+            let (image, text) = (&images[index][..], &grammar.text[..]);
+            let stack = &mut stack[..stack_length(text.len())];
+            if LIBRARY_LINKED {
+                library[index].push(time(1, || {
+                    black_box(run_with(black_box(image), black_box(text), stack)).ok();
+                }));
+            }
+            baseline[index].push(time(1, || {
+                black_box(baseline::run(black_box(image), black_box(text), stack));
             }));
         }
-        other.push(time(1, || {
-            black_box(baseline::run(black_box(image), black_box(text), stack));
-        }));
     }
-    let (own, other) = (median(own), median(other));
-    let speed = |time: Duration| text.len() as f64 / (1 << 20) as f64 / time.as_secs_f64();
+    (0..grammars.len())
+        .map(|index| Figures {
+            image_bytes: images[index].len(),
+            positions: Image::read(&images[index])
+                .expect("compiled")
+                .positions
+                .len(),
+            tokens: tokens[index],
+            library: median(&mut library[index]),
+            baseline: median(&mut baseline[index]),
+        })
+        .collect()
+}
+
+fn image_bytes(grammar: &Grammar) -> Vec<u8> {
+    match vinzagew_reference::image_of(grammar.sheet.as_bytes()) {
+        Ok(image) => image.to_bytes(),
+        Err(refusal) => panic!("{}: {refusal:?}", grammar.name),
+    }
+}
+
+/// The tokens of the grammar's text, which both sides must accept.
+fn accepted_tokens(grammar: &Grammar, image: &[u8], stack: &mut [u8]) -> usize {
+    let stack = &mut stack[..stack_length(grammar.text.len())];
+    let [number, _, tokens] = baseline::run(image, &grammar.text, stack);
+    assert_eq!(number, 0, "{}", grammar.name);
+    if LIBRARY_LINKED {
+        let ran = run_with(image, &grammar.text, stack);
+        assert_eq!(ran, Ok(tokens), "{}", grammar.name);
+    }
+    tokens
+}
+
+fn run_row(grammar: &Grammar, stack: &mut [u8]) {
+    for figures in run_figures(std::slice::from_ref(grammar), stack) {
+        let mebibytes = grammar.text.len() as f64 / (1 << 20) as f64;
+        let speed = |time: Duration| mebibytes / time.as_secs_f64();
+        println!(
+            "| {} | {} | {} | {} | {} | {} | {} | {} |",
+            grammar.name,
+            figures.image_bytes,
+            figures.positions,
+            grammar.text.len(),
+            figures.tokens,
+            shown(figures.library.map(speed)),
+            shown(figures.baseline.map(speed)),
+            shown(ratio(figures.library, figures.baseline)),
+        );
+    }
+}
+
+fn pair_row(pair: &[Grammar; 2], stack: &mut [u8]) {
+    let figures = run_figures(pair, stack);
+    let both = |shown: &dyn Fn(&Figures) -> String| {
+        let shown: Vec<String> = figures.iter().map(shown).collect();
+        shown.join(" / ")
+    };
+    let milliseconds = |time: Option<Duration>| match time {
+        None => "–".to_owned(),
+        Some(time) => format!("{:.1}", time.as_secs_f64() * 1e3),
+    };
     println!(
-        "| {} | {} | {} | {} | {tokens} | {} | {} | {} |",
-        grammar.name,
-        image.len(),
-        parts.positions.len(),
-        text.len(),
-        shown(own.map(speed)),
-        shown(other.map(speed)),
-        shown(ratio(own, other)),
+        "| {} | {} | {} | {} | {} |",
+        pair[0].name,
+        both(&|figures| figures.image_bytes.to_string()),
+        both(&|figures| figures.tokens.to_string()),
+        both(&|figures| milliseconds(figures.library)),
+        both(&|figures| milliseconds(figures.baseline)),
     );
 }
 
@@ -105,7 +176,7 @@ fn compile_row(grammar: &Grammar, work: &mut [u8], image: &mut [u8]) {
             black_box(vinzagew_reference::compile(black_box(sheet), work, image));
         }));
     }
-    let (own, other) = (median(own), median(other));
+    let (own, other) = (median(&mut own), median(&mut other));
     let microseconds = |time: Duration| time.as_secs_f64() * 1e6;
     println!(
         "| {} | {} | {} | {} | {} |",
@@ -126,7 +197,7 @@ fn time(repeats: u32, mut call: impl FnMut()) -> Duration {
     start.elapsed() / repeats
 }
 
-fn median(mut times: Vec<Duration>) -> Option<Duration> {
+fn median(times: &mut [Duration]) -> Option<Duration> {
     times.sort_unstable();
     times.get(times.len() / 2).copied()
 }

@@ -112,34 +112,45 @@ impl Chart {
             count,
             holds: vec![false; nodes.len() * (count + 1) * (count + 1)],
         };
-        loop {
-            let mut changed = false;
-            for (node, Node { kind, .. }) in nodes.iter().enumerate().rev() {
-                for from in 0..=count {
-                    for to in from..=count {
-                        let holds = match *kind {
-                            Kind::Epsilon => from == to,
-                            Kind::Bottom => false,
-                            Kind::Token(token) => tokens[from..to] == [token],
-                            Kind::Sequence(left, right) => (from..=to).any(|middle| {
-                                chart.get(left, from, middle) && chart.get(right, middle, to)
-                            }),
-                            Kind::Alternative(left, right) => {
-                                chart.get(left, from, to) || chart.get(right, from, to)
-                            }
-                            Kind::Fix(other) | Kind::Variable(other) => chart.get(other, from, to),
-                        };
-                        let index = chart.index(node, from, to);
-                        if holds && !chart.holds[index] {
-                            chart.holds[index] = true;
-                            changed = true;
-                        }
-                    }
+        let spans: Vec<(usize, usize)> = (0..=count)
+            .flat_map(|from| (from..=count).map(move |to| (from, to)))
+            .collect();
+        let mut changed = true;
+        while changed {
+            changed = false;
+            for node in (0..nodes.len()).rev() {
+                for &(from, to) in &spans {
+                    let index = chart.index(node, from, to);
+                    let new = !chart.holds[index] && chart.equation(nodes, tokens, node, from, to);
+                    chart.holds[index] |= new;
+                    changed |= new;
                 }
             }
-            if !changed {
-                return chart;
-            }
+        }
+        chart
+    }
+
+    /// What the equation of a node says of the tokens between two places.
+    fn equation(
+        &self,
+        nodes: &[Node],
+        tokens: &[u64],
+        node: usize,
+        from: usize,
+        to: usize,
+    ) -> bool {
+        let in_a_row = |left, right| {
+            (from..=to).any(|middle| self.get(left, from, middle) && self.get(right, middle, to))
+        };
+        match nodes[node].kind {
+            Kind::Epsilon => from == to,
+            Kind::Bottom => false,
+            Kind::Token(token) => tokens[from..to] == [token],
+            Kind::Sequence(left, right) => in_a_row(left, right),
+            Kind::Alternative(left, right) => self.get(left, from, to) || self.get(right, from, to),
+            Kind::Fix(other) | Kind::Variable(other) => self.get(other, from, to),
+            // μβ.(ε ∨ part·β)
+            Kind::Repetition(part) => from == to || in_a_row(part, node),
         }
     }
 }
@@ -149,38 +160,52 @@ pub fn denotes(nodes: &[Node], tokens: &[u64]) -> bool {
     Chart::new(nodes, tokens).get(0, 0, tokens.len())
 }
 
+/// For each node and each place, whether some sequence that the node denotes begins with the tokens
+/// from the place on. For the last place this says that the node denotes some sequence at all.
+type Fronts = Vec<Vec<bool>>;
+
 /// Whether some sequence that the expression denotes begins with the tokens.
 pub fn begins(nodes: &[Node], tokens: &[u64]) -> bool {
-    let count = tokens.len();
     let chart = Chart::new(nodes, tokens);
-    // `fronts[node][from]`: whether some sequence of the node begins with the tokens from `from` on.
-    // For `from` equal to `count` this says that the node denotes some sequence at all.
-    let mut fronts = vec![vec![false; count + 1]; nodes.len()];
-    loop {
-        let mut changed = false;
-        for (node, Node { kind, .. }) in nodes.iter().enumerate().rev() {
-            for from in 0..=count {
-                let holds = match *kind {
-                    Kind::Epsilon => from == count,
-                    Kind::Bottom => false,
-                    Kind::Token(token) => [token].starts_with(&tokens[from..]),
-                    Kind::Sequence(left, right) => {
-                        (fronts[left][from] && fronts[right][count])
-                            || (from..=count).any(|middle| {
-                                chart.get(left, from, middle) && fronts[right][middle]
-                            })
-                    }
-                    Kind::Alternative(left, right) => fronts[left][from] || fronts[right][from],
-                    Kind::Fix(other) | Kind::Variable(other) => fronts[other][from],
-                };
-                if holds && !fronts[node][from] {
-                    fronts[node][from] = true;
-                    changed = true;
-                }
+    let mut fronts: Fronts = vec![vec![false; tokens.len() + 1]; nodes.len()];
+    let mut changed = true;
+    while changed {
+        changed = false;
+        for node in (0..nodes.len()).rev() {
+            for from in 0..=tokens.len() {
+                let new =
+                    !fronts[node][from] && begins_from(nodes, tokens, &chart, &fronts, node, from);
+                fronts[node][from] |= new;
+                changed |= new;
             }
         }
-        if !changed {
-            return fronts[0][0];
-        }
+    }
+    fronts[0][0]
+}
+
+/// What the equation of a node says of the tokens from a place on.
+fn begins_from(
+    nodes: &[Node],
+    tokens: &[u64],
+    chart: &Chart,
+    fronts: &Fronts,
+    node: usize,
+    from: usize,
+) -> bool {
+    let count = tokens.len();
+    // The tokens end within the left part or within the right one.
+    let in_a_row = |left: usize, right: usize| {
+        (fronts[left][from] && fronts[right][count])
+            || (from..=count).any(|middle| chart.get(left, from, middle) && fronts[right][middle])
+    };
+    match nodes[node].kind {
+        Kind::Epsilon => from == count,
+        Kind::Bottom => false,
+        Kind::Token(token) => [token].starts_with(&tokens[from..]),
+        Kind::Sequence(left, right) => in_a_row(left, right),
+        Kind::Alternative(left, right) => fronts[left][from] || fronts[right][from],
+        Kind::Fix(other) | Kind::Variable(other) => fronts[other][from],
+        // μβ.(ε ∨ part·β)
+        Kind::Repetition(part) => from == count || in_a_row(part, node),
     }
 }

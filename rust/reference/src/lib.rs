@@ -1,9 +1,9 @@
 //! A plain implementation of compiling sheets and running images.
 //!
-//! It was written from the contract (document 01) alone, without a look at the proved code, and it is
-//! made to be read, not to be fast. Its two main functions, [`sheet_compile`] and [`image_run`], have
-//! the same results and the same effects on every buffer as the functions of the static library, so
-//! that the two can be compared to the last byte.
+//! It was written from the contract (document 01 with request 1 of document 02) alone, without a look at
+//! the proved code, and it is made to be read, not to be fast. Its two main functions, [`sheet_compile`]
+//! and [`image_run`], have the same results and the same effects on every buffer as the functions of the
+//! static library, so that the two can be compared to the last byte.
 //!
 //! [`answer()`] works out the sheet's own answer in another way: from the words of the regexes and from
 //! what the expression denotes, with no image and no machine.
@@ -54,9 +54,10 @@ pub const SHEET_LIMIT: usize = 4_096;
 pub const TEXT_LIMIT: usize = 1_048_576;
 
 /// The most members that a production's tail has.
-pub const TAIL_LIMIT: usize = 31;
+pub const TAIL_LIMIT: usize = 32;
 
-/// "A long enough stack" for a text of so many bytes.
+/// "A long enough stack" for a text of so many bytes: a token has one byte at least, and a take removes
+/// one pending nonterminal at least and adds a tail.
 pub const fn stack_length(text_length: usize) -> usize {
     1 + (TAIL_LIMIT - 1) * text_length
 }

@@ -17,23 +17,32 @@ pub fn productions(nodes: &[Node], node: usize) -> Vec<Production> {
         Kind::Epsilon => vec![Production::Epsilon],
         Kind::Bottom => Vec::new(),
         Kind::Token(token) => vec![Production::Token(token, Vec::new())],
-        Kind::Sequence(left, right) => {
-            let mut productions = productions(nodes, left);
-            for production in &mut productions {
-                match production {
-                    Production::Token(_, tail) => tail.push(right),
-                    Production::Epsilon => unreachable!("question 9 refuses a nullable left part"),
-                }
-            }
-            productions
-        }
+        Kind::Sequence(left, right) => followed_by(productions(nodes, left), right),
         Kind::Alternative(left, right) => {
             let mut both = productions(nodes, left);
             both.extend(productions(nodes, right));
             both
         }
         Kind::Fix(other) | Kind::Variable(other) => productions(nodes, other),
+        Kind::Repetition(part) => {
+            let mut row = vec![Production::Epsilon];
+            row.extend(followed_by(productions(nodes, part), node));
+            row
+        }
     }
+}
+
+/// The productions with a node added at the end of each tail.
+fn followed_by(mut productions: Vec<Production>, node: usize) -> Vec<Production> {
+    for production in &mut productions {
+        match production {
+            Production::Token(_, tail) => tail.push(node),
+            Production::Epsilon => {
+                unreachable!("question 9 refuses a nullable left part and a nullable repeated part")
+            }
+        }
+    }
+    productions
 }
 
 /// For each node, whether it derives some token sequence.
@@ -43,7 +52,8 @@ pub fn fruitful(nodes: &[Node]) -> Vec<bool> {
         let next: Vec<bool> = nodes
             .iter()
             .map(|node| match node.kind {
-                Kind::Epsilon | Kind::Token(_) => true,
+                // A repetition derives the empty sequence, whatever its part derives.
+                Kind::Epsilon | Kind::Token(_) | Kind::Repetition(_) => true,
                 Kind::Bottom => false,
                 Kind::Sequence(left, right) => fruitful[left] && fruitful[right],
                 Kind::Alternative(left, right) => fruitful[left] || fruitful[right],

@@ -84,6 +84,8 @@ pub enum Kind {
     Fix(usize),
     /// A variable, with its fixed point.
     Variable(usize),
+    /// Any number of sequences of the part in a row.
+    Repetition(usize),
 }
 
 impl Sheet {
@@ -192,10 +194,9 @@ impl Parser<'_> {
         })
     }
 
-    /// Reads one expression and gives the index of its first node; `open` has the open fixed points,
-    /// the innermost last.
-    fn expression(&mut self, open: &mut Vec<usize>) -> Result<usize, Refusal> {
-        let tag = self.number(|value| value <= 6)?;
+    /// Reads one tag of the expression, adds its node, and gives both.
+    fn expression_tag(&mut self) -> Result<(u64, usize), Refusal> {
+        let tag = self.number(|value| value <= 7)?;
         let node = self.nodes.len();
         if node == NODE_LIMIT {
             return Err(Refusal {
@@ -208,8 +209,15 @@ impl Parser<'_> {
             place: tag.place,
             kind: Kind::Bottom,
         });
+        Ok((tag.value, node))
+    }
+
+    /// Reads one expression and gives the index of its first node; `open` has the open fixed points,
+    /// the innermost last.
+    fn expression(&mut self, open: &mut Vec<usize>) -> Result<usize, Refusal> {
+        let (tag, node) = self.expression_tag()?;
         let tokens = self.tokens;
-        let kind = match tag.value {
+        let kind = match tag {
             0 => Kind::Epsilon,
             1 => Kind::Bottom,
             2 => Kind::Token(self.number(|value| value < tokens)?.value),
@@ -227,10 +235,12 @@ impl Parser<'_> {
                 open.pop();
                 Kind::Fix(body)
             }
-            _ => {
+            6 => {
                 let between = self.number(|value| value < open.len() as u64)?.value;
                 Kind::Variable(open[open.len() - 1 - between as usize])
             }
+            // A repetition is no fixed point in a variable's count: the open ones stay as they are.
+            _ => Kind::Repetition(self.expression(open)?),
         };
         self.nodes[node].kind = kind;
         Ok(node)

@@ -15,6 +15,13 @@ pub struct Type {
 }
 
 impl Type {
+    /// The type of ε.
+    const EPSILON: Type = Type {
+        nullable: true,
+        first: 0,
+        follow_last: 0,
+    };
+
     fn only_if(condition: bool, set: u32) -> u32 {
         if condition {
             set
@@ -55,11 +62,9 @@ pub fn least_types(nodes: &[Node]) -> Vec<Type> {
     loop {
         let next: Vec<Type> = nodes
             .iter()
-            .map(|node| match node.kind {
-                Kind::Epsilon => Type {
-                    nullable: true,
-                    ..Type::default()
-                },
+            .enumerate()
+            .map(|(index, node)| match node.kind {
+                Kind::Epsilon => Type::EPSILON,
                 Kind::Bottom => Type::default(),
                 Kind::Token(token) => Type {
                     first: 1 << token,
@@ -68,6 +73,10 @@ pub fn least_types(nodes: &[Node]) -> Vec<Type> {
                 Kind::Sequence(left, right) => types[left].sequence(types[right]),
                 Kind::Alternative(left, right) => types[left].alternative(types[right]),
                 Kind::Fix(other) | Kind::Variable(other) => types[other],
+                // As μβ.(ε ∨ part·β), where β has the repetition's own type.
+                Kind::Repetition(part) => {
+                    Type::EPSILON.alternative(types[part].sequence(types[index]))
+                }
             })
             .collect();
         if next == types {
@@ -117,5 +126,10 @@ fn check_node(
             check_node(nodes, types, right, gamma, delta)
         }
         Kind::Fix(body) => check_node(nodes, types, body, gamma, delta | 1 << node),
+        // The part is the left part of the sequence in μβ.(ε ∨ part·β): both contexts stay.
+        Kind::Repetition(part) => {
+            demand(9, types[part].separable(types[part]))?;
+            check_node(nodes, types, part, gamma, delta)
+        }
     }
 }

@@ -1,4 +1,4 @@
-//! The contract's worked cases.
+//! The contract's worked cases, and those of request 1 of document 02: no random ones.
 
 use vinzagew_reference::sheet::Sheet;
 use vinzagew_reference::{answer, compile, run, stack_length, Compiled, Ran};
@@ -66,6 +66,60 @@ fn other_expressions() {
     assert_eq!(compiled(&with_rules(&ends_in(1))).0.number, 0);
 }
 
+/// Request 1 of document 02: tag 7.
+#[test]
+fn repetitions_and_their_readings() {
+    // N·(S·N)*
+    let sheet = with_rules(&[3, 2, 0, 7, 3, 2, 1, 2, 0]);
+    let rows = [3, 0, 1, 0, 1, 1, 1, 1, 1, 2, 2, 1, 0, 1, 0, 0];
+    assert_eq!(compiled(&sheet).1, [&IMAGE[..27], &rows].concat());
+    assert_eq!(read(&sheet, b"12/7"), (0, 4, 3));
+    assert_eq!(read(&sheet, b"12//7"), (15, 3, 2));
+    assert_eq!(read(&sheet, b"12/"), (16, 3, 2));
+
+    // (N)*, whose tail is the start
+    let sheet = with_rules(&[7, 2, 0]);
+    let rows = [1, 1, 1, 0, 1, 0];
+    assert_eq!(compiled(&sheet).1, [&IMAGE[..27], &rows].concat());
+    assert_eq!(read(&sheet, b""), (0, 0, 0));
+    assert_eq!(read(&sheet, b"1 2 3"), (0, 5, 3));
+    assert_eq!(read(&sheet, b"1 2/"), (15, 3, 2));
+
+    // (⊥)*
+    let sheet = with_rules(&[7, 1]);
+    assert_eq!(compiled(&sheet).1, [&IMAGE[..27], &[1, 1, 0]].concat());
+    assert_eq!(read(&sheet, b" "), (0, 1, 0));
+    assert_eq!(read(&sheet, b"1"), (15, 0, 0));
+}
+
+#[test]
+fn repetitions_that_are_refused() {
+    // (ε)*, (ε ∨ N)*, ((N)*)*, (N·(N)*)*
+    assert_eq!(refusal(&[7, 0]), (9, 20));
+    assert_eq!(refusal(&[7, 4, 0, 2, 0]), (9, 20));
+    assert_eq!(refusal(&[7, 7, 2, 0]), (9, 20));
+    assert_eq!(refusal(&[7, 3, 2, 0, 7, 2, 0]), (9, 20));
+    // (N·(S)*)·S, (N ∨ N)*, μα.(α)*, μα.N·(S·α)*
+    assert_eq!(refusal(&[3, 3, 2, 0, 7, 2, 1, 2, 1]), (9, 20));
+    assert_eq!(refusal(&[7, 4, 2, 0, 2, 0]), (10, 21));
+    assert_eq!(refusal(&[5, 7, 6, 0]), (9, 21));
+    assert_eq!(refusal(&[5, 3, 2, 0, 7, 3, 2, 1, 6, 0]), (9, 24));
+    // A repetition without its part, and a tag that is none.
+    assert_eq!(refusal(&[7]), (3, 21));
+    assert_eq!(refusal(&[8]), (4, 20));
+}
+
+/// Brackets, μα.N·(S ∨ (α·(α)*)·S): the variable in the repetition counts past it.
+#[test]
+fn a_repetition_is_no_fixed_point_in_the_count() {
+    let brackets = |count| [5, 3, 2, 0, 4, 2, 1, 3, 3, 6, 0, 7, 6, count, 2, 1];
+    let sheet = with_rules(&brackets(0));
+    assert_eq!(read(&sheet, b"1 1/1 1///"), (0, 10, 8));
+    assert_eq!(read(&sheet, b"1 1/1 1//"), (16, 9, 7));
+    assert_eq!(read(&sheet, b"1 1//1"), (15, 5, 4));
+    assert_eq!(refusal(&brackets(1)), (4, 33));
+}
+
 #[test]
 fn an_expression_that_denotes_nothing() {
     let (result, image) = compiled(&with_rules(&[5, 3, 2, 0, 6, 0]));
@@ -83,6 +137,9 @@ fn limits() {
     // Each pair is two nodes, and the end two more.
     assert_eq!(compiled(&with_rules(&sequence(31))).0.number, 0);
     assert_eq!(refusal(&sequence(32)), (5, 20 + 32 * 3));
+    let repetition = |pairs: usize| [&[7], &[3, 2, 0].repeat(pairs)[..], &[2, 0]].concat();
+    assert_eq!(compiled(&with_rules(&repetition(31))).0.number, 0);
+    assert_eq!(refusal(&repetition(32)), (5, 20 + 1 + 31 * 3 + 1));
 
     let sheet = with_rules(&EXPRESSION);
     let mut image = [0xa5; 47];

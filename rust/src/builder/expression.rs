@@ -95,6 +95,8 @@ pub enum Expression {
     Fix(Variable, Box<Expression>),
     /// A variable.
     Variable(Variable),
+    /// Any number of sequences of the part in a row.
+    Repetition(Box<Expression>),
     /// An expression with a label for [`Sheet::locate`](super::Sheet::locate); nothing is written for it.
     Labelled(String, Box<Expression>),
 }
@@ -173,12 +175,26 @@ impl Expression {
         Expression::Alternative(Box::new(self), Box::new(other.into()))
     }
 
-    /// Any number of times this, as the fixed point μx.(ε ∨ this·x).
+    /// Any number of times this, as a repetition. It means μx.(ε ∨ this·x), but it is one node, and
+    /// variables count past it.
+    ///
+    /// This must be separable from itself: it is not nullable, and no token that may follow its last
+    /// token may begin it. Compiling refuses any other with 9 at the repetition.
+    ///
+    /// ```
+    /// # use vinzagew::builder::{Regex, SheetBuilder};
+    /// let mut builder = SheetBuilder::new();
+    /// let a = builder.token("a");
+    /// builder.rule(a, Regex::byte(b'a'));
+    /// let sheet = builder.finish(a.star())?;
+    /// assert!(sheet.as_bytes().ends_with(&[7, 2, 0]));
+    /// # Ok::<(), vinzagew::builder::UnboundVariable>(())
+    /// ```
     pub fn star(self) -> Expression {
-        Expression::fix(|more| Expression::Epsilon.or(self.then(more)))
+        Expression::Repetition(Box::new(self))
     }
 
-    /// One or more times this: this, then its star. Its nodes count twice.
+    /// One or more times this: this, then its star, this·(this)*. Its nodes count twice.
     pub fn plus(self) -> Expression {
         self.clone().then(self.star())
     }

@@ -8,7 +8,7 @@
 //! value ranges and types are the compiler's business.
 //!
 //! ```
-//! use vinzagew::builder::{Expression, Regex, SheetBuilder};
+//! use vinzagew::builder::{Regex, SheetBuilder};
 //!
 //! let mut builder = SheetBuilder::new();
 //! let number = builder.token("N");
@@ -20,11 +20,11 @@
 //! assert_eq!(
 //!     sheet.to_bytes(),
 //!     [
-//!         1, 2, 3, 1, 2, 1, 48, 57, 4, 1, 48, 57, 2, 1, 47, 47, 0, 1, 32, 32, 3, 2, 0, 5, 4, 0, 3, 3,
-//!         2, 1, 2, 0, 6, 0,
+//!         1, 2, 3, 1, 2, 1, 48, 57, 4, 1, 48, 57, 2, 1, 47, 47, 0, 1, 32, 32, 3, 2, 0, 7, 3, 2, 1, 2,
+//!         0,
 //!     ]
 //! );
-//! assert_eq!(sheet.locate(20).to_string(), "expression node 0: (N·μx2.(ε ∨ ((S·N)·x2)))");
+//! assert_eq!(sheet.locate(20).to_string(), "expression node 0: (N·(S·N)*)");
 //! assert_eq!(sheet.locate(12).to_string(), "action of rule 1 (returns S)");
 //! # Ok::<(), vinzagew::builder::UnboundVariable>(())
 //! ```

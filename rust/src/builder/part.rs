@@ -155,38 +155,26 @@ impl<'a> Numbers<'a> {
             expression,
             label,
         };
+        self.push(expression_tag(expression), kind(Field::Tag));
         match expression {
-            Expression::Epsilon => self.push(0, kind(Field::Tag)),
-            Expression::Bottom => self.push(1, kind(Field::Tag)),
-            Expression::Token(token) => {
-                self.push(2, kind(Field::Tag));
-                self.push(token.0 as u64, kind(Field::Token));
-            }
-            Expression::Sequence(left, right) => {
-                self.push(3, kind(Field::Tag));
-                self.expression(left, label, open)?;
-                self.expression(right, label, open)?;
-            }
-            Expression::Alternative(left, right) => {
-                self.push(4, kind(Field::Tag));
+            Expression::Epsilon | Expression::Bottom => {}
+            Expression::Token(token) => self.push(token.0 as u64, kind(Field::Token)),
+            Expression::Sequence(left, right) | Expression::Alternative(left, right) => {
                 self.expression(left, label, open)?;
                 self.expression(right, label, open)?;
             }
             Expression::Fix(variable, body) => {
-                self.push(5, kind(Field::Tag));
                 open.push((variable, node));
                 self.expression(body, label, open)?;
                 open.pop();
             }
             Expression::Variable(variable) => {
-                let between = open.iter().rev().position(|(other, _)| *other == variable);
-                let between = between.ok_or_else(|| UnboundVariable {
-                    variable: variable.clone(),
-                })?;
-                self.binders[node] = open[open.len() - 1 - between].1;
-                self.push(6, kind(Field::Tag));
+                let (between, fix) = binder(variable, open)?;
+                self.binders[node] = fix;
                 self.push(between as u64, kind(Field::Variable));
             }
+            // A repetition is no fixed point in a variable's count.
+            Expression::Repetition(part) => self.expression(part, label, open)?,
             Expression::Labelled(..) => unreachable!("taken off above"),
         }
         Ok(())
@@ -199,6 +187,35 @@ impl<'a> Numbers<'a> {
             write_number(&mut bytes, *value);
         }
         bytes
+    }
+}
+
+/// How many open fixed points lie between a variable and its own, and the node of its own.
+fn binder(
+    variable: &Variable,
+    open: &[(&Variable, usize)],
+) -> Result<(usize, usize), UnboundVariable> {
+    let mut inner_first = open.iter().rev().enumerate();
+    match inner_first.find(|(_, (other, _))| *other == variable) {
+        Some((between, (_, fix))) => Ok((between, *fix)),
+        None => Err(UnboundVariable {
+            variable: variable.clone(),
+        }),
+    }
+}
+
+/// The tag of an expression that is not a label.
+fn expression_tag(expression: &Expression) -> u64 {
+    match expression {
+        Expression::Epsilon => 0,
+        Expression::Bottom => 1,
+        Expression::Token(_) => 2,
+        Expression::Sequence(..) => 3,
+        Expression::Alternative(..) => 4,
+        Expression::Fix(..) => 5,
+        Expression::Variable(_) => 6,
+        Expression::Repetition(_) => 7,
+        Expression::Labelled(..) => unreachable!("nothing is written for a label"),
     }
 }
 
@@ -316,7 +333,24 @@ impl Shown<'_> {
                 let name = name(variable);
                 format!("μ{name}.{}", self.show(body))
             }
+            Expression::Repetition(part) => {
+                let shown = self.show(part);
+                if has_brackets(part) {
+                    format!("{shown}*")
+                } else {
+                    format!("({shown})*")
+                }
+            }
             Expression::Labelled(..) => unreachable!("taken off above"),
         }
+    }
+}
+
+/// Whether an expression is shown with brackets around it.
+fn has_brackets(expression: &Expression) -> bool {
+    match expression {
+        Expression::Sequence(..) | Expression::Alternative(..) => true,
+        Expression::Labelled(_, part) => has_brackets(part),
+        _ => false,
     }
 }

@@ -174,11 +174,14 @@ impl Typed<'_> {
 
     /// An expression of at most `size` nodes that has a type within the bounds.
     fn expression(&mut self, size: usize, bounds: Bounds, open: &[Open]) -> Expression {
-        if size < 3 || self.random.once_in(16) {
+        let repeats = bounds.nullable && self.random.once_in(3);
+        let least = if repeats { 2 } else { 3 };
+        if size < least || self.random.once_in(16) {
             return self.leaf(bounds, open);
         }
         let several = bounds.nullable || bounds.first.count_ones() > 1;
         let made = match self.random.below(8) {
+            _ if repeats => self.repetition(size, bounds, open),
             0..=2 if several => self.alternative(size, bounds, open, open),
             3 => self.fix(size, bounds, open),
             _ => self.sequence(size, bounds, open),
@@ -227,13 +230,45 @@ impl Typed<'_> {
         left.or(self.expression(size - 1 - left_size, right, open_right))
     }
 
+    /// A repetition, for bounds that allow a nullable expression.
+    fn repetition(&mut self, size: usize, bounds: Bounds, open: &[Open]) -> Expression {
+        // What begins the part may also follow the last token.
+        let allowed = bounds.first & !bounds.avoid;
+        let mut first = self.subset(allowed);
+        // Often the part is made so that some variable fits.
+        let wanted: Vec<u32> = open
+            .iter()
+            .map(|open| open.bounds.first)
+            .filter(|wanted| wanted & !allowed == 0)
+            .collect();
+        if !wanted.is_empty() && self.random.once_in(2) {
+            first = *self.random.pick(&wanted);
+        }
+        let mut part = Bounds {
+            first,
+            nullable: self.slip(),
+            avoid: bounds.avoid | first,
+        };
+        if self.slip() {
+            part.avoid = 0;
+        }
+        if self.random.once_in(40) {
+            return Expression::bottom().star();
+        }
+        self.expression(size - 1, part, open).star()
+    }
+
     fn fix(&mut self, size: usize, bounds: Bounds, open: &[Open]) -> Expression {
-        // The closer the bounds, the more places the variable fits.
-        let more = self.random.next() & self.random.next();
+        // The closer the bounds, the more places the variable fits. In a repetition it must avoid its
+        // own first set.
+        let mut more = (self.random.next() & self.random.next()) as u32;
+        if self.random.once_in(3) {
+            more |= bounds.first;
+        }
         let bounds = Bounds {
             first: bounds.first,
             nullable: bounds.nullable && !self.random.once_in(3),
-            avoid: bounds.avoid | more as u32,
+            avoid: bounds.avoid | more,
         };
         let several = bounds.nullable || bounds.first.count_ones() > 1;
         Expression::fix(|variable| {
@@ -333,14 +368,60 @@ fn typed_sheet(random: &mut Random, slips: bool) -> Sheet {
     builder.finish(expression).expect("every variable is open")
 }
 
-/// A sheet whose productions have long tails: tokens in a row, nested to the left.
+/// The most sequences that an expression of 64 nodes has.
+const MOST_SEQUENCES: usize = 31;
+
+/// A sheet whose productions have long tails: tokens in a row, nested to the left, and often repeated.
 pub fn long_tailed_sheet(random: &mut Random) -> Sheet {
     let (builder, tokens) = rules(random);
+    let sequences = match random.below(3) {
+        0 => MOST_SEQUENCES,
+        _ => random.range(1, MOST_SEQUENCES),
+    };
     let mut chain = Expression::token(*random.pick(&tokens));
-    for _ in 0..random.range(1, TAIL_LIMIT) {
+    for _ in 0..sequences {
         chain = chain.then(*random.pick(&tokens));
     }
+    // A row of tokens has an empty follow-last set, so it is separable from itself.
+    if random.once_in(2) {
+        chain = chain.star();
+    }
     builder.finish(chain).expect("there are no variables")
+}
+
+/// The expression with each repetition written as the fixed point that it stands for.
+fn spelled_out(expression: &Expression) -> Expression {
+    match expression {
+        Expression::Repetition(part) => {
+            Expression::fix(|more| Expression::epsilon().or(spelled_out(part).then(more)))
+        }
+        Expression::Sequence(left, right) => spelled_out(left).then(spelled_out(right)),
+        Expression::Alternative(left, right) => spelled_out(left).or(spelled_out(right)),
+        Expression::Fix(variable, body) => {
+            Expression::Fix(variable.clone(), Box::new(spelled_out(body)))
+        }
+        Expression::Labelled(label, part) => spelled_out(part).label(label.clone()),
+        Expression::Epsilon
+        | Expression::Bottom
+        | Expression::Token(_)
+        | Expression::Variable(_) => expression.clone(),
+    }
+}
+
+/// The sheet with each repetition written as the fixed point that it stands for.
+pub fn spelled_out_sheet(sheet: &Sheet) -> Sheet {
+    let mut builder = SheetBuilder::new();
+    for name in sheet.tokens() {
+        builder.token(name);
+    }
+    for rule in sheet.rules() {
+        match rule.token {
+            Some(token) => builder.rule(token, rule.regex.clone()),
+            None => builder.skip(rule.regex.clone()),
+        };
+    }
+    let expression = spelled_out(sheet.expression());
+    builder.finish(expression).expect("every variable is open")
 }
 
 /// An expression of at most `size` nodes with no regard to types.
@@ -360,14 +441,15 @@ fn untyped(
     }
     let left = random.range(1, size - 2);
     let right = size - 1 - left;
-    match random.below(5) {
+    match random.below(6) {
         0 => Expression::fix(|variable| {
             open.push(variable);
             let body = untyped(random, size - 1, tokens, open);
             open.pop();
             body
         }),
-        1 | 2 => untyped(random, left, tokens, open).or(untyped(random, right, tokens, open)),
+        1 => untyped(random, size - 1, tokens, open).star(),
+        2 | 3 => untyped(random, left, tokens, open).or(untyped(random, right, tokens, open)),
         _ => untyped(random, left, tokens, open).then(untyped(random, right, tokens, open)),
     }
 }
@@ -396,7 +478,7 @@ pub fn number_soup(random: &mut Random) -> Vec<u8> {
     let mut bytes = Vec::new();
     number::write(&mut bytes, 1);
     for _ in 0..random.below(60) {
-        let value = random.below(7) as u64;
+        let value = random.below(8) as u64;
         number::write(&mut bytes, value);
     }
     bytes
@@ -405,10 +487,14 @@ pub fn number_soup(random: &mut Random) -> Vec<u8> {
 /// A sheet with about as many expression nodes as are allowed.
 pub fn long_expression_sheet(random: &mut Random) -> Vec<u8> {
     let mut bytes = vec![1, 1, 1, 1, 1, 97, 97];
-    // Each fixed point in front is one node, each sequence with a token two.
+    // Each fixed point or repetition in front is one node, each sequence with a token two. A repetition
+    // of a repetition is refused, but not before the nodes are counted.
     let nodes = random.range(62, 67);
     let pairs = random.range(0, (nodes - 1) / 2);
-    bytes.resize(bytes.len() + nodes - 1 - 2 * pairs, 5);
+    let repetitions = random.below(3);
+    let front = (nodes - 1 - 2 * pairs).saturating_sub(repetitions);
+    bytes.resize(bytes.len() + front, 5);
+    bytes.resize(bytes.len() + nodes - 1 - 2 * pairs - front, 7);
     bytes.extend([3, 2, 0].repeat(pairs));
     bytes.extend([2, 0]);
     bytes
@@ -578,6 +664,46 @@ pub fn damage_bytes(random: &mut Random, mut bytes: Vec<u8>) -> Vec<u8> {
     bytes
 }
 
+/// A tail of this many members.
+fn tail(random: &mut Random, length: usize, row_count: usize) -> Vec<usize> {
+    (0..length).map(|_| random.below(row_count)).collect()
+}
+
+/// A nonterminal with productions for some of the rules that do not skip.
+fn row(random: &mut Random, skips: &[bool], row_count: usize) -> Row {
+    let mut productions = Vec::new();
+    for rule in (0..skips.len()).filter(|&rule| !skips[rule]) {
+        let length = match random.below(24) {
+            0..=7 => continue,
+            8 | 9 => random.range(0, TAIL_LIMIT),
+            10 => TAIL_LIMIT,
+            _ => random.below(3),
+        };
+        productions.push((rule, tail(random, length, row_count)));
+    }
+    Row {
+        nullable: random.once_in(2),
+        productions,
+    }
+}
+
+/// The image with some tail as long as a tail may be, or by one shorter or longer.
+pub fn stretch_tail(random: &mut Random, image: &Image) -> Image {
+    let mut image = image.clone();
+    let row_count = image.rows.len();
+    let mut productions: Vec<_> = image
+        .rows
+        .iter_mut()
+        .flat_map(|row| &mut row.productions)
+        .collect();
+    if !productions.is_empty() {
+        let chosen = random.below(productions.len());
+        let length = random.range(TAIL_LIMIT - 1, TAIL_LIMIT + 1);
+        productions[chosen].1 = tail(random, length, row_count);
+    }
+    image
+}
+
 /// A readable image that no sheet need have.
 pub fn readable_image(random: &mut Random) -> Image {
     let rules = match random.below(4) {
@@ -619,23 +745,7 @@ pub fn readable_image(random: &mut Random) -> Image {
         _ => random.range(1, 8),
     };
     let rows = (0..row_count)
-        .map(|_| Row {
-            nullable: random.once_in(2),
-            productions: (0..rules)
-                .filter(|&rule| !skips[rule])
-                .filter(|_| !random.once_in(3))
-                .collect::<Vec<_>>()
-                .into_iter()
-                .map(|rule| {
-                    let length = match random.below(8) {
-                        0 => random.range(0, TAIL_LIMIT),
-                        _ => random.below(3),
-                    };
-                    let tail = (0..length).map(|_| random.below(row_count)).collect();
-                    (rule, tail)
-                })
-                .collect(),
-        })
+        .map(|_| row(random, &skips, row_count))
         .collect();
     Image {
         skips,
@@ -706,10 +816,15 @@ pub fn derived_text(random: &mut Random, image: &Image, size: usize) -> Vec<u8> 
     text
 }
 
+/// A few letters.
+pub fn letters(random: &mut Random) -> Vec<u8> {
+    (0..random.below(12)).map(|_| letter(random)).collect()
+}
+
 /// A text for an image: derived from the start and often damaged, or letters.
 pub fn text(random: &mut Random, image: &Image) -> Vec<u8> {
     if random.once_in(8) {
-        return (0..random.below(12)).map(|_| letter(random)).collect();
+        return letters(random);
     }
     let size = match random.below(8) {
         0 => random.below(80),
