@@ -20,6 +20,7 @@ pub mod EachFrom
 pub mod QuestionLaws
 pub mod NodeLaws
 pub mod Equations
+pub mod LaidOut
 pub mod TypedAt
 pub mod TypedNodes
 pub mod Typing

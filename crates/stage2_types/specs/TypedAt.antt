@@ -1,15 +1,13 @@
 -- An expression typed node by node, by one list of all nodes' types: the same as a derivation of Figure 2, but every node's type
 -- stands in the list. How the types are found is not asked here.
-use mathlib.Core.Path.{_≡_, refl, sym, ap, ap₂, subst, subst₂, _∙_}
+use mathlib.Core.Path.{_≡_, sym, ap₂, subst, subst₂, _∙_}
 use mathlib.Core.Bool.{false}
-use mathlib.Core.List.{List, [], _∷_, _++_}
+use mathlib.Core.List.{List, _∷_}
 use Prim.Native.Nat.{ℕ, suc, _+_}
-use native.Mathlib.Omega.{arith}
-use lib.ListN.{length, length-append}
 use Rattle.stage1_sheet.specs.Expression.{Expression, epsilon, bottom, token, sequence, alternative, fixed-point, variable, repetition, size}
 use Rattle.stage2_types.specs.Types.{LanguageType, epsilon-type, bottom-type, token-type, sequence-type, alternative-type, repetition-type, Separable, Apart, Context, all-usable, Usable, _⊢_∶_, type-epsilon, type-bottom, type-token, type-variable, type-sequence, type-alternative, type-fixed-point, type-repetition}
 use Rattle.stage2_types.specs.LeastTypes.{type-of}
-use Rattle.stage2_types.specs.EachFrom.{EachFrom, each-left, each-right}
+use Rattle.stage2_types.specs.LaidOut.{LaidOut, laid-alone, laid-one, laid-two}
 
 -- The sub-expression g at node p is typed by a list of all nodes' types: every node below has the type that Figure 2's rule gives
 -- it from its parts' types, and passes the rule's side condition.
@@ -51,90 +49,17 @@ typed-derivation types (variable n) p Γ t = type-variable t
 typed-derivation types (repetition g) p Γ t = type-repetition (typed-derivation types g (suc p) Γ (t .2)) (t .1) (t .0)
 
 -- and every derivation is one at the types that it gives to the nodes: in a list that holds them from p on, g at p is typed.
-abbrev pub Listed : List LanguageType → ℕ → LanguageType → Type 0
-Listed types p a = type-of types p ≡ a
-
-pub record Annotated (Γ : Context) (g : Expression) (a : LanguageType) : Type 0 where
-  pub list : List LanguageType
-  pub long : length list ≡ size g
-  pub own : (types : List LanguageType) (p : ℕ) → EachFrom (Listed types) p list → type-of types p ≡ a
-  pub typed : (types : List LanguageType) (p : ℕ) → EachFrom (Listed types) p list → TypedAt types g p Γ
-
--- Two parts' lists behind a node's own type.
-module _ {Γ Δ : Context} {g h : Expression} {a b : LanguageType} (x : Annotated Γ g a) (y : Annotated Δ h b) where
-  both-long : suc (length (x .list ++ y .list)) ≡ 1 + (size g + size h)
-  both-long = ap suc (length-append (x .list) (y .list) ∙ ap₂ _+_ (x .long) (y .long)) ∙ omega arith
-
-  module _ (types : List LanguageType) (p : ℕ) (listed : EachFrom (Listed types) (suc p) (x .list ++ y .list)) where
-    left-listed : EachFrom (Listed types) (suc p) (x .list)
-    left-listed = each-left (Listed types) (suc p) (x .list) (y .list) listed
-
-    right-listed : EachFrom (Listed types) (suc p + size g) (y .list)
-    right-listed = subst (λ n. EachFrom (Listed types) (suc p + n) (y .list)) (x .long)
-        (each-right (Listed types) (suc p) (x .list) (y .list) listed)
-
-    left-own : type-of types (suc p) ≡ a
-    left-own = x .own types (suc p) left-listed
-
-    right-own : type-of types (suc p + size g) ≡ b
-    right-own = y .own types (suc p + size g) right-listed
-
-pub annotated : {Γ : Context} {g : Expression} {a : LanguageType} → Γ ⊢ g ∶ a → Annotated Γ g a
+pub annotated : {Γ : Context} {g : Expression} {a : LanguageType} → Γ ⊢ g ∶ a → LaidOut (size g) (λ types p. TypedAt types g p Γ) a
 unfolding size
-annotated type-epsilon = record { list = epsilon-type ∷ []; long = refl; own = λ types p l. l .0; typed = λ types p l. l .0 }
-annotated type-bottom = record { list = bottom-type ∷ []; long = refl; own = λ types p l. l .0; typed = λ types p l. l .0 }
-annotated (type-token t) = record { list = token-type t ∷ []; long = refl; own = λ types p l. l .0; typed = λ types p l. l .0 }
-annotated (type-variable {Γ = Γ} {n = n} {a = a} u) =
-    record { list = a ∷ []; long = refl; own = λ types p l. l .0; typed = λ types p l. subst (Usable Γ n) (sym (l .0)) u }
-annotated (type-sequence {g = g} {h = h} {a = a} {b = b} d e s) =
-    let x = annotated d in
-    let y = annotated e in
-    record {
-      list = sequence-type a b ∷ (x .list ++ y .list);
-      long = both-long x y;
-      own = λ types p l. l .0;
-      typed = λ types p l. (
-        l .0 ∙ sym (ap₂ sequence-type (left-own x y types p (l .1)) (right-own x y types p (l .1))),
-        subst₂ Separable (sym (left-own x y types p (l .1))) (sym (right-own x y types p (l .1))) s,
-        x .typed types (suc p) (left-listed x y types p (l .1)),
-        y .typed types (suc p + size g) (right-listed x y types p (l .1)),
-      );
-    }
-annotated (type-alternative {g = g} {h = h} {a = a} {b = b} d e s) =
-    let x = annotated d in
-    let y = annotated e in
-    record {
-      list = alternative-type a b ∷ (x .list ++ y .list);
-      long = both-long x y;
-      own = λ types p l. l .0;
-      typed = λ types p l. (
-        l .0 ∙ sym (ap₂ alternative-type (left-own x y types p (l .1)) (right-own x y types p (l .1))),
-        subst₂ Apart (sym (left-own x y types p (l .1))) (sym (right-own x y types p (l .1))) s,
-        x .typed types (suc p) (left-listed x y types p (l .1)),
-        y .typed types (suc p + size g) (right-listed x y types p (l .1)),
-      );
-    }
-annotated (type-fixed-point {Γ = Γ} {g = g} {a = a} d) =
-    let x = annotated d in
-    record {
-      list = a ∷ x .list;
-      long = ap suc (x .long) ∙ omega arith;
-      own = λ types p l. l .0;
-      typed = λ types p l. (
-        l .0 ∙ sym (x .own types (suc p) (l .1)),
-        subst (λ b. TypedAt types g (suc p) (record { usable = false; type = b } ∷ Γ)) (sym (l .0)) (x .typed types (suc p) (l .1)),
-      );
-    }
-annotated (type-repetition {a = a} {b = b} d s e) =
-    let x = annotated d in
-    record {
-      list = b ∷ x .list;
-      long = ap suc (x .long) ∙ omega arith;
-      own = λ types p l. l .0;
-      typed = λ types p l.
-          let part : type-of types (suc p) ≡ a = x .own types (suc p) (l .1) in (
-            l .0 ∙ (e ∙ sym (ap₂ repetition-type part (l .0))),
-            subst₂ Separable (sym part) (sym part) s,
-            x .typed types (suc p) (l .1),
-          );
-    }
+annotated type-epsilon = laid-alone (λ types p o. o)
+annotated type-bottom = laid-alone (λ types p o. o)
+annotated (type-token t) = laid-alone (λ types p o. o)
+annotated (type-variable {Γ = Γ} {n = n} u) = laid-alone (λ types p o. subst (Usable Γ n) (sym o) u)
+annotated (type-sequence d e s) = laid-two (annotated d) (annotated e)
+    (λ types p o l r x y. (o ∙ sym (ap₂ sequence-type l r), subst₂ Separable (sym l) (sym r) s, x, y))
+annotated (type-alternative d e s) = laid-two (annotated d) (annotated e)
+    (λ types p o l r x y. (o ∙ sym (ap₂ alternative-type l r), subst₂ Apart (sym l) (sym r) s, x, y))
+annotated (type-fixed-point {Γ = Γ} {g = g} d) = laid-one (annotated d)
+    (λ types p o l x. (o ∙ sym l, subst (λ b. TypedAt types g (suc p) (record { usable = false; type = b } ∷ Γ)) (sym o) x))
+annotated (type-repetition d s e) = laid-one (annotated d)
+    (λ types p o l x. (o ∙ (e ∙ sym (ap₂ repetition-type l o)), subst₂ Separable (sym l) (sym l) s, x))

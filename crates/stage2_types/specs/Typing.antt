@@ -18,7 +18,8 @@ use Rattle.stage2_types.specs.LeastSolution.{_⊑_, Solves}
 use Rattle.stage2_types.specs.LeastTypeLaws.{types-long, least-below, least-solves}
 use Rattle.stage2_types.specs.EachFrom.{EachFrom, each-member, member-each, each-map}
 use Rattle.stage2_types.specs.QuestionLaws.{PassesAt, passes-falls, no-fault-iff}
-use Rattle.stage2_types.specs.TypedAt.{TypedAt, typed-derivation, Listed, annotated}
+use Rattle.stage2_types.specs.TypedAt.{TypedAt, typed-derivation, annotated}
+use Rattle.stage2_types.specs.LaidOut.{Listed}
 use Rattle.stage2_types.specs.NodeLaws.{Solved, nodes-length, solved-each, each-solved}
 use Rattle.stage2_types.specs.TypedNodes.{no-more, Holds, nodes-typed, typed-nodes}
 
@@ -29,14 +30,14 @@ least-types-length e = types-long (nodes e) ∙ nodes-length e 0 []
 -- A derivation's own types solve the equations, so the least types are below them and pass where they pass.
 module _ (e : Expression) {a : LanguageType} (d : [] ⊢ e ∶ a) where
   given : List LanguageType
-  given = (annotated d) .list
+  given = a ∷ (annotated d) .below
 
   given-listed : EachFrom (Listed given) 0 given
   given-listed = member-each (Listed given) bottom-type given (λ n l. refl)
 
   given-holds : EachFrom (Holds given) 0 (nodes e)
   unfolding given nodes
-  given-holds = typed-nodes given e 0 no-more ((annotated d) .typed given 0 given-listed)
+  given-holds = typed-nodes given e 0 no-more ((annotated d) .holds given 0 given-listed)
 
   given-solves : Solves (nodes e) given
   unfolding given nodes
@@ -46,7 +47,7 @@ module _ (e : Expression) {a : LanguageType} (d : [] ⊢ e ∶ a) where
   -- The least type of an expression is below each type that it has.
   pub least-type-below : type-of (least-types e) 0 ⊑ a
   unfolding given
-  least-type-below = subst (λ b. type-of (least-types e) 0 ⊑ b) ((annotated d) .own given 0 given-listed) (least-below e given given-solves 0)
+  least-type-below = least-below e given given-solves 0
 
   -- A derivation's types: a solution at which every node passes.
   pub typed-solution : (types : List LanguageType) × Solves (nodes e) types × EachFrom (PassesAt types) 0 (nodes e)

@@ -69,24 +69,23 @@ module _ (f : ℕ → LanguageType) (tag link i : ℕ) (guarded : Bool) where
   unfolding asked fault-by unless node-of
   variable-fails e g = rw (e, g)
 
-  module _ {a : LanguageType} (part : a ≡ f (i + 1)) {r : Bool} where
-    pub repetition-passes : tag ≡ 7 → r ≡ separable a a → r ≡ true → asked 0 i ≡ fault-by f (node-of tag link guarded i) i
-    unfolding asked fault-by unless node-of
-    repetition-passes e h t = rw (e, ← add-one i, ← part, ← h, t)
+  separable-asked : (b : Bool) → asked (cond b 0 9) i ≡ unless b 9 i
+  unfolding asked unless
+  separable-asked true = refl
+  separable-asked false = refl
 
-    pub repetition-fails : tag ≡ 7 → r ≡ separable a a → r ≡ false → asked 9 i ≡ fault-by f (node-of tag link guarded i) i
-    unfolding asked fault-by unless node-of
-    repetition-fails e h t = rw (e, ← add-one i, ← part, ← h, t)
+  pub repetition-asked : {a : LanguageType} {number : ℕ} → a ≡ f (i + 1) → tag ≡ 7 → number ≡ cond (separable a a) 0 9
+      → asked number i ≡ fault-by f (node-of tag link guarded i) i
+  unfolding fault-by node-of
+  repetition-asked {a} part e h = rw (e, ← add-one i, ← part, h) (separable-asked (separable a a))
+
+  module _ {a b : LanguageType} (left : a ≡ f (i + 1)) (right : b ≡ f link) where
+    pub sequence-asked : {number : ℕ} → tag ≡ 3 → number ≡ cond (separable a b) 0 9
+        → asked number i ≡ fault-by f (node-of tag link guarded i) i
+    unfolding fault-by node-of
+    sequence-asked e h = rw (e, ← add-one i, ← left, ← right, h) (separable-asked (separable a b))
 
   module _ {a b : LanguageType} (left : a ≡ f (i + 1)) (right : b ≡ f link) {r : Bool} where
-    pub sequence-passes : tag ≡ 3 → r ≡ separable a b → r ≡ true → asked 0 i ≡ fault-by f (node-of tag link guarded i) i
-    unfolding asked fault-by unless node-of
-    sequence-passes e h t = rw (e, ← add-one i, ← left, ← right, ← h, t)
-
-    pub sequence-fails : tag ≡ 3 → r ≡ separable a b → r ≡ false → asked 9 i ≡ fault-by f (node-of tag link guarded i) i
-    unfolding asked fault-by unless node-of
-    sequence-fails e h t = rw (e, ← add-one i, ← left, ← right, ← h, t)
-
     pub alternative-passes : tag ≡ 4 → r ≡ apart a b → r ≡ true → asked 0 i ≡ fault-by f (node-of tag link guarded i) i
     unfolding asked fault-by unless node-of
     alternative-passes e h t = rw (e, ← add-one i, ← left, ← right, ← h, t)

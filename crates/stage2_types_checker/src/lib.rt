@@ -272,6 +272,16 @@ pub fn least_types(links: NodeLinks) -> TypeColumns
     types
 }
 
+// 9 if the first type is not separable from the second, else 0.
+fn separable_fault(a: NodeType, b: NodeType) -> u8
+    ensures { λ r. ⌜ r ≡ cond (separable (language-type a) (language-type b)) 0 9 ⌝ }
+{
+    if separable(a, b) {
+        return 0;
+    }
+    9
+}
+
 // The question that node i is asked, if it fails, else 0.
 fn node_fault<'a>(
     null: u64,
@@ -292,10 +302,7 @@ fn node_fault<'a>(
     if tag == 3 {
         let l = type_at(null, first, flast, i + 1);
         let r = type_at(null, first, flast, to);
-        if separable(l, r) {
-            return 0;
-        }
-        return 9;
+        return separable_fault(l, r);
     }
     if tag == 4 {
         let l = type_at(null, first, flast, i + 1);
@@ -311,14 +318,11 @@ fn node_fault<'a>(
         }
         return 8;
     }
-    if tag == 7 {
-        let part = type_at(null, first, flast, i + 1);
-        if separable(part, part) {
-            return 0;
-        }
-        return 9;
+    if tag != 7 {
+        return 0;
     }
-    0
+    let part = type_at(null, first, flast, i + 1);
+    separable_fault(part, part)
 }
 
 // The first node, in sheet order, whose question fails.

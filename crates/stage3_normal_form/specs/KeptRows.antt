@@ -1,5 +1,6 @@
 -- The rows that stay solve the page's equations with one change: "Then productions go whose tail holds a node that derives no token
--- sequence", so a sequence whose right part derives none gives nothing, nor does a repetition beside ε if it derived none. Types and languages are not spoken of here.
+-- sequence", so a sequence whose right part derives none gives nothing. A repetition's node, which stands in its own tails, is asked the
+-- same. Types and languages are not spoken of here.
 use mathlib.Core.Path.{_≡_, refl, sym, ap, ap₂, subst, _∙_}
 use mathlib.Core.Bool.{Bool, true, false, _&&_, _||_, cond}
 use mathlib.Core.List.{List, [], _∷_, _++_, map, List·Memᴰ, List·Memᴰ·head, List·Memᴰ·tail, List·Memᴰ·not-nil, List·Memᴰ·cases-cons}
