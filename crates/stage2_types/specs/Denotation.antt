@@ -29,9 +29,13 @@ iterate f (suc i) = f (iterate f i)
 abbrev pub least-fixed-point : (Language → Language) → Language
 least-fixed-point f w = (i : ℕ) × iterate f i w
 
--- The language of μβ.(ε ∨ g·β), β new, where g has the language L: any number of words of L, one after the other.
+-- ε ∨ g·β, where g has the language L and β the language M
+abbrev pub none-or-more : Language → Language → Language
+none-or-more L M = either (λ w. w ≡ []) (followed-by L M)
+
+-- μβ.(ε ∨ g·β), β new: any number of words of L, one after the other.
 abbrev pub any-number-of : Language → Language
-any-number-of L = least-fixed-point (λ M. either (λ w. w ≡ []) (followed-by L M))
+any-number-of L = least-fixed-point (none-or-more L)
 
 -- γ: the languages of the open fixed points, the innermost first. A variable past its end denotes nothing.
 abbrev pub Environment : Type 1

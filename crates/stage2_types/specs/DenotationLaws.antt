@@ -1,13 +1,12 @@
 -- Laws of what an expression denotes: it grows with the languages of its open variables, a word at the union of a rising chain is
 -- a word at some member, and so a fixed point's language is its body's at that language itself. No type is spoken of here.
-use mathlib.Core.Path.{_≡_}
 use mathlib.Core.List.{List, [], _∷_, _++_}
 use mathlib.Core.Logic.{inl, inr, _↔_}
 use Prim.Native.Nat.{ℕ, zero, suc, _+_, _≤_}
 use native.Mathlib.Omega.{arith}
 use native.Mathlib.Decide.{le-ind}
 use Rattle.stage1_sheet.specs.Expression.{Expression, epsilon, bottom, token, sequence, alternative, fixed-point, variable, repetition}
-use Rattle.stage2_types.specs.Denotation.{Language, followed-by, either, iterate, least-fixed-point, any-number-of, Environment, language-at, denotation}
+use Rattle.stage2_types.specs.Denotation.{Language, iterate, least-fixed-point, none-or-more, any-number-of, Environment, language-at, denotation}
 
 -- Two lists of one length, related place by place.
 pub data Pointwise {ℓ κ} {A : Type ℓ} {B : Type κ} (R : A → B → Type 0) : List A → List B → Type (ℓ ⊔ κ) where
@@ -39,10 +38,6 @@ included-at (pointwise-cons r s) (suc n) w h = included-at s n w h
 iterate-monotone : (f g : Language → Language) → ((L M : Language) → L ⊆ M → f L ⊆ g M) → (i : ℕ) → iterate f i ⊆ iterate g i
 iterate-monotone f g h zero w x = x
 iterate-monotone f g h (suc i) w x = h (iterate f i) (iterate g i) (iterate-monotone f g h i) w x
-
--- Nothing, or a word of L and then one of M: what a repetition iterates over M.
-abbrev pub none-or-more : Language → Language → Language
-none-or-more L M = either (λ w. w ≡ []) (followed-by L M)
 
 pub none-or-more-monotone : (L L' M M' : Language) → L ⊆ L' → M ⊆ M' → none-or-more L M ⊆ none-or-more L' M'
 none-or-more-monotone L L' M M' r s w (inl e) = inl e

@@ -56,8 +56,9 @@ examples =
     -- (N·(S)*)·S, (N ∨ N)*
     ∷ record { expression = sequence (sequence N (repetition S)) S; answer = at 9 0 }
     ∷ record { expression = repetition (alternative N N); answer = at 10 1 }
-    -- μα.(α)* and μα.N·(S·α)*: 9 comes before 8
+    -- μα.(α)*: 9 at the repetition, before 8 at its part
     ∷ record { expression = fixed-point (repetition (variable 0)); answer = at 9 1 }
+    -- μα.N·(S·α)*
     ∷ record { expression = fixed-point (sequence N (repetition (sequence S (variable 0)))); answer = at 9 3 }
     -- μα.(N ∨ S·((S·α)·N)*): the variable counts past the repetition
     ∷ record { expression = fixed-point (alternative N (sequence S (repetition (sequence (sequence S (variable 0)) N)))); answer = none }

@@ -26,6 +26,7 @@ pub mod TypedNodes
 pub mod Typing
 pub mod TypeFaultLaws
 pub mod PutIn
+pub mod SpelledOutPublished
 pub mod SpelledOutDenotation
 pub mod SpelledOutTyping
 pub mod SomeSolution

@@ -48,8 +48,8 @@ union-rises s s' t t' f g i h = ⊎-elim (λ x. ∈-left s' t' i (f i x)) (λ x.
 pub cond-rises : (a a' : Bool) (s s' : ℕ) → a ⇒ a' → s ⊆ s' → cond a s 0 ⊆ cond a' s' 0
 cond-rises a a' s s' f g i h = let m = ∈-cond a s i h in ∈-when a' s' i (f (m .0)) (g i (m .1))
 
--- How many members a set has below k.
-pub flag : Bool → ℕ
+-- 1 if it holds, else 0.
+unfoldable pub flag : Bool → ℕ
 flag b = cond b 1 0
 
 pub flag-rises : (a b : Bool) → a ⇒ b → flag a ≤ flag b
@@ -68,6 +68,7 @@ flag-implies true true h e = refl
 flag-implies true false h e = absurd (omega arith)
 flag-implies false b h e = absurd (true≢false (sym e))
 
+-- How many members a set has below k.
 pub count : ℕ → ℕ → ℕ
 count zero s = 0
 count (suc k) s = flag (bit s k) + count k s

@@ -11,9 +11,9 @@ use lib.Bits.{bitOr}
 use Rattle.stage0_laws.specs.Bits.{_∈_}
 use Rattle.stage0_laws.specs.BitLaws.{∈-left, ∈-right, ∈-when, ∈-self, ∈-disjoint}
 use Rattle.stage1_sheet.specs.Expression.{Expression}
-use Rattle.stage2_types.specs.Denotation.{Language, no-words, followed-by, either, iterate, least-fixed-point, any-number-of, Environment, language-at, denotation, Denotes}
+use Rattle.stage2_types.specs.Denotation.{Language, no-words, followed-by, either, iterate, least-fixed-point, none-or-more, any-number-of, Environment, language-at, denotation, Denotes}
 use Rattle.stage2_types.specs.Types.{LanguageType, if-null, epsilon-type, bottom-type, token-type, sequence-type, alternative-type, repetition-type, Separable, Apart, Hypothesis, Context, all-usable, Usable, here, there, _⊢_∶_, type-epsilon, type-bottom, type-token, type-variable, type-sequence, type-alternative, type-fixed-point, type-repetition}
-use Rattle.stage2_types.specs.DenotationLaws.{Pointwise, pointwise-nil, pointwise-cons, _⊆_, none-or-more, none-or-more-monotone, body-monotone, iterate-rises}
+use Rattle.stage2_types.specs.DenotationLaws.{Pointwise, pointwise-nil, pointwise-cons, _⊆_, none-or-more-monotone, body-monotone, iterate-rises}
 use Rattle.stage2_types.specs.TypeLaws.{separable-from-repetition, epsilon-apart}
 
 -- A language satisfies a type, section 2.1 of 000: "(1) when the empty string is in L, NULL is true; (2) the set of tokens that can
@@ -68,10 +68,10 @@ two-cuts [] y (c ∷ x') y' e = later c x' refl e
 two-cuts (c ∷ x) y [] y' e = earlier c x refl (sym e)
 two-cuts (c ∷ x) y (d ∷ x') y' e = cuts-cons c d (head-eq-of-cons-eq e) (two-cuts x y x' y' (tail-eq-of-cons-eq e))
 
-or-true-left : (a b : Bool) → a ≡ true → (a || b) ≡ true
+pub or-true-left : (a b : Bool) → a ≡ true → (a || b) ≡ true
 or-true-left a b e = ap (λ (x : Bool). x || b) e
 
-or-true-right : (a b : Bool) → b ≡ true → (a || b) ≡ true
+pub or-true-right : (a b : Bool) → b ≡ true → (a || b) ≡ true
 or-true-right a b e = ap (λ (x : Bool). a || x) e ∙ B.or-true a
 
 module _ (L M : Language) (a b : LanguageType) (s : Satisfies L a) (r : Satisfies M b) where

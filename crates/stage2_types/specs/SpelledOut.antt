@@ -33,3 +33,14 @@ spelled-out (alternative g h) = alternative (spelled-out g) (spelled-out h)
 spelled-out (fixed-point g) = fixed-point (spelled-out g)
 spelled-out (variable n) = variable n
 spelled-out (repetition g) = repetition-form (spelled-out g)
+
+-- An expression of the published forms alone: no repetition stands in it.
+abbrev pub Published : Expression → Type 0
+Published epsilon = Unit
+Published bottom = Unit
+Published (token k) = Unit
+Published (sequence g h) = Published g × Published h
+Published (alternative g h) = Published g × Published h
+Published (fixed-point g) = Published g
+Published (variable n) = Unit
+Published (repetition g) = ⊥

@@ -66,7 +66,7 @@ raised-some (variable n) s c = λ i. c ≡ raised-type s n i
 raised-some (repetition g) s c = λ i. (a : LanguageType) × raised-some g s a i × (c ≡ repetition-type a c)
 
 -- The repetition's own equation, and those of its form.
-repetition-some : (g : Expression) (l : List LanguageType) (c : LanguageType)
+pub repetition-some : (g : Expression) (l : List LanguageType) (c : LanguageType)
     → SomeSolution (repetition g) l c ↔ SomeSolution (repetition-form g) l c
 unfolding repetition-type
 repetition-some g l c = (
@@ -86,7 +86,7 @@ both-iff f x y c = (
   λ s. (s .0, s .1, x (s .0) .1 (s .2), y (s .1) .1 (s .3), s .4),
 )
 
-some-spelled-out : (e : Expression) (l : List LanguageType) (c : LanguageType) → SomeSolution e l c ↔ SomeSolution (spelled-out e) l c
+pub some-spelled-out : (e : Expression) (l : List LanguageType) (c : LanguageType) → SomeSolution e l c ↔ SomeSolution (spelled-out e) l c
 some-spelled-out epsilon l c = Iff·rfl
 some-spelled-out bottom l c = Iff·rfl
 some-spelled-out (token k) l c = Iff·rfl

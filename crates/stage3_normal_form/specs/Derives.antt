@@ -19,6 +19,7 @@ node-derives derives (sequence-node l r) = derives-at derives l && derives-at de
 node-derives derives (alternative-node l r) = derives-at derives l || derives-at derives r
 node-derives derives (fixed-point-node b) = derives-at derives b
 node-derives derives (variable-node f guarded) = derives-at derives f
+-- It derives the empty sequence, whatever its part derives.
 node-derives derives (repetition-node b self) = true
 
 unfoldable pub next-derives : List Node → List Bool → List Bool

@@ -20,7 +20,7 @@ pub mod NullExact
 pub mod Tails
 pub mod Examples
 pub mod Expansion
-pub mod RightParts
+pub mod TailNodes
 pub mod ProductionWalk
 pub mod ProductionWalkLaws
 pub mod WalkExamples

@@ -8,8 +8,8 @@ use Prim.Native.Nat.{ℕ, suc, _+_, _≤_}
 use native.Mathlib.Omega.{arith}
 use lib.ListN.{getD, length, length-append, List·getD-eq-default}
 use Rattle.stage1_sheet.specs.Expression.{Expression, epsilon, bottom, token, sequence, alternative, fixed-point, variable, repetition, size}
-use Rattle.stage2_types.specs.Denotation.{Language, no-words, followed-by, either, Environment, language-at, denotation, Denotes}
-use Rattle.stage2_types.specs.DenotationLaws.{Pointwise, pointwise-nil, pointwise-cons, none-or-more, fixed-point-unrolls, repetition-unrolls}
+use Rattle.stage2_types.specs.Denotation.{Language, no-words, followed-by, either, none-or-more, Environment, language-at, denotation, Denotes}
+use Rattle.stage2_types.specs.DenotationLaws.{Pointwise, pointwise-nil, pointwise-cons, fixed-point-unrolls, repetition-unrolls}
 use Rattle.stage2_types.specs.Types.{LanguageType, bottom-type, Context, all-usable, Usable, here, there, _⊢_∶_, type-epsilon, type-bottom, type-token, type-variable, type-sequence, type-alternative, type-fixed-point, type-repetition}
 use Rattle.stage2_types.specs.Soundness.{Satisfies, SatisfiesHypothesis, satisfies-usable, sound}
 use Rattle.stage2_types.specs.Nodes.{Node, epsilon-node, bottom-node, token-node, sequence-node, alternative-node, fixed-point-node, variable-node, repetition-node, nodes, node-at}

@@ -15,7 +15,8 @@ use Rattle.stage3_normal_form.specs.Derives.{derives, derives-at}
 -- The nodes with their links, the nodes' FIRST sets, which nodes derive a token sequence, and a token.
 module _ (table : ℕ → Node) (first : ℕ → ℕ) (derive : ℕ → Bool) (t : ℕ) where
   -- One step, at a node, with the right nodes remembered so far, the last one first; `go-on` walks on from a node. A sequence
-  -- remembers its right node, if that derives a token sequence, a repetition itself; an alternative leads into the left part if that can begin with t.
+  -- remembers its right node, if that derives a token sequence, and a repetition remembers itself; an alternative leads into the
+  -- left part if that can begin with t.
   unfoldable pub walk-step : (ℕ → List ℕ → Option (List ℕ)) → Node → List ℕ → Option (List ℕ)
   walk-step go-on epsilon-node rights = none
   walk-step go-on bottom-node rights = none

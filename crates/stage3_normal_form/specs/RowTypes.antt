@@ -22,7 +22,7 @@ use Rattle.stage3_normal_form.specs.ProductionLaws.{DistinctHeads, disti
 use Rattle.stage3_normal_form.specs.Derives.{derives-at, derives}
 use Rattle.stage3_normal_form.specs.NormalForm.{normal-form}
 use Rattle.stage3_normal_form.specs.KeptRows.{staying-row, every-row}
-use Rattle.stage3_normal_form.specs.Unfolding.{epsilon-row, alternative-row, _of_}
+use Rattle.stage3_normal_form.specs.Unfolding.{alternative-row, _of_}
 
 -- The row P of a node with the type a.
 pub record RowWithin (P : Row) (a : LanguageType) : Type 0 where

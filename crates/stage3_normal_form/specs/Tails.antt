@@ -1,7 +1,7 @@
 -- Tails: their members are nodes of the expression, and at a typed one a tail is no longer than the number of sequence nodes, and one
 -- more where its row has ε, so at most `most-tail`. Heads are tokens of the sheet.
 use mathlib.Core.Path.{_≡_, refl, sym, ap, subst, _∙_}
-use mathlib.Core.Bool.{Bool, true, false, _||_, cond}
+use mathlib.Core.Bool.{false, _||_}
 use mathlib.Core.List.{List, [], _∷_, _++_, List·Memᴰ·not-nil, List·Memᴰ·eq-of-singleton, List·Memᴰ·append-cases, Memᴰ·of-map}
 use mathlib.Core.Option.{Option}
 use mathlib.Core.Logic.{⊎-elim}
@@ -14,6 +14,8 @@ use Rattle.stage1_sheet.specs.Expression.{Expression, epsilon, bottom, token, s
 use Rattle.stage1_sheet.specs.Limits.{most-expression-nodes}
 use Rattle.stage1_sheet.specs.WellFormed.{Closed}
 use Rattle.stage2_types.specs.Types.{LanguageType, Context, _⊢_∶_, type-epsilon, type-bottom, type-token, type-variable, type-sequence, type-alternative, type-fixed-point, type-repetition}
+use Rattle.stage2_types.specs.SetOrder.{flag, flag-rises, flag-most}
+use Rattle.stage2_types.specs.Soundness.{or-true-left, or-true-right}
 use Rattle.stage2_types.specs.NodeRanges.{NodeInRange, node-in-range, nodes-in-range}
 use Rattle.stage2_types.specs.Nodes.{Node, epsilon-node, bottom-node, token-node, sequence-node, alternative-node, fixed-point-node, variable-node, repetition-node, nodes, node-at}
 use Rattle.stage3_normal_form.specs.Productions.{Production, most-tail, most-growth, Row, no-productions, ended-by, row-of, node-row, rows-after, rows}
@@ -42,29 +44,12 @@ sequence-count-bound (fixed-point g) = let a = sequence-count-bound g in omega a
 sequence-count-bound (variable n) = omega arith
 sequence-count-bound (repetition g) = let a = sequence-count-bound g in omega arith
 
--- One more where there is ε: a repetition has it, and adds a node to each tail of its part, which has none. So one such node is passed
--- at most between two that count.
-abbrev pub epsilon-more : Bool → ℕ
-epsilon-more b = cond b 1 0
-
-more-left : (a b : Bool) → epsilon-more a ≤ epsilon-more (a || b)
-more-left true b = omega arith
-more-left false b = omega arith
-
-more-right : (a b : Bool) → epsilon-more b ≤ epsilon-more (a || b)
-more-right true true = omega arith
-more-right true false = omega arith
-more-right false b = omega arith
-
-more-most : (b : Bool) → epsilon-more b ≤ 1
-more-most true = omega arith
-more-most false = omega arith
-
--- Lengths.
+-- Lengths. A row with ε may have tails that are one longer: a repetition has ε, and adds a node to each tail of its part, which has none;
+-- so has no left part of a sequence. So a tail passes at most one repetition.
 module _ (table : ℕ → Node) (rs : List Row) (solves : (n : ℕ) → row-of rs n ≡ node-row rs (table n))
     (left : (n : ℕ) → LeftNotNull rs (table n)) where
   abbrev Short : ℕ → Row → Type 0
-  Short m P = (q : Production) → q of P → length (q .tail) ≤ m + epsilon-more (P .has-epsilon)
+  Short m P = (q : Production) → q of P → length (q .tail) ≤ m + flag (P .has-epsilon)
 
   abbrev ShortAt : ℕ → ℕ → Type 0
   ShortAt m n = Short m (row-of rs n)
@@ -78,7 +63,7 @@ module _ (table : ℕ → Node) (rs : List Row) (solves : (n : ℕ) → row-of r
   -- A node added to the tails of a row that has no ε.
   one-longer : (l n m : ℕ) → (row-of rs l) .has-epsilon ≡ false → ShortAt m l → (q : Production)
       → q of sequence-row n (row-of rs l) → length (q .tail) ≤ m + 1
-  unfolding ended-by
+  unfolding ended-by flag
   one-longer l n m none f q x =
       let o = Memᴰ·of-map (ended-by n) ((row-of rs l) .productions) x in
       let a : length (o .0 .tail) ≤ m + 0 = rw none at (f (o .0) (o .1)) in
@@ -87,7 +72,7 @@ module _ (table : ℕ → Node) (rs : List Row) (solves : (n : ℕ) → row-of r
 
   own-short : {Γ : Context} {g : Expression} {a : LanguageType} → Γ ⊢ g ∶ a → (p : ℕ) (fs : List ℕ) → Placed table g p fs → (m : ℕ)
       → VariablesKeep ShortAt Γ fs m → ShortAt (m + head-weight 0 g) p
-  unfolding node-row ended-by
+  unfolding node-row ended-by flag
   own-short type-epsilon p fs t m k = by-node (m + 0) p t (λ q x. absurd (List·Memᴰ·not-nil x))
   own-short type-bottom p fs t m k = by-node (m + 0) p t (λ q x. absurd (List·Memᴰ·not-nil x))
   own-short (type-token c) p fs t m k = by-node (m + 0) p t
@@ -100,8 +85,8 @@ module _ (table : ℕ → Node) (rs : List Row) (solves : (n : ℕ) → row-of r
       let l = (row-of rs (suc p)) .has-epsilon in
       let r = (row-of rs (suc p + size g)) .has-epsilon in
       by-node (m + head-weight 0 (alternative g h)) p (t .0)
-      (λ q x. ⊎-elim (λ y. let a = own-short d (suc p) fs (t .1) m k q y in omega (arith, a, more-left l r))
-      (λ y. let a = own-short e (suc p + size g) fs (t .2) m k q y in omega (arith, a, more-right l r))
+      (λ q x. ⊎-elim (λ y. let a = own-short d (suc p) fs (t .1) m k q y in omega (arith, a, flag-rises l (l || r) (or-true-left l r)))
+      (λ y. let a = own-short e (suc p + size g) fs (t .2) m k q y in omega (arith, a, flag-rises r (l || r) (or-true-right l r)))
       (List·Memᴰ·append-cases ((row-of rs (suc p)) .productions) x))
   own-short (type-fixed-point {Γ = Γ} {g = g} {a = a} d) p fs t m k = by-node (m + head-weight 0 (fixed-point g)) p (t .0)
       (λ q x. let b = own-short d (suc p) (p ∷ fs) (t .1) m (keep-in-body ShortAt Γ fs m p a k) q x in omega arith)
@@ -110,7 +95,7 @@ module _ (table : ℕ → Node) (rs : List Row) (solves : (n : ℕ) → row-of r
 
 -- "A tail is at most as long as the number of sequence nodes", and one more where there is ε,
 pub tails-short : {e : Expression} {a : LanguageType} → [] ⊢ e ∶ a → (n : ℕ) (q : Production) → q of row-of (rows e) n
-    → length (q .tail) ≤ sequence-count e + epsilon-more ((row-of (rows e) n) .has-epsilon)
+    → length (q .tail) ≤ sequence-count e + flag ((row-of (rows e) n) .has-epsilon)
 tails-short {e} d = everywhere-all (ShortAt (node-at (nodes e)) (rows e) (row-solves d) (left-not-null d) (sequence-count e)) e
     (bounded (node-at (nodes e)) 0 (ShortAt (node-at (nodes e)) (rows e) (row-solves d) (left-not-null d))
     (longer-bound (node-at (nodes e)) (rows e) (row-solves d) (left-not-null d))
@@ -123,7 +108,7 @@ tails-short {e} d = everywhere-all (ShortAt (node-at (nodes e)) (rows e) (row-so
 pub tails-at-most : {e : Expression} {a : LanguageType} → [] ⊢ e ∶ a → size e ≤ most-expression-nodes
     → (n : ℕ) (q : Production) → q of row-of (normal-form e) n → length (q .tail) ≤ most-tail
 tails-at-most {e} d h n q m =
-    omega (arith, tails-short d n q (kept-production e n q m .0), sequence-count-bound e, more-most ((row-of (rows e) n) .has-epsilon))
+    omega (arith, tails-short d n q (kept-production e n q m .0), sequence-count-bound e, flag-most ((row-of (rows e) n) .has-epsilon))
 
 -- So a take adds at most `most-growth` pending nodes.
 pub pending-grows : {e : Expression} {a : LanguageType} → [] ⊢ e ∶ a → size e ≤ most-expression-nodes

@@ -50,7 +50,8 @@ position-fields rules count before next =
     (λ last. field (λ v. ltb v (2 ^ count))
     (λ follow. next (record { low = low; high = high; rule = rule; last = last; follow = follow }))))))
 
--- "rule, tail length .., tail"; "Tails and their image field run to 32": "production rules below R, rising and not skipping, tail members below the nonterminal count"
+-- "rule, tail length .., tail"; "Tails and their image field run to 32"; "production rules below R, rising and not skipping, tail
+-- members below the nonterminal count"
 unfoldable pub production-fields : {A : Type 0} → List Bool → ℕ → ℕ → (Production → Fields A) → Fields A
 production-fields skips count least next =
     field (λ v. leb least v && (ltb v (length skips) && not (getD skips v true)))

@@ -2,7 +2,7 @@
 -- most 32 nonterminals, so that it fits 65,536 bytes.
 use mathlib.Core.Path.{_≡_, refl, ap, subst, _∙_}
 use mathlib.Core.Bool.{Bool, true, false}
-use mathlib.Core.List.{List, [], _∷_, _++_, flatMap, List·Memᴰ, List·Memᴰ·head, List·Memᴰ·tail, List·Memᴰ·cases-cons}
+use mathlib.Core.List.{List, [], _∷_, _++_, flatMap, List·Memᴰ, List·Memᴰ·head, List·Memᴰ·cases-cons}
 use mathlib.Core.Logic.{⊎-elim}
 use mathlib.Core.Option.{none}
 use Prim.Native.Nat.{ℕ, _+_, _*_, _/_, _≤_, _<_}
@@ -19,11 +19,10 @@ use Rattle.stage1_sheet.specs.Sheet.{Rule, Sheet}
 use Rattle.stage1_sheet.specs.Spelling.{spell}
 use Rattle.stage1_sheet.specs.FieldLaws.{spell-append}
 use Rattle.stage1_sheet.specs.WellFormed.{WithinLimits, Closed}
-use Rattle.stage2_types.specs.Nodes.{nodes}
 use Rattle.stage2_types.specs.Types.{LanguageType, _⊢_∶_}
 use Rattle.stage3_normal_form.specs.Productions.{Production, Row, row-of, most-tail}
 use Rattle.stage3_normal_form.specs.NormalForm.{normal-form}
-use Rattle.stage3_normal_form.specs.RightParts.{tail-nodes, tails-right, tail-nodes-few}
+use Rattle.stage3_normal_form.specs.TailNodes.{tail-nodes, tails-within, tail-nodes-few}
 use Rattle.stage4_lexer.specs.Positions.{Position, empty-match}
 use Rattle.stage5_image.specs.DistinctNodes.{distinct-few}
 use Rattle.stage5_image.specs.MetNodes.{first-met-member}
@@ -190,10 +189,10 @@ image-width i g =
 -- ---- a sheet's image
 
 -- A node that is reached is the start, a right part or a repetition.
-reached-right : (rules : List Rule) (e : Expression) (tokens : ℕ) → Closed tokens 0 e → (n : ℕ)
+reached-within : (rules : List Rule) (e : Expression) (tokens : ℕ) → Closed tokens 0 e → (n : ℕ)
     → List·Memᴰ n (reached (fused rules (normal-form e)))
     → List·Memᴰ n (0 ∷ tail-nodes e 0)
-reached-right rules e tokens c n m =
+reached-within rules e tokens c n m =
     let rows = fused rules (normal-form e) in
     let r = reached-fused rules (normal-form e) (normal-form-inside e tokens c) (normal-form-some e) in
     ⊎-elim (λ z. List·Memᴰ·head z) (λ k. in-tail (of-flatMap (λ n. flatMap (λ p. p .tail) ((row-of rows n) .productions)) (reached rows) n k))
@@ -205,7 +204,7 @@ reached-right rules e tokens c n m =
     in-tail k =
         let p = of-flatMap (λ p. p .tail) ((row-of (fused rules (normal-form e)) (k .0)) .productions) n (k .2) in
         let f = fused-member rules (normal-form e) (k .0) (p .0) (p .1) in
-        all-member (λ x. List·Memᴰ x (0 ∷ tail-nodes e 0)) (f .source .tail) (tails-right e (k .0) (f .source) (f .member)) n
+        all-member (λ x. List·Memᴰ x (0 ∷ tail-nodes e 0)) (f .source .tail) (tails-within e (k .0) (f .source) (f .member)) n
         (subst (List·Memᴰ n) (f .same-tail) (p .2))
 
 -- At most the start and the nodes that stand in tails.
@@ -215,8 +214,14 @@ nonterminals-few s c =
     let e = s .expression in
     let rows = fused (s .rules) (normal-form e) in
     let r = reached-fused (s .rules) (normal-form e) (normal-form-inside e (s .tokens) c) (normal-form-some e) in
-    let few = distinct-few (reached rows) (0 ∷ tail-nodes e 0) (r .once) (reached-right (s .rules) e (s .tokens) c) in
+    let few = distinct-few (reached rows) (0 ∷ tail-nodes e 0) (r .once) (reached-within (s .rules) e (s .tokens) c) in
     omega (arith, numbered-count rows)
+
+-- So at most 32 nonterminals.
+pub nonterminals-at-most : (s : Sheet) {a : LanguageType} → WithinLimits s → [] ⊢ s .expression ∶ a → length ((image-of s) .rows) ≤ 32
+nonterminals-at-most s w d =
+    let most = w .nodes-most in
+    omega (arith, nonterminals-few s (w .closed), tail-nodes-few d)
 
 -- 1,070 bytes, and so many for each of 32 nonterminals.
 abbrev pub most-image-bytes : ℕ
@@ -226,6 +231,4 @@ most-image-bytes = 1070 + 32 * most-row-bytes
 pub image-fits : (s : Sheet) {a : LanguageType} → WithinLimits s → empty-match (s .rules) 0 ≡ none → [] ⊢ s .expression ∶ a
     → length (image-bytes (image-of s)) ≤ most-image-bytes
 image-fits s w m d =
-    let few = nonterminals-few s (w .closed) in
-    let most = w .nodes-most in
-    omega (arith, image-width (image-of s) (image-in-range s w m d), tail-nodes-few d)
+    omega (arith, image-width (image-of s) (image-in-range s w m d), nonterminals-at-most s w d)

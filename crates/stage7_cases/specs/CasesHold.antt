@@ -116,6 +116,7 @@ repetition-computed =
     & refl
     & refl
     & refl
+    & refl
     & tt
 
 -- Every row holds.

@@ -48,4 +48,6 @@ repetition-cases =
     ∷ compiles (with-expression (5 ∷ 3 ∷ 2 ∷ 0 ∷ 7 ∷ 3 ∷ 2 ∷ 1 ∷ 6 ∷ 0 ∷ [])) (refused 9 24)
     -- (⊥)*: one nonterminal, ε flag 1, no production
     ∷ compiles (with-expression (7 ∷ 1 ∷ [])) (compiled (rules-of-image-D ++ (1 ∷ 1 ∷ 0 ∷ [])))
+    -- N·(⊥)*: it derives the empty sequence, so N's production stays
+    ∷ compiles (with-expression (3 ∷ 2 ∷ 0 ∷ 7 ∷ 1 ∷ [])) (compiled (rules-of-image-D ++ (2 ∷ 0 ∷ 1 ∷ 0 ∷ 1 ∷ 1 ∷ 1 ∷ 0 ∷ [])))
     ∷ []

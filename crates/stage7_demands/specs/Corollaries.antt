@@ -1,5 +1,6 @@
--- What follows from demand 3 and is asked often: when a text is accepted, where it is refused, that a sheet which denotes nothing
--- accepts no text, and that a long enough stack never runs out.
+-- What follows from the demands and is asked often: when a text is accepted, where it is refused, that a sheet which denotes nothing
+-- accepts no text, and that a long enough stack never runs out; and both demands with every repetition spelled out, so that nothing but
+-- the published typing rules and what they are about is left.
 use mathlib.Core.Path.{_≡_}
 use mathlib.Core.List.{List}
 use mathlib.Core.Logic.{_↔_}
@@ -9,13 +10,23 @@ use Rattle.stage1_sheet.specs.Sheet.{Sheet}
 use Rattle.stage1_sheet.specs.WellFormed.{Spells}
 use Rattle.stage1_sheet.specs.FieldLaws.{Bytes}
 use Rattle.stage2_types.specs.Denotation.{Denotes}
-use Rattle.stage5_image.specs.Compile.{compiled}
+use Rattle.stage2_types.specs.Types.{HasType}
+use Rattle.stage2_types.specs.SpelledOut.{spelled-out}
+use Rattle.stage2_types.specs.SpelledOutDenotation.{spelled-out-denotes}
+use Rattle.stage2_types.specs.SpelledOutTyping.{spelled-out-has-type}
+use Rattle.stage4_lexer.specs.Words.{NoEmptyRule}
+use Rattle.stage5_image.specs.Image.{image-of}
+use Rattle.stage5_image.specs.ImageFields.{ReadableAs}
+use Rattle.stage5_image.specs.Unfolding.{StartUnfolds, DenotedRules}
+use Rattle.stage5_image.specs.Compile.{work-bytes, compiled}
+use Rattle.stage5_image.specs.Compiles.{Acceptable}
 use Rattle.stage6_machine.specs.Answer.{Answer, answer}
 use Rattle.stage6_machine.specs.Run.{most-text-bytes, long-enough}
 use Rattle.stage6_machine.specs.OwnAnswer.{OwnAnswer}
 use Rattle.stage6_machine.specs.Lexes.{Lexes, LexesTo, GoesNoFurther}
 use Rattle.stage6_machine.specs.AcceptanceLaws.{accepted-iff, accepted-answer, refused-place, own-answer-not-17}
-use Rattle.stage7_demands.specs.Demands.{Functions, Demand3}
+use Rattle.stage6_machine.specs.SpelledOutAnswers.{with-other, spelled-out-own-answer}
+use Rattle.stage7_demands.specs.Demands.{Functions, Demand2, Demand3}
 
 -- Of any functions that meet demand 3: a sheet that compiling accepted, its image, a text within the limit, and a long enough stack.
 module _ (f : Functions) (demand : Demand3 f) (sheet : List ℕ) (bytes : Bytes sheet) (work room : ℕ) (image : List ℕ)
@@ -49,3 +60,33 @@ module _ (f : Functions) (demand : Demand3 f) (sheet : List ℕ) (bytes : Bytes 
   -- The run never gives 17.
   pub stack-never-short : a .number ≡ 17 → ⊥
   stack-never-short = own-answer-not-17 s text a own
+
+  -- What running answers is the own answer of the sheet with every repetition spelled out.
+  pub spelled-out-answered : OwnAnswer (with-other s (spelled-out (s .expression))) text a
+  spelled-out-answered = spelled-out-own-answer s text a .0 own
+
+-- "its expression has a type under the published typing rules", which know no repetition: spelled out it has the published forms alone
+-- (`spelled-out-published`). Of any functions that meet demand 2.
+module _ (f : Functions) (demand : Demand2 f) (sheet : List ℕ) (bytes : Bytes sheet) (work room : ℕ) where
+  pub spelled-out-accepted : work-bytes ≤ work
+      → ((image : List ℕ) × (f .compile sheet work room ≡ compiled image))
+      ↔ ((s : Sheet) × Spells sheet s × NoEmptyRule (s .rules) × HasType (spelled-out (s .expression))
+      × ((image : List ℕ) × ReadableAs image (image-of s) × (length image ≤ room)))
+  spelled-out-accepted enough =
+      let exactly = demand .accepted-exactly sheet bytes work room enough in (
+        λ h. let x = exactly .0 h in
+            (x .0, x .1 .well-formed, x .1 .no-empty-text, spelled-out-has-type (x .0 .expression) .0 (x .1 .has-type), x .1 .fits),
+        λ x. exactly .1 (
+          x .0,
+          record { well-formed = x .1; no-empty-text = x .2; has-type = spelled-out-has-type (x .0 .expression) .1 (x .3); fits = x .4 },
+        ),
+      )
+
+  pub spelled-out-unfolds : (image : List ℕ) → f .compile sheet work room ≡ compiled image → (s : Sheet) → Spells sheet s → (rules : List ℕ)
+      → StartUnfolds ((image-of s) .rows) rules ↔ DenotedRules (with-other s (spelled-out (s .expression))) rules
+  spelled-out-unfolds image h s spells rules =
+      let exactly = demand .unfolds-exactly sheet bytes work room image h s spells rules in
+      let denotes = spelled-out-denotes (s .expression) in (
+        λ u. let x = exactly .0 u in (x .0, denotes (x .0) .0 (x .1), x .2),
+        λ x. exactly .1 (x .0, denotes (x .0) .1 (x .1), x .2),
+      )

@@ -90,6 +90,12 @@ fn repetitions_and_their_readings() {
     assert_eq!(compiled(&sheet).1, [&IMAGE[..27], &[1, 1, 0]].concat());
     assert_eq!(read(&sheet, b" "), (0, 1, 0));
     assert_eq!(read(&sheet, b"1"), (15, 0, 0));
+
+    // N·(⊥)*: the repetition derives the empty sequence, so the production of N stays
+    let sheet = with_rules(&[3, 2, 0, 7, 1]);
+    let rows = [2, 0, 1, 0, 1, 1, 1, 0];
+    assert_eq!(compiled(&sheet).1, [&IMAGE[..27], &rows].concat());
+    assert_eq!(read(&sheet, b"1"), (0, 1, 1));
 }
 
 #[test]

@@ -1,16 +1,16 @@
 -- The nodes that stand in tails: right parts of sequences, and repetitions. Beside the start a typed expression has fewer than half as
 -- many of them as nodes: what stands left of a sequence or below a repetition is not nullable, and so is no repetition.
-use mathlib.Core.Path.{_≡_, refl, sym, ap, subst, _∙_}
-use mathlib.Core.Bool.{Bool, true, false, _&&_, cond, true≢false}
-use mathlib.Core.List.{List, [], _∷_, _++_, List·Memᴰ, List·Memᴰ·head, List·Memᴰ·tail, List·Memᴰ·cases-cons, Memᴰ·append-left, Memᴰ·append-right}
-use mathlib.Core.Logic.{⊎-elim}
+use mathlib.Core.Path.{_≡_, refl, ap, subst}
+use mathlib.Core.Bool.{Bool, true, false, _&&_, true≢false}
+use mathlib.Core.List.{List, [], _∷_, _++_, List·Memᴰ, List·Memᴰ·head, List·Memᴰ·tail, Memᴰ·append-left, Memᴰ·append-right}
 use Prim.Native.Nat.{ℕ, suc, _+_, _*_, _≤_}
 use native.Mathlib.Omega.{arith}
 use lib.ListN.{length, length-append, List·getD-eq-default}
 use Rattle.stage0_laws.specs.Lists.{All}
 use Rattle.stage0_laws.specs.Members.{all-append}
 use Rattle.stage1_sheet.specs.Expression.{Expression, epsilon, bottom, token, sequence, alternative, fixed-point, variable, repetition, size}
-use Rattle.stage2_types.specs.Types.{LanguageType, epsilon-type, alternative-type, repetition-type, Apart, Context, _⊢_∶_, type-epsilon, type-bottom, type-token, type-variable, type-sequence, type-alternative, type-fixed-point, type-repetition}
+use Rattle.stage2_types.specs.Types.{LanguageType, epsilon-type, alternative-type, repetition-type, Context, _⊢_∶_, type-epsilon, type-bottom, type-token, type-variable, type-sequence, type-alternative, type-fixed-point, type-repetition}
+use Rattle.stage2_types.specs.SetOrder.{flag, flag-most}
 use Rattle.stage2_types.specs.Nodes.{Node, epsilon-node, bottom-node, token-node, sequence-node, alternative-node, fixed-point-node, variable-node, repetition-node, nodes, node-at}
 use Rattle.stage3_normal_form.specs.Productions.{Production, row-of, ended-by, rows}
 use Rattle.stage3_normal_form.specs.NormalForm.{normal-form}
@@ -94,9 +94,9 @@ module _ (table : ℕ → Node) (all : List ℕ) where
       (rw (t .0) (f p (List·Memᴰ·head refl), tt), listed g (suc p) fs (t .1) (λ r m. f r (List·Memᴰ·tail m)))
 
 -- Every member of every tail is the start, a right part or a repetition.
-pub tails-right : (e : Expression) (n : ℕ) (q : Production) → q of row-of (normal-form e) n
+pub tails-within : (e : Expression) (n : ℕ) (q : Production) → q of row-of (normal-form e) n
     → All (λ r. List·Memᴰ r (0 ∷ tail-nodes e 0)) (q .tail)
-tails-right e n q m = unfold rows in
+tails-within e n q m = unfold rows in
     every-production (nodes e) Within (λ n t h. tt) (λ n l r h. one-more n r (ap added h)) (λ n b r h. one-more n r (ap added h))
     (length (nodes e)) n q (kept-production e n q m .0)
   where
@@ -129,12 +129,9 @@ own-length (fixed-point g) p l = omega arith
 own-length (variable n) p l = omega arith
 own-length (repetition g) p l = omega arith
 
-abbrev null-count : Bool → ℕ
-null-count b = cond b 1 0
-
 -- A repetition is nullable.
-own-null : {Γ : Context} {g : Expression} {a : LanguageType} → Γ ⊢ g ∶ a → own-count g ≤ null-count (a .null)
-unfolding repetition-type alternative-type epsilon-type
+own-null : {Γ : Context} {g : Expression} {a : LanguageType} → Γ ⊢ g ∶ a → own-count g ≤ flag (a .null)
+unfolding flag repetition-type alternative-type epsilon-type
 own-null type-epsilon = omega arith
 own-null type-bottom = omega arith
 own-null (type-token t) = omega arith
@@ -143,12 +140,14 @@ own-null (type-sequence d e s) = omega arith
 own-null (type-alternative d e s) = omega arith
 own-null (type-fixed-point d) = omega arith
 own-null (type-repetition {b = b} d s e) =
-    let one : null-count (b .null) ≡ 1 = ap (λ (x : LanguageType). null-count (x .null)) e in omega arith
+    let one : flag (b .null) ≡ 1 = ap (λ (x : LanguageType). flag (x .null)) e in omega arith
 
 not-null : {Γ : Context} {g : Expression} {a : LanguageType} → Γ ⊢ g ∶ a → a .null ≡ false → own-count g ≤ 0
-not-null {g = g} d e = subst (λ (b : Bool). own-count g ≤ null-count b) e (own-null d)
+unfolding flag
+not-null {g = g} d e = subst (λ (b : Bool). own-count g ≤ flag b) e (own-null d)
 
-one-null : (a b : Bool) → (a && b) ≡ false → null-count a + null-count b ≤ 1
+one-null : (a b : Bool) → (a && b) ≡ false → flag a + flag b ≤ 1
+unfolding flag
 one-null true true e = absurd (true≢false e)
 one-null true false e = omega arith
 one-null false true e = omega arith
@@ -185,11 +184,7 @@ few (type-alternative {g = g} {h = h} {a = a} {b = b} d e s) p =
       length-append l r,
     )
 few (type-fixed-point {g = g} {a = a} d) p =
-    omega (arith, few d (suc p), own-length g (suc p) (tail-nodes g (suc p)), own-null d, null-most (a .null))
-  where
-    null-most : (b : Bool) → null-count b ≤ 1
-    null-most true = omega arith
-    null-most false = omega arith
+    omega (arith, few d (suc p), own-length g (suc p) (tail-nodes g (suc p)), own-null d, flag-most (a .null))
 few (type-repetition {g = g} d s e) p =
     omega (arith, few d (suc p), not-null d (s .not-null), own-length g (suc p) (tail-nodes g (suc p)))
 
