@@ -40,3 +40,11 @@ and-true-first false b e = e
 pub and-true-second : (a b : Bool) → (a && b) ≡ true → b ≡ true
 and-true-second true b e = e
 and-true-second false b e = absurd (false≢true e)
+
+pub or-true-left : (a b : Bool) → a ≡ true → (a || b) ≡ true
+or-true-left true b e = refl
+or-true-left false b e = absurd (false≢true e)
+
+pub or-true-right : (a b : Bool) → b ≡ true → (a || b) ≡ true
+or-true-right true b e = refl
+or-true-right false b e = e

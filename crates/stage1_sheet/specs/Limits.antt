@@ -1,4 +1,4 @@
--- The limits that document 01 sets on a sheet, each named once. A limit is the largest number that is allowed.
+-- The limits that document 01 sets on a sheet, and request [1] on tags, each named once. A limit is the largest number that is allowed.
 use Prim.Native.Nat.{ℕ}
 
 -- "The sheet": token count 1 to 24, rule count 1 to 32.
@@ -25,7 +25,7 @@ most-sheet-bytes = 4096
 abbrev pub most-byte : ℕ
 most-byte = 255
 
--- The last tags of the page's two lists: of a regex (star), and of an expression (repetition).
+-- The last tags: of a regex (star), and of an expression (repetition, which request [1] adds to the page's list).
 abbrev pub most-regex-tag : ℕ
 most-regex-tag = 4
 

@@ -1,5 +1,6 @@
 -- Laws of what an expression denotes: it grows with the languages of its open variables, a word at the union of a rising chain is
--- a word at some member, and so a fixed point's language is its body's at that language itself. No type is spoken of here.
+-- a word at some member, and so a fixed point's language is its body's at that language itself; and a repetition's language by its own.
+-- No type is spoken of here.
 use mathlib.Core.List.{List, [], _∷_, _++_}
 use mathlib.Core.Logic.{inl, inr, _↔_}
 use Prim.Native.Nat.{ℕ, zero, suc, _+_, _≤_}
@@ -182,7 +183,7 @@ module _ (g : Expression) (γ : Environment) where
   pub fixed-point-unrolls : (w : List ℕ) → denotation (fixed-point g) γ w ↔ denotation g (denotation (fixed-point g) γ ∷ γ) w
   fixed-point-unrolls w = (unroll w, roll w)
 
--- A repetition's language is nothing, or a word of its part and then one of that language itself.
+-- A word of a repetition is the empty one, or a word of its part and then one of the repetition.
 module _ (L : Language) where
   more-unroll : (w : List ℕ) → any-number-of L w → none-or-more L (any-number-of L) w
   more-unroll w h = go (h .0) (h .1)

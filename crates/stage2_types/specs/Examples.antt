@@ -1,4 +1,4 @@
--- The expressions of document 01's table, and what questions 8 to 10 answer of each: one table with one theorem.
+-- The expressions of document 01's table and of request [1], and what questions 8 to 10 answer of each: one table with one theorem.
 use mathlib.Core.Path.{_≡_, refl}
 use mathlib.Core.List.{List, [], _∷_, map}
 use mathlib.Core.Option.{Option, none, some}

@@ -1,5 +1,5 @@
--- Types laid out as a list from a node's place on: the node's own, then those of the nodes below it. Whatever holds at that place in
--- every list of all nodes' types that has these there. What is to hold, equations or typing, is left open.
+-- Types laid out as a list from a node's place on: the node's own, then those of the nodes below it. In every list of all nodes' types
+-- that has these from that place on, what is asked holds there; whether that is equations or typing is left open.
 use mathlib.Core.Path.{_≡_, refl, ap, ap₂, subst, _∙_}
 use mathlib.Core.List.{List, [], _∷_, _++_}
 use Prim.Native.Nat.{ℕ, suc, _+_}

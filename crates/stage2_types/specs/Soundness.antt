@@ -2,12 +2,12 @@
 -- (its Lemma 3.4). Types that are too large satisfy as well; which types are least is not asked here.
 use mathlib.Core.Path.{_≡_, refl, sym, ap, subst, _∙_}
 use mathlib.Core.Bool.{Bool, true, _&&_, _||_, true≢false}
-use mathlib.Core.Bool as B
 use mathlib.Core.List.{List, [], _∷_, _++_, append-assoc, head-eq-of-cons-eq, tail-eq-of-cons-eq, cons≢nil, nil≢cons}
 use mathlib.Core.Logic.{_⊎_, inl, inr}
 use Prim.Native.Nat.{ℕ, zero, suc, _+_, _^_}
 use native.Mathlib.Omega.{arith}
 use lib.Bits.{bitOr}
+use Rattle.stage0_laws.specs.Truth.{or-true-left, or-true-right}
 use Rattle.stage0_laws.specs.Bits.{_∈_}
 use Rattle.stage0_laws.specs.BitLaws.{∈-left, ∈-right, ∈-when, ∈-self, ∈-disjoint}
 use Rattle.stage1_sheet.specs.Expression.{Expression}
@@ -67,12 +67,6 @@ two-cuts [] y [] y' e = alike refl e
 two-cuts [] y (c ∷ x') y' e = later c x' refl e
 two-cuts (c ∷ x) y [] y' e = earlier c x refl (sym e)
 two-cuts (c ∷ x) y (d ∷ x') y' e = cuts-cons c d (head-eq-of-cons-eq e) (two-cuts x y x' y' (tail-eq-of-cons-eq e))
-
-pub or-true-left : (a b : Bool) → a ≡ true → (a || b) ≡ true
-or-true-left a b e = ap (λ (x : Bool). x || b) e
-
-pub or-true-right : (a b : Bool) → b ≡ true → (a || b) ≡ true
-or-true-right a b e = ap (λ (x : Bool). a || x) e ∙ B.or-true a
 
 module _ (L M : Language) (a b : LanguageType) (s : Satisfies L a) (r : Satisfies M b) where
   module _ (k : Apart a b) where

@@ -1,7 +1,7 @@
 -- Types ordered by inclusion. Figure 2's operations keep the order, and a side condition that holds holds of smaller types too.
 -- Nothing here is about expressions or languages.
 use mathlib.Core.Path.{_≡_, sym, ap, subst, _∙_}
-use mathlib.Core.Bool.{Bool, true, false, _&&_, true≢false, false≢true}
+use mathlib.Core.Bool.{Bool, false, _&&_, true≢false, false≢true}
 use mathlib.Core.Logic.{⊎-elim}
 use Prim.Native.Nat.{ℕ}
 use lib.Bits.{bitOr, bitAnd}
@@ -101,7 +101,7 @@ module _ (a b : LanguageType) (e : b ≡ repetition-type a b) where
     not-null = s .not-null;
   }
 
--- Nothing is apart from a sequence whose left part is not NULL.
+-- ε is apart from a sequence whose left part is not NULL.
 pub epsilon-apart : (a b : LanguageType) → a .null ≡ false → Apart epsilon-type (sequence-type a b)
 unfolding epsilon-type sequence-type
 epsilon-apart a b n = record {

@@ -1,5 +1,5 @@
--- Figure 2 of 000: types, the operations on them, separable and apart, and the typing judgement. A set of tokens is one
--- number, token t being 2^t, as a set of positions is in an image.
+-- Figure 2 of 000: types, the operations on them, separable and apart, and the typing judgement, with one rule more for repetition.
+-- A set of tokens is one number, token t being 2^t, as a set of positions is in an image.
 use mathlib.Core.Path.{_≡_}
 use mathlib.Core.Bool.{Bool, true, false, _&&_, _||_, cond}
 use mathlib.Core.List.{List, [], _∷_, map}

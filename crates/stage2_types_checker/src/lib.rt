@@ -103,13 +103,13 @@ fn alternative_type(a: NodeType, b: NodeType) -> NodeType
     }
 }
 
-// From the types of a repetition's part and of the repetition itself: either nothing, or the part and then the repetition.
+// From the types of a repetition's part and of the repetition itself: ε, or the part and then the repetition.
 fn repetition_type(a: NodeType, b: NodeType) -> NodeType
     ensures { λ r. ⌜ language-type r ≡ repetition-type (language-type a) (language-type b) ⌝ }
 {
-    let nothing = without_flast(true, 0);
+    let epsilon = without_flast(true, 0);
     let again = sequence_type(a, b);
-    alternative_type(nothing, again)
+    alternative_type(epsilon, again)
 }
 
 fn same_type(a: NodeType, b: NodeType) -> bool

@@ -1,5 +1,5 @@
--- A node's productions come down in head position: from a left part, an alternative, a body or a variable's fixed point. In a typed
--- expression such a descent meets no node twice. Here: a bound that grows along it, from a node's usable variables to all nodes.
+-- A node's productions come down in head position: from a left part, an alternative, a body, a repetition's part or a variable's fixed
+-- point. In a typed expression such a descent meets no node twice. Here: a bound that grows along it, from a node's usable variables to all nodes.
 use mathlib.Core.Path.{_≡_, refl}
 use mathlib.Core.Bool.{false}
 use mathlib.Core.List.{List, _∷_}

@@ -1,4 +1,4 @@
--- "The nonterminals are the expression's nodes. A node's productions: ..": Figure 4 of 000 with the variables resolved.
+-- "The nonterminals are the expression's nodes. A node's productions: ..": Figure 4 of 000 with the variables resolved, and repetition.
 -- Which productions stay, and under which number a node is written, is said elsewhere.
 use mathlib.Core.Bool.{Bool, true, false, _||_}
 use mathlib.Core.List.{List, [], _∷_, _++_, map}
@@ -68,7 +68,7 @@ unfoldable pub rows-after : ℕ → List Node → List Row
 rows-after zero ns = replicate (length ns) no-productions
 rows-after (suc k) ns = next-rows ns (rows-after k ns)
 
--- The productions of all nodes, in sheet order. A node's productions come down from a left part, an alternative, a body or a
--- fixed point, and such a descent meets no node twice if every variable is guarded: a round for each node is enough.
+-- The productions of all nodes, in sheet order. A node's productions come down from a left part, an alternative, a body, a repetition's
+-- part or a fixed point, and such a descent meets no node twice if every variable is guarded: a round for each node is enough.
 unfoldable pub rows : Expression → List Row
 rows e = rows-after (length (nodes e)) (nodes e)

@@ -66,11 +66,11 @@ own-within (variable n) p l r m = List·Memᴰ·tail m
 own-within (repetition g) p l r m = m
 
 module _ (table : ℕ → Node) (all : List ℕ) where
-  abbrev Listed : ℕ → Type 0
-  Listed n = All (λ r. List·Memᴰ r all) (added (table n))
+  abbrev AddedListed : ℕ → Type 0
+  AddedListed n = All (λ r. List·Memᴰ r all) (added (table n))
 
   listed : (g : Expression) (p : ℕ) (fs : List ℕ) → Placed table g p fs
-      → ((r : ℕ) → List·Memᴰ r (with-own g p (tail-nodes g p)) → List·Memᴰ r all) → Everywhere Listed g p
+      → ((r : ℕ) → List·Memᴰ r (with-own g p (tail-nodes g p)) → List·Memᴰ r all) → Everywhere AddedListed g p
   listed epsilon p fs t f = rw t tt
   listed bottom p fs t f = rw t tt
   listed (token k) p fs t f = rw t tt
@@ -103,8 +103,8 @@ tails-within e n q m = unfold rows in
     Within : Production → Type 0
     Within q = All (λ r. List·Memᴰ r (0 ∷ tail-nodes e 0)) (q .tail)
 
-    at-node : (n : ℕ) → Listed (node-at (nodes e)) (0 ∷ tail-nodes e 0) n
-    at-node = everywhere-all (Listed (node-at (nodes e)) (0 ∷ tail-nodes e 0)) e
+    at-node : (n : ℕ) → AddedListed (node-at (nodes e)) (0 ∷ tail-nodes e 0) n
+    at-node = everywhere-all (AddedListed (node-at (nodes e)) (0 ∷ tail-nodes e 0)) e
         (listed (node-at (nodes e)) (0 ∷ tail-nodes e 0) e 0 [] (nodes-placed e) (own-within e 0 (tail-nodes e 0)))
         (λ n h. rw (List·getD-eq-default (nodes e) bottom-node {n = n} (rw (nodes-count e) h)) tt)
 
@@ -142,52 +142,52 @@ own-null (type-fixed-point d) = omega arith
 own-null (type-repetition {b = b} d s e) =
     let one : flag (b .null) ≡ 1 = ap (λ (x : LanguageType). flag (x .null)) e in omega arith
 
-not-null : {Γ : Context} {g : Expression} {a : LanguageType} → Γ ⊢ g ∶ a → a .null ≡ false → own-count g ≤ 0
+not-null-none : {Γ : Context} {g : Expression} {a : LanguageType} → Γ ⊢ g ∶ a → a .null ≡ false → own-count g ≤ 0
 unfolding flag
-not-null {g = g} d e = subst (λ (b : Bool). own-count g ≤ flag b) e (own-null d)
+not-null-none {g = g} d e = subst (λ (b : Bool). own-count g ≤ flag b) e (own-null d)
 
-one-null : (a b : Bool) → (a && b) ≡ false → flag a + flag b ≤ 1
+one-of-two : (a b : Bool) → (a && b) ≡ false → flag a + flag b ≤ 1
 unfolding flag
-one-null true true e = absurd (true≢false e)
-one-null true false e = omega arith
-one-null false true e = omega arith
-one-null false false e = omega arith
+one-of-two true true e = absurd (true≢false e)
+one-of-two true false e = omega arith
+one-of-two false true e = omega arith
+one-of-two false false e = omega arith
 
-few : {Γ : Context} {g : Expression} {a : LanguageType} → Γ ⊢ g ∶ a → (p : ℕ) → 2 * length (tail-nodes g p) + 1 + own-count g ≤ size g
+few-added : {Γ : Context} {g : Expression} {a : LanguageType} → Γ ⊢ g ∶ a → (p : ℕ) → 2 * length (tail-nodes g p) + 1 + own-count g ≤ size g
 unfolding size
-few type-epsilon p = omega arith
-few type-bottom p = omega arith
-few (type-token t) p = omega arith
-few (type-variable u) p = omega arith
-few (type-sequence {g = g} {h = h} d e s) p =
+few-added type-epsilon p = omega arith
+few-added type-bottom p = omega arith
+few-added (type-token t) p = omega arith
+few-added (type-variable u) p = omega arith
+few-added (type-sequence {g = g} {h = h} d e s) p =
     let l = with-own g (suc p) (tail-nodes g (suc p)) in
     omega (
       arith,
-      few d (suc p),
-      few e (suc p + size g),
-      not-null d (s .not-null),
+      few-added d (suc p),
+      few-added e (suc p + size g),
+      not-null-none d (s .not-null),
       own-length g (suc p) (tail-nodes g (suc p)),
       length-append l ((suc p + size g) ∷ tail-nodes h (suc p + size g)),
     )
-few (type-alternative {g = g} {h = h} {a = a} {b = b} d e s) p =
+few-added (type-alternative {g = g} {h = h} {a = a} {b = b} d e s) p =
     let l = with-own g (suc p) (tail-nodes g (suc p)) in
     let r = with-own h (suc p + size g) (tail-nodes h (suc p + size g)) in
     omega (
       arith,
-      few d (suc p),
-      few e (suc p + size g),
+      few-added d (suc p),
+      few-added e (suc p + size g),
       own-null d,
       own-null e,
-      one-null (a .null) (b .null) (s .one-null),
+      one-of-two (a .null) (b .null) (s .one-null),
       own-length g (suc p) (tail-nodes g (suc p)),
       own-length h (suc p + size g) (tail-nodes h (suc p + size g)),
       length-append l r,
     )
-few (type-fixed-point {g = g} {a = a} d) p =
-    omega (arith, few d (suc p), own-length g (suc p) (tail-nodes g (suc p)), own-null d, flag-most (a .null))
-few (type-repetition {g = g} d s e) p =
-    omega (arith, few d (suc p), not-null d (s .not-null), own-length g (suc p) (tail-nodes g (suc p)))
+few-added (type-fixed-point {g = g} {a = a} d) p =
+    omega (arith, few-added d (suc p), own-length g (suc p) (tail-nodes g (suc p)), own-null d, flag-most (a .null))
+few-added (type-repetition {g = g} d s e) p =
+    omega (arith, few-added d (suc p), not-null-none d (s .not-null), own-length g (suc p) (tail-nodes g (suc p)))
 
 -- Fewer than half of the nodes.
 pub tail-nodes-few : {e : Expression} {a : LanguageType} → [] ⊢ e ∶ a → 2 * length (tail-nodes e 0) + 1 ≤ size e
-tail-nodes-few d = omega (arith, few d 0)
+tail-nodes-few d = omega (arith, few-added d 0)

@@ -53,7 +53,8 @@ fn with(set: u64, n: usize, member: bool) -> u64
     set
 }
 
-// Whether node n derives a token sequence, from the nodes that are known to. Its left part, or its body, is the next node.
+// Whether node n derives a token sequence, from the nodes that are known to. Its left part, or its body, is the next node. A repetition
+// derives the empty one.
 fn node_derives(tag: u8, link: u8, n: usize, set: u64) -> bool
     requires { ⌜ n < 64 ⌝ }
     ensures { λ r. ⌜ ((flags : List Bool) (guarded : Bool) → SetOf set flags

@@ -1,6 +1,6 @@
 -- What follows from the demands and is asked often: when a text is accepted, where it is refused, that a sheet which denotes nothing
--- accepts no text, and that a long enough stack never runs out; and both demands with every repetition spelled out, so that nothing but
--- the published typing rules and what they are about is left.
+-- accepts no text, and that a long enough stack never runs out; and demands 2 and 3 with every repetition spelled out: typing and
+-- denotation are then the published ones alone, while the sheet's bytes and its image stay those with tag 7.
 use mathlib.Core.Path.{_≡_}
 use mathlib.Core.List.{List}
 use mathlib.Core.Logic.{_↔_}
@@ -82,6 +82,7 @@ module _ (f : Functions) (demand : Demand2 f) (sheet : List ℕ) (bytes : Bytes 
         ),
       )
 
+  -- Its start unfolds to exactly the rule sequences that spell what the spelled-out expression denotes.
   pub spelled-out-unfolds : (image : List ℕ) → f .compile sheet work room ≡ compiled image → (s : Sheet) → Spells sheet s → (rules : List ℕ)
       → StartUnfolds ((image-of s) .rows) rules ↔ DenotedRules (with-other s (spelled-out (s .expression))) rules
   spelled-out-unfolds image h s spells rules =

@@ -67,7 +67,8 @@ pub record Demand1 (f : Functions) : Type 0 where
 -- Demand 2. "Given the work area that document 01 names, a sheet is accepted exactly if it is well formed, no lexer rule matches the
 -- empty text, its expression has a type under the published typing rules, and the image fits. The image is then the one normal
 -- form that document 01 sets out, and its start unfolds to exactly the rule sequences that spell a token sequence which the
--- expression denotes, each token spelled by any rule that returns it."
+-- expression denotes, each token spelled by any rule that returns it." In `Corollaries`, with repetitions spelled out as the published
+-- rules have it: `spelled-out-accepted`, `spelled-out-unfolds`.
 pub record Demand2 (f : Functions) : Type 0 where
   pub accepted-exactly : (sheet : List ℕ) → Bytes sheet → (work room : ℕ) → work-bytes ≤ work
       → ((image : List ℕ) × (f .compile sheet work room ≡ compiled image)) ↔ ((s : Sheet) × Acceptable sheet room s)
@@ -79,7 +80,7 @@ pub record Demand2 (f : Functions) : Type 0 where
 -- Demand 3. "Whatever bytes a text holds, for every sheet that demand 2 accepts, running the image fixed there over the text gives
 -- exactly the sheet's own answer .. Only, the text must be within the limit and the stack have at least 1 + 31 × its length entries."
 -- What follows from it by name is in `Corollaries`: `text-accepted-iff`, `text-accepted-answer`, `text-refused-place`, `nothing-accepted`,
--- `stack-never-short`.
+-- `stack-never-short`, `spelled-out-answered`.
 pub record Demand3 (f : Functions) : Type 0 where
   pub own-answer : (sheet : List ℕ) → Bytes sheet → (work room : ℕ) (image : List ℕ) → f .compile sheet work room ≡ compiled image
       → (s : Sheet) → Spells sheet s
