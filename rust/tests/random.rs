@@ -282,9 +282,14 @@ fn typed_sheets_are_accepted() {
             let part = sheet.locate(refusal.place);
             panic!("seed {seed}, case {case}: {refusal:?}: {part}");
         });
-        nodes += Sheet::read(sheet.as_bytes()).expect("accepted").nodes.len();
-        // The nonterminals are the start, right parts and repetitions: never more than half the nodes.
-        assert!(image.rows.len() <= 32, "seed {seed}, case {case}");
+        let own_nodes = Sheet::read(sheet.as_bytes()).expect("accepted").nodes.len();
+        nodes += own_nodes;
+        // The nonterminals are the start, right parts and repetitions: twice as many are at most one more
+        // than the nodes.
+        assert!(
+            2 * image.rows.len() <= own_nodes + 1,
+            "seed {seed}, case {case}"
+        );
         rows += image.rows.len();
         let productions = image.rows.iter().flat_map(|row| &row.productions);
         members += productions.map(|(_, tail)| tail.len()).sum::<usize>();
@@ -448,11 +453,20 @@ fn two_spellings(random: &mut Random) -> Option<[builder::Sheet; 2]> {
 /// Both sheets are accepted, or both are refused with the same number, which is given. A repetition of a
 /// nullable part is the one exception: its fixed point meets 10 at the alternative, before 9.
 fn same_verdict([sheet, spelled_out]: &[builder::Sheet; 2], context: &str) -> u64 {
-    let start_type = |sheet: &builder::Sheet| {
-        let parts = Sheet::read(sheet.as_bytes()).expect("readable");
-        least_types(&parts.nodes)[0]
+    let nodes_of = |sheet: &builder::Sheet| Sheet::read(sheet.as_bytes()).expect("readable").nodes;
+    let nodes = nodes_of(sheet);
+    let types = least_types(&nodes);
+    assert_eq!(
+        types[0],
+        least_types(&nodes_of(spelled_out))[0],
+        "{context}"
+    );
+    let repeats_nullable = |place| {
+        nodes.iter().any(|node| match node.kind {
+            Kind::Repetition(part) => node.place == place && types[part].nullable,
+            _ => false,
+        })
     };
-    assert_eq!(start_type(sheet), start_type(spelled_out), "{context}");
     let mut verdict = 0;
     for engine in engines() {
         let compile = |sheet: &builder::Sheet| {
@@ -461,18 +475,9 @@ fn same_verdict([sheet, spelled_out]: &[builder::Sheet; 2], context: &str) -> u6
         };
         let (number, place) = compile(sheet);
         let (other, _) = compile(spelled_out);
-        let at_repetition = match sheet.locate(place).kind {
-            PartKind::Expression { expression, .. } => {
-                matches!(expression, Expression::Repetition(_))
-            }
-            _ => false,
-        };
-        let excepted = (number, other) == (9, 10) && at_repetition;
-        assert!(
-            number == other || excepted,
-            "{context}: {}: {number} and {other}",
-            engine.name
-        );
+        let excepted = number == 9 && repeats_nullable(place);
+        let expected = if excepted { 10 } else { number };
+        assert_eq!(other, expected, "{context}: {}", engine.name);
         verdict = number;
     }
     verdict

@@ -178,7 +178,7 @@ impl Expression {
     /// Any number of times this, as a repetition. It means μx.(ε ∨ this·x), but it is one node, and
     /// variables count past it.
     ///
-    /// This must be separable from itself: it is not nullable, and no token that may follow its last
+    /// This must be separable from itself: it must not be nullable, and no token that may follow its last
     /// token may begin it. Compiling refuses any other with 9 at the repetition.
     ///
     /// ```
