@@ -2,6 +2,7 @@
 -- computed by these: they say what repetition means.
 use Prim.Native.Nat.{ℕ, zero, suc}
 use Rattle.stage1_sheet.specs.Expression.{Expression, epsilon, bottom, token, sequence, alternative, fixed-point, variable, repetition}
+use Rattle.stage1_sheet.specs.Sheet.{Sheet}
 
 -- A variable's count where one more fixed point is open, `depth` fixed points out: below `depth` it stays, else it is one more.
 abbrev pub raise-count : ℕ → ℕ → ℕ
@@ -33,6 +34,10 @@ spelled-out (alternative g h) = alternative (spelled-out g) (spelled-out h)
 spelled-out (fixed-point g) = fixed-point (spelled-out g)
 spelled-out (variable n) = variable n
 spelled-out (repetition g) = repetition-form (spelled-out g)
+
+-- The sheet with its expression spelled out.
+abbrev pub spelled-out-sheet : Sheet → Sheet
+spelled-out-sheet s = record { tokens = s .tokens; rules = s .rules; expression = spelled-out (s .expression) }
 
 -- An expression of the published forms alone: no repetition stands in it.
 abbrev pub Published : Expression → Type 0

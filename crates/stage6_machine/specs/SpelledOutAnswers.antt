@@ -6,13 +6,13 @@ use Prim.Native.Nat.{ℕ}
 use Rattle.stage1_sheet.specs.Expression.{Expression}
 use Rattle.stage1_sheet.specs.Sheet.{Sheet}
 use Rattle.stage2_types.specs.Denotation.{Denotes}
-use Rattle.stage2_types.specs.SpelledOut.{spelled-out}
+use Rattle.stage2_types.specs.SpelledOut.{spelled-out, spelled-out-sheet}
 use Rattle.stage2_types.specs.SpelledOutDenotation.{spelled-out-denotes}
 use Rattle.stage6_machine.specs.Answer.{Answer}
 use Rattle.stage6_machine.specs.OwnAnswer.{AnswersFrom, accepts, ends-early, no-rule, skips, takes, refuses, OwnAnswer}
 
 -- The sheet with another expression.
-abbrev pub with-other : Sheet → Expression → Sheet
+abbrev with-other : Sheet → Expression → Sheet
 with-other s e = record { tokens = s .tokens; rules = s .rules; expression = e }
 
 -- Expressions that denote the same sequences give the same answers.
@@ -28,11 +28,10 @@ module _ (s : Sheet) (e : Expression) (same : (tokens : List ℕ) → Denotes (s
       refuses r n k h m act (λ x. d (x .0, same (tokens ++ (k ∷ x .0)) .1 (x .1)))
 
 pub spelled-out-own-answer : (s : Sheet) (text : List ℕ) (a : Answer)
-    → OwnAnswer s text a ↔ OwnAnswer (with-other s (spelled-out (s .expression))) text a
+    → OwnAnswer s text a ↔ OwnAnswer (spelled-out-sheet s) text a
 spelled-out-own-answer s text a =
     let e = s .expression in
-    let other = with-other s (spelled-out e) in
     let denotes = spelled-out-denotes e in (
       same-answers s (spelled-out e) denotes text,
-      same-answers other e (λ tokens. (denotes tokens .1, denotes tokens .0)) text,
+      same-answers (spelled-out-sheet s) e (λ tokens. (denotes tokens .1, denotes tokens .0)) text,
     )

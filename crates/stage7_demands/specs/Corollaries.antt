@@ -11,7 +11,7 @@ use Rattle.stage1_sheet.specs.WellFormed.{Spells}
 use Rattle.stage1_sheet.specs.FieldLaws.{Bytes}
 use Rattle.stage2_types.specs.Denotation.{Denotes}
 use Rattle.stage2_types.specs.Types.{HasType}
-use Rattle.stage2_types.specs.SpelledOut.{spelled-out}
+use Rattle.stage2_types.specs.SpelledOut.{spelled-out, spelled-out-sheet}
 use Rattle.stage2_types.specs.SpelledOutDenotation.{spelled-out-denotes}
 use Rattle.stage2_types.specs.SpelledOutTyping.{spelled-out-has-type}
 use Rattle.stage4_lexer.specs.Words.{NoEmptyRule}
@@ -25,7 +25,7 @@ use Rattle.stage6_machine.specs.Run.{most-text-bytes, long-enough}
 use Rattle.stage6_machine.specs.OwnAnswer.{OwnAnswer}
 use Rattle.stage6_machine.specs.Lexes.{Lexes, LexesTo, GoesNoFurther}
 use Rattle.stage6_machine.specs.AcceptanceLaws.{accepted-iff, accepted-answer, refused-place, own-answer-not-17}
-use Rattle.stage6_machine.specs.SpelledOutAnswers.{with-other, spelled-out-own-answer}
+use Rattle.stage6_machine.specs.SpelledOutAnswers.{spelled-out-own-answer}
 use Rattle.stage7_demands.specs.Demands.{Functions, Demand2, Demand3}
 
 -- Of any functions that meet demand 3: a sheet that compiling accepted, its image, a text within the limit, and a long enough stack.
@@ -62,7 +62,7 @@ module _ (f : Functions) (demand : Demand3 f) (sheet : List ℕ) (bytes : Bytes 
   stack-never-short = own-answer-not-17 s text a own
 
   -- What running answers is the own answer of the sheet with every repetition spelled out.
-  pub spelled-out-answered : OwnAnswer (with-other s (spelled-out (s .expression))) text a
+  pub spelled-out-answered : OwnAnswer (spelled-out-sheet s) text a
   spelled-out-answered = spelled-out-own-answer s text a .0 own
 
 -- "its expression has a type under the published typing rules", which know no repetition: spelled out it has the published forms alone
@@ -84,7 +84,7 @@ module _ (f : Functions) (demand : Demand2 f) (sheet : List ℕ) (bytes : Bytes 
 
   -- Its start unfolds to exactly the rule sequences that spell what the spelled-out expression denotes.
   pub spelled-out-unfolds : (image : List ℕ) → f .compile sheet work room ≡ compiled image → (s : Sheet) → Spells sheet s → (rules : List ℕ)
-      → StartUnfolds ((image-of s) .rows) rules ↔ DenotedRules (with-other s (spelled-out (s .expression))) rules
+      → StartUnfolds ((image-of s) .rows) rules ↔ DenotedRules (spelled-out-sheet s) rules
   spelled-out-unfolds image h s spells rules =
       let exactly = demand .unfolds-exactly sheet bytes work room image h s spells rules in
       let denotes = spelled-out-denotes (s .expression) in (
