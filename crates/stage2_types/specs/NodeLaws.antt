@@ -39,7 +39,7 @@ nodes-length (alternative g h) p binders =
     ∙ omega arith
 nodes-length (fixed-point g) p binders = ap suc (nodes-length g (suc p) _) ∙ omega arith
 nodes-length (variable n) p binders = refl
-nodes-length (repetition g) p binders = ap suc (nodes-length g (suc p) binders) ∙ omega arith
+nodes-length (repetition g) p binders = ap suc (nodes-length g (suc p) _) ∙ omega arith
 
 -- The nodes of the right part stand behind those of the left.
 module _ (P : ℕ → Node → Type 0) (g : Expression) (p : ℕ) (binders : List Binder) (rest : List Node) where
