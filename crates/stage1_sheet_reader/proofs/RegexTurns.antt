@@ -1,5 +1,5 @@
 -- The laws of a regex node's turn: each way through it, what it leaves, and how the turns make up the definition's items.
-use mathlib.Core.Path.{_≡_, refl, sym, ap, _∙_}
+use mathlib.Core.Path.{_≡_, refl, ap, _∙_}
 use mathlib.Core.Bool.{Bool, true, false, cond}
 use mathlib.Core.List.{List, []}
 use Prim.Native.Nat.{ℕ, zero, suc, _+_, _-_, _≤_, _<_}
@@ -13,67 +13,47 @@ use Rattle.stage1_sheet.specs.FieldLaws.{Outcome, refused, accepted, then-outco
 use Rattle.stage1_sheet.specs.Items.{RegexItem, empty-item, class-item, concat-item, union-item, star-item, regex-parts, item-classes}
 use Rattle.stage1_sheet.specs.Reading.{sheet-field, class-after, regex-item, regex-items}
 use Rattle.stage1_sheet_columns.specs.declared.RuleColumns.{RuleColumns}
-use Rattle.stage1_sheet_reader.specs.Put.{with-tag, with-class, with-item}
-use Rattle.stage1_sheet_reader.specs.Turns.{regex-stopped, regex-gone, regex-turn, regex-turned}
+use Rattle.stage1_sheet_reader.specs.Put.{with-tag, with-item}
+use Rattle.stage1_sheet_reader.specs.Turns.{node-answer, regex-turn}
 use Rattle.stage1_sheet_reader.specs.Answers.{RulesFit}
-use Rattle.stage1_sheet_reader.specs.declared.Step.the-variants.{Next, Stop}
-use Rattle.stage1_sheet_reader.specs.declared.RegexTurn.{RegexTurn}
+use Rattle.stage1_sheet_reader.specs.declared.RuleTurn.the-variants.{Class, Plain}
 use Rattle.stage1_sheet_reader.proofs.Leading.{in-front}
 use Rattle.stage1_sheet_reader.proofs.Fields.{field-kept, Any, field-inside, pred-suc}
 
--- ---- a turn in columns, by what was read
-
-module _ (c : RuleColumns) (due : ℕ) {m : Reading RegexItem} where
-  pub turn-stops : {question place : ℕ} → m ≡ stop question place → regex-stopped c due question place ≡ regex-turned c due m
-  unfolding regex-turned
-  turn-stops e = rw e
-
-  pub turn-goes : {item : RegexItem} {next d : ℕ} {p : RuleColumns} → m ≡ got item next → d ≡ due - 1 + regex-parts item → p
-      ≡ with-item c item
-      → regex-gone p d next ≡ regex-turned c due m
-  unfolding regex-turned
-  turn-goes {item} {next} e n h = rw (e, n, h)
+-- ---- what the answer tells of the node
 
 -- A node that is only its tag, with so many parts.
-pub record PlainNode (c : RuleColumns) (tag : ℕ) (m : Reading RegexItem) (next parts : ℕ) : Type 0 where
+pub record PlainNode (tag parts : ℕ) (m : Reading RegexItem) (next : ℕ) : Type 0 where
   pub item : RegexItem
   pub read : m ≡ got item next
   pub parts-are : regex-parts item ≡ parts
-  pub put : with-tag c tag ≡ with-item c item
+  pub put : (c : RuleColumns) → with-tag c tag ≡ with-item c item
 
-pub plain-goes : (c : RuleColumns) (due : ℕ) {m : Reading RegexItem} {tag next parts d : ℕ} {p : RuleColumns}
-    → PlainNode c tag m next parts
-    → p ≡ with-tag c tag → d ≡ due - 1 + parts → regex-gone p d next ≡ regex-turned c due m
-plain-goes c due n h e = turn-goes c due (n .read) (e ∙ ap (λ (k : ℕ). due - 1 + k) (sym (n .parts-are))) (h ∙ n .put)
+plain-node : (item : RegexItem) (t k n : ℕ) {tag parts next : ℕ} → regex-parts item ≡ k → ((c : RuleColumns) → with-tag c t ≡ with-item c item)
+    → Plain t k n ≡ Plain tag parts next → PlainNode tag parts (got item n) next
+plain-node item t k n {tag} {parts} {next} h w e =
+    let i : tag ≡ t = cc in
+    let j : k ≡ parts = cc in
+    let l : n ≡ next = cc in
+    record { item = item; read = ap (got item) l; parts-are = h ∙ j; put = λ c. ap (with-tag c) i ∙ w c }
 
--- What a turn that goes on has read, and left.
-record Turned (c : RuleColumns) (due : ℕ) (m : Reading RegexItem) (r : RegexTurn) (next : ℕ) : Type 0 where
-  item : RegexItem
-  read : m ≡ got item next
-  due-is : r .due ≡ due - 1 + regex-parts item
-  rules-are : r .rules ≡ with-item c item
+pub plain-told : (m : Reading RegexItem) {tag parts next : ℕ} → node-answer m ≡ Plain tag parts next → PlainNode tag parts m next
+unfolding node-answer regex-parts with-item
+plain-told (stop q p) e = let z : _≡_ {A = ℕ} 0 1 = cc in absurd (omega arith)
+plain-told (got empty-item n) e = plain-node empty-item 0 0 n refl (λ c. refl) e
+plain-told (got (class-item low high) n) e = let z : _≡_ {A = ℕ} 0 1 = cc in absurd (omega arith)
+plain-told (got concat-item n) e = plain-node concat-item 2 2 n refl (λ c. refl) e
+plain-told (got union-item n) e = plain-node union-item 3 2 n refl (λ c. refl) e
+plain-told (got star-item n) e = plain-node star-item 4 1 n refl (λ c. refl) e
 
-module _ (c : RuleColumns) (due : ℕ) where
-  pub turned-stop : (m : Reading RegexItem) {r : RegexTurn} {question place : ℕ} → r ≡ regex-turned c due m → r .step
-      ≡ Stop question place
-      → m ≡ stop question place
-  unfolding regex-turned
-  turned-stop (stop q p) {r} e h = let k = ap (λ (t : RegexTurn). t .step) e in cc
-  turned-stop (got i n) {r} e h = let k = ap (λ (t : RegexTurn). t .step) e in let z : _≡_ {A = ℕ} 0 1 = cc in absurd (omega arith)
-
-  pub stopped-rules : {m : Reading RegexItem} {r : RegexTurn} {question place : ℕ} → r ≡ regex-turned c due m → m ≡ stop question place
-      → r .rules ≡ c
-  unfolding regex-turned
-  stopped-rules {m} {r} e s = ap (λ (t : RegexTurn). t .rules) (e ∙ ap (regex-turned c due) s)
-
-  turned-next : (m : Reading RegexItem) {r : RegexTurn} {next : ℕ} → r ≡ regex-turned c due m → r .step ≡ Next next
-      → Turned c due m r next
-  unfolding regex-turned
-  turned-next (stop q p) {r} e h = let k = ap (λ (t : RegexTurn). t .step) e in let z : _≡_ {A = ℕ} 0 1 = cc in absurd (omega arith)
-  turned-next (got i n) {r} {next} e h =
-      let k = ap (λ (t : RegexTurn). t .step) e in
-      let same : n ≡ next = cc in
-      record { item = i; read = ap (got i) same; due-is = ap (λ (t : RegexTurn). t .due) e; rules-are = ap (λ (t : RegexTurn). t .rules) e }
+pub class-told : (m : Reading RegexItem) {low high next : ℕ} → node-answer m ≡ Class low high next → m ≡ got (class-item low high) next
+unfolding node-answer
+class-told (stop q p) e = let z : _≡_ {A = ℕ} 0 1 = cc in absurd (omega arith)
+class-told (got empty-item n) e = let z : _≡_ {A = ℕ} 0 1 = cc in absurd (omega arith)
+class-told (got (class-item low high) n) e = cc
+class-told (got concat-item n) e = let z : _≡_ {A = ℕ} 0 1 = cc in absurd (omega arith)
+class-told (got union-item n) e = let z : _≡_ {A = ℕ} 0 1 = cc in absurd (omega arith)
+class-told (got star-item n) e = let z : _≡_ {A = ℕ} 0 1 = cc in absurd (omega arith)
 
 -- ---- the ways through a byte class
 
@@ -99,11 +79,6 @@ module _ (bytes : List ℕ) (n at next : ℕ) where
       unfolding class-after
       class-whole f = rw (ne-eqb (64 - n) 0 (λ z. omega arith), e, f)
 
-pub class-put : (c : RuleColumns) (low high : ℕ) {p q : RuleColumns} → p ≡ with-tag c 1 → q ≡ with-class p low high → q
-    ≡ with-item c (class-item low high)
-unfolding with-item
-class-put c low high e f = f ∙ ap (λ (r : RuleColumns). with-class r low high) e
-
 -- ---- the ways through a regex node
 
 module _ (bytes : List ℕ) (items classes at : ℕ) where
@@ -125,35 +100,31 @@ module _ (bytes : List ℕ) (items classes at : ℕ) where
     unfolding regex-item
     node-class h t = node-tag h ∙ rw t
 
-    -- A plain node, by its tag.
-    plain-node : (c : RuleColumns) (item : RegexItem) → items < 256 → regex-item bytes classes at tag next ≡ got item next
-        → with-tag c tag ≡ with-item c item → PlainNode c tag (regex-turn bytes (256 - items) classes at) next (regex-parts item)
-    plain-node c item h r w = record { item = item; read = node-tag h ∙ r; parts-are = refl; put = w }
+    module _ (h : items < 256) where
+      pub node-empty : tag ≡ 0 → Plain tag 0 next ≡ node-answer (regex-turn bytes (256 - items) classes at)
+      unfolding regex-item node-answer
+      node-empty t = rw (node-tag h, t)
 
-    pub node-empty : (c : RuleColumns) → items < 256 → tag ≡ 0 → PlainNode c tag (regex-turn bytes (256 - items) classes at) next 0
-    unfolding regex-item regex-parts with-item
-    node-empty c h t = plain-node c empty-item h (rw t) (rw t)
+      pub node-star : tag ≡ 4 → Plain tag 1 next ≡ node-answer (regex-turn bytes (256 - items) classes at)
+      unfolding regex-item node-answer
+      node-star t = rw (node-tag h, t)
 
-    pub node-star : (c : RuleColumns) → items < 256 → tag ≡ 4 → PlainNode c tag (regex-turn bytes (256 - items) classes at) next 1
-    unfolding regex-item regex-parts with-item
-    node-star c h t = plain-node c star-item h (rw t) (rw t)
+      -- The tags that are left are those of two parts.
+      pub node-two : (tag ≡ 0 → ⊥) → (tag ≡ 1 → ⊥) → (tag ≡ 4 → ⊥)
+          → Plain tag 2 next ≡ node-answer (regex-turn bytes (256 - items) classes at)
+      unfolding regex-item node-answer
+      node-two n0 n1 n4 = go tag refl
+        where
+          most : tag ≤ most-regex-tag
+          most = true-between 0 most-regex-tag tag (field-kept (between 0 most-regex-tag) bytes at e .holds) .1
 
-    -- The tags that are left are those of two parts.
-    pub node-two : (c : RuleColumns) → items < 256 → (tag ≡ 0 → ⊥) → (tag ≡ 1 → ⊥) → (tag ≡ 4 → ⊥)
-        → PlainNode c tag (regex-turn bytes (256 - items) classes at) next 2
-    unfolding regex-item regex-parts with-item
-    node-two c h n0 n1 n4 = go tag refl
-      where
-        most : tag ≤ most-regex-tag
-        most = true-between 0 most-regex-tag tag (field-kept (between 0 most-regex-tag) bytes at e .holds) .1
-
-        go : (t : ℕ) → tag ≡ t → PlainNode c tag (regex-turn bytes (256 - items) classes at) next 2
-        go zero s = absurd (n0 s)
-        go (suc zero) s = absurd (n1 s)
-        go (suc (suc zero)) s = plain-node c concat-item h (rw s) (rw s)
-        go (suc (suc (suc zero))) s = plain-node c union-item h (rw s) (rw s)
-        go (suc (suc (suc (suc zero)))) s = absurd (n4 s)
-        go (suc (suc (suc (suc (suc t))))) s = absurd (omega (arith, most))
+          go : (t : ℕ) → tag ≡ t → Plain tag 2 next ≡ node-answer (regex-turn bytes (256 - items) classes at)
+          go zero s = absurd (n0 s)
+          go (suc zero) s = absurd (n1 s)
+          go (suc (suc zero)) s = rw (node-tag h, s)
+          go (suc (suc (suc zero))) s = rw (node-tag h, s)
+          go (suc (suc (suc (suc zero)))) s = absurd (n4 s)
+          go (suc (suc (suc (suc (suc t))))) s = absurd (omega (arith, most))
 
 -- ---- what a node that was read keeps
 
@@ -286,7 +257,7 @@ module _ (bytes : List ℕ) (c : RuleColumns) (at : ℕ) where
         classes = omega (arith, n .class-allowed, f .classes, classes-put c item);
       }
 
-parts-most : (item : RegexItem) → regex-parts item ≤ 2
+pub parts-most : (item : RegexItem) → regex-parts item ≤ 2
 unfolding regex-parts
 parts-most empty-item = omega arith
 parts-most (class-item low high) = omega arith
@@ -294,34 +265,22 @@ parts-most concat-item = omega arith
 parts-most union-item = omega arith
 parts-most star-item = omega arith
 
--- How it goes on after a turn, from the columns p with d regexes due.
-pub record Again (bytes : List ℕ) (c : RuleColumns) (at due : ℕ) (p : RuleColumns) (d next : ℕ) : Type 0 where
-  pub item : RegexItem
+-- How it goes on after a node, from the columns p with d regexes due.
+pub record Again (bytes : List ℕ) (c : RuleColumns) (at due : ℕ) (item : RegexItem) (p : RuleColumns) (d next : ℕ) : Type 0 where
   pub inside : next ≤ length bytes
   pub due-few : d ≤ p .items + 1
   pub fits : RulesFit p
-  pub more : p .items ≡ c .items + 1
-  pub room : c .items < 256
-  pub put : p ≡ with-item c item
   pub rest : items-from bytes c at due ≡ and-then (items-from bytes p next d) (in-front item)
 
-module _ (bytes : List ℕ) (c : RuleColumns) (at due : ℕ) {r : RegexTurn} {next : ℕ}
-    (l : 0 < due) (few : due ≤ c .items + 1) (f : RulesFit c) where
-  after-turn : Turned c due (turn-from bytes c at) r next → Again bytes c at due (r .rules) (r .due) next
-  after-turn t =
-      let n = node-kept bytes (256 - c .items) (64 - c .classes) at (t .read) in
-      let i = items-put c (t .item) in
-      let p = parts-most (t .item) in
-      rw (t .rules-are, t .due-is) record {
-        item = t .item;
-        inside = n .inside;
-        due-few = omega arith;
-        fits = fit-put bytes c at f (t .read);
-        more = i;
-        room = omega (arith, n .node-allowed);
-        put = refl;
-        rest = items-next bytes c at due l (t .read);
-      }
-
-  pub turn-again : r ≡ regex-turned c due (turn-from bytes c at) → r .step ≡ Next next → Again bytes c at due (r .rules) (r .due) next
-  turn-again e h = after-turn (turned-next c due (turn-from bytes c at) e h)
+pub turn-again : (bytes : List ℕ) (c : RuleColumns) (at due : ℕ) {item : RegexItem} {next d : ℕ} {p : RuleColumns} → 0 < due
+    → due ≤ c .items + 1 → RulesFit c → turn-from bytes c at ≡ got item next → p ≡ with-item c item → d ≡ due - 1 + regex-parts item
+    → Again bytes c at due item p d next
+turn-again bytes c at due {item} l few f e h k =
+    let i = items-put c item in
+    let m = parts-most item in
+    rw (h, k) record {
+      inside = node-kept bytes (256 - c .items) (64 - c .classes) at e .inside;
+      due-few = omega arith;
+      fits = fit-put bytes c at f e;
+      rest = items-next bytes c at due l e;
+    }

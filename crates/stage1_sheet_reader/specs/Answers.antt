@@ -6,10 +6,10 @@ use Prim.Native.Nat.{ℕ, _+_, _-_, _≤_}
 use lib.ListN.{length, getD}
 use Rattle.stage1_sheet.specs.Limits.{most-expression-nodes}
 use Rattle.stage1_sheet.specs.Field.{Reading, stop, got, read-many}
-use Rattle.stage1_sheet.specs.Reading.{regex-items, ReadNode, Allowance, less-rule, read-rule, expression-nodes}
+use Rattle.stage1_sheet.specs.Reading.{ReadNode, Allowance, less-rule, read-rule, expression-nodes}
 use Rattle.stage1_sheet_columns.specs.declared.RuleColumns.{RuleColumns}
 use Rattle.stage1_sheet_columns.specs.declared.NodeColumns.{NodeColumns}
-use Rattle.stage1_sheet_reader.specs.Put.{with-item, with-all, with-rule, with-read-node, no-rules, no-nodes}
+use Rattle.stage1_sheet_reader.specs.Put.{with-all, with-rule, with-read-node, no-rules, no-nodes}
 use Rattle.stage1_sheet_reader.specs.Reads.{refused-columns}
 use Rattle.stage1_sheet_reader.specs.declared.Step.{Step}
 use Rattle.stage1_sheet_reader.specs.declared.Step.the-variants.{Next, Stop}
@@ -42,15 +42,7 @@ Says put most (got a end) c s d = (s ≡ Next end) × (d ≡ put c a) × (end �
 pub record Answers {A C : Type 0} (put : C → A → C) (most : ℕ) (m : Reading A) (c : C) (s : Step) (d : C) : Type 0 where
   pub says : Says put most m c s d
 
--- One regex, one rule, so many rules, and the expression.
-pub record ReadsRegex (bytes : List ℕ) (at : ℕ) (c : RuleColumns) (s : Step) (d : RuleColumns) : Type 0 where
-  pub answers : Answers (with-all with-item) (length bytes) (regex-items bytes (256 - c .items) (64 - c .classes) 1 at) c s d
-  pub fits : RulesFit d
-
-pub record ReadsRule (bytes : List ℕ) (at tokens : ℕ) (c : RuleColumns) (s : Step) (d : RuleColumns) : Type 0 where
-  pub answers : Answers with-rule (length bytes) (read-rule bytes tokens (allowance c) at) c s d
-  pub fits : RulesFit d
-
+-- So many rules, and the expression.
 pub record ReadsRules (bytes : List ℕ) (at tokens count : ℕ) (s : Step) (d : RuleColumns) : Type 0 where
   pub answers : Answers (with-all with-rule) (length bytes) (read-many (read-rule bytes tokens) less-rule (allowance no-rules) count at) no-rules s d
   pub fits : RulesFit d

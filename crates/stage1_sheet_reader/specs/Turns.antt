@@ -1,27 +1,27 @@
--- One turn of each reader, as the code takes it: a field, a regex node, an expression node. Which nodes come after one another
+-- One turn of each reader, as the code takes it: a field, a part of a rule, an expression node. Which nodes come after one another
 -- is the definition's to say, to which the proofs lead each turn.
 use mathlib.Core.Bool.{Bool, cond, _&&_}
 use mathlib.Core.List.{List, [], _∷_}
-use Prim.Native.Nat.{ℕ, _+_, _-_}
+use Prim.Native.Nat.{ℕ}
 use lib.Dec.{eqb, ltb, leb}
 use lib.ListN.{length}
 use Rattle.stage1_sheet.specs.Limits.{most-tokens, most-rules, most-expression-nodes, most-regex-tag, most-expression-tag}
 use Rattle.stage1_sheet.specs.Field.{Reading, stop, got, and-then, between}
-use Rattle.stage1_sheet.specs.Items.{RegexItem, regex-parts, ExpressionItem}
+use Rattle.stage1_sheet.specs.Items.{RegexItem, empty-item, class-item, concat-item, union-item, star-item, ExpressionItem}
 use Rattle.stage1_sheet.specs.Reading.{sheet-field, regex-item, ReadNode, expression-item, expression-nodes}
 use Rattle.stage1_sheet.specs.ExpressionItems.{expression-tag}
 use Rattle.stage1_sheet_columns.specs.Holds.{number-after}
-use Rattle.stage1_sheet_columns.specs.declared.RuleColumns.{RuleColumns}
 use Rattle.stage1_sheet_columns.specs.declared.NodeColumns.{NodeColumns}
 use Rattle.stage1_sheet_reader.specs.declared.Field.{Field}
 use Rattle.stage1_sheet_reader.specs.declared.Field.the-variants.{Value, Unfit}
 use Rattle.stage1_sheet_reader.specs.declared.Header.{Header}
 use Rattle.stage1_sheet_reader.specs.declared.Header.the-variants.{Counts, Wrong}
 use Rattle.stage1_sheet_reader.specs.declared.Step.the-variants.{Next, Stop}
-use Rattle.stage1_sheet_reader.specs.declared.RegexTurn.{RegexTurn}
+use Rattle.stage1_sheet_reader.specs.declared.RuleTurn.{RuleTurn}
+use Rattle.stage1_sheet_reader.specs.declared.RuleTurn.the-variants.{Action, Class, Plain, Over}
 use Rattle.stage1_sheet_reader.specs.declared.Pending.{Pending}
 use Rattle.stage1_sheet_reader.specs.declared.ExpressionTurn.{ExpressionTurn}
-use Rattle.stage1_sheet_reader.specs.Put.{with-item, with-node, with-parts}
+use Rattle.stage1_sheet_reader.specs.Put.{with-node, with-parts}
 
 -- From the least on, below the limit.
 unfoldable pub in-range : ℕ → ℕ → ℕ → Bool
@@ -59,16 +59,26 @@ regex-turn bytes left classes at =
     and-then (sheet-field (between 0 most-regex-tag) bytes at)
     (λ tag next. cond (eqb left 0) (stop 5 at) (regex-item bytes classes at tag next))
 
-abbrev pub regex-stopped : RuleColumns → ℕ → ℕ → ℕ → RegexTurn
-regex-stopped c due question place = record { step = Stop question place; due = due; rules = c }
+unfoldable pub node-answer : Reading RegexItem → RuleTurn
+node-answer (stop question place) = Over (Stop question place)
+node-answer (got empty-item next) = Plain 0 0 next
+node-answer (got (class-item low high) next) = Class low high next
+node-answer (got concat-item next) = Plain 2 2 next
+node-answer (got union-item next) = Plain 3 2 next
+node-answer (got star-item next) = Plain 4 1 next
 
-abbrev pub regex-gone : RuleColumns → ℕ → ℕ → RegexTurn
-regex-gone c due next = record { step = Next next; due = due; rules = c }
+-- The next rule's action, while rules are left.
+unfoldable pub action-answer : Reading ℕ → RuleTurn
+action-answer (stop question place) = Over (Stop question place)
+action-answer (got action next) = Action action next
 
--- What a turn leaves of the columns, and of the regexes due, of which the node is one.
-unfoldable pub regex-turned : RuleColumns → ℕ → Reading RegexItem → RegexTurn
-regex-turned c due (stop question place) = regex-stopped c due question place
-regex-turned c due (got item next) = regex-gone (with-item c item) (due - 1 + regex-parts item) next
+unfoldable pub action-turn : List ℕ → ℕ → ℕ → ℕ → RuleTurn
+action-turn bytes tokens left at = cond (eqb left 0) (Over (Next at)) (action-answer (sheet-field (between 0 tokens) bytes at))
+
+-- What comes next in the rules, while so many rules are left and so many regexes due.
+unfoldable pub rule-turn : List ℕ → ℕ → ℕ → ℕ → ℕ → ℕ → ℕ → RuleTurn
+rule-turn bytes tokens left due nodes classes at =
+    cond (eqb due 0) (action-turn bytes tokens left at) (node-answer (regex-turn bytes nodes classes at))
 
 -- An expression node inside so many open fixed points, while so many nodes are allowed.
 unfoldable pub expression-turn : List ℕ → ℕ → ℕ → ℕ → ℕ → Reading ExpressionItem

@@ -4,13 +4,13 @@ ghost use mathlib.Core.Path.{_≡_};
 ghost use Prim.Native.Nat.{_-_, _≤_, _<_};
 ghost use lib.ListN.{length, getD};
 ghost use Rattle.stage1_sheet.specs.Reading.{sheet-field, class-after, read-sheet};
-ghost use Rattle.stage1_sheet_reader.specs.Put.{with-tag, with-class, with-action, with-node, with-parts, next-opened};
+ghost use Rattle.stage1_sheet_reader.specs.Put.{with-node, with-parts, next-opened};
 ghost use Rattle.stage1_sheet_reader.specs.Put.{no-rules, no-nodes, one-pending};
 ghost use Rattle.stage1_sheet_reader.specs.Turns.{in-range, field-answer, header, header-answer, nodes-to-end};
-ghost use Rattle.stage1_sheet_reader.specs.Turns.{regex-turn, regex-stopped, regex-gone, regex-turned};
+ghost use Rattle.stage1_sheet_reader.specs.Turns.{node-answer, regex-turn, action-turn, rule-turn};
 ghost use Rattle.stage1_sheet_reader.specs.Turns.{expression-turn, expression-stopped, expression-gone, expression-turned};
 ghost use Rattle.stage1_sheet_reader.specs.Turns.{numbered-turned};
-ghost use Rattle.stage1_sheet_reader.specs.Answers.{RulesFit, PendingFit, ReadsRegex, ReadsRule, ReadsRules, ReadsExpression};
+ghost use Rattle.stage1_sheet_reader.specs.Answers.{PendingFit, ReadsRules, ReadsExpression};
 ghost use Rattle.stage1_sheet_reader.specs.Answers.{Finished};
 ghost use Rattle.stage1_sheet_reader.specs.Reads.{refused-columns, Reads};
 use stage0_number::Number;
@@ -65,11 +65,13 @@ enum Header {
     Wrong(u8, usize),
 }
 
-// A regex node read into the columns, with how many regexes are still due.
-struct RegexTurn {
-    step: Step,
-    due: usize,
-    rules: RuleColumns,
+// What comes next in the rules, with the place after it: a rule's action, or of its regex a byte class or a tag with how many
+// parts it has. Or that the rules are over, or reading stops.
+enum RuleTurn {
+    Action(u8, usize),
+    Class(u8, u8, usize),
+    Plain(u8, usize, usize),
+    Over(Step),
 }
 
 // Rules read into the columns.
@@ -117,44 +119,6 @@ fn read_field(sheet: &[u8], at: usize, least: u8, limit: u64) -> Field
     }
 }
 
-// The columns with one regex node more.
-fn with_tag(rules: RuleColumns, tag: u8) -> RuleColumns
-    requires { ⌜ rules .items < 256 ⌝ }
-    ensures { λ r. ⌜ r ≡ with-tag rules tag ⌝ }
-{
-    let mut out = rules;
-    let n = out.items;
-    out.tag[n] = tag;
-    out.items = n + 1;
-    out
-}
-
-// The columns with one class more.
-fn with_class(rules: RuleColumns, low: u8, high: u8) -> RuleColumns
-    requires { ⌜ rules .classes < 64 ⌝ }
-    ensures { λ r. ⌜ r ≡ with-class rules low high ⌝ }
-{
-    let mut out = rules;
-    let n = out.classes;
-    out.low[n] = low;
-    out.high[n] = high;
-    out.classes = n + 1;
-    out
-}
-
-// The columns with one rule more, whose regex is still to come.
-fn with_action(rules: RuleColumns, action: u8, place: u16) -> RuleColumns
-    requires { ⌜ rules .count < 32 ⌝ }
-    ensures { λ r. ⌜ r ≡ with-action rules action place ⌝ }
-{
-    let mut out = rules;
-    let n = out.count;
-    out.action[n] = action;
-    out.place[n] = place;
-    out.count = n + 1;
-    out
-}
-
 // The columns with one expression node more.
 fn with_node(nodes: NodeColumns, tag: u8, number: u8, place: u16) -> NodeColumns
     requires { ⌜ nodes .count < 64 ⌝ }
@@ -199,117 +163,77 @@ fn with_parts(pending: Pending, tag: u8) -> Pending
     out
 }
 
-// A refusal, with the columns as they are.
-fn regex_stop(question: u8, place: usize, due: usize, rules: RuleColumns) -> RegexTurn
-    ensures { λ r. ⌜ r ≡ regex-stopped rules due question place ⌝ }
+// A byte class whose tag stands at `at`, after so many classes: its low and high bytes stand from `next` on.
+fn class_turn(sheet: &[u8], at: usize, next: usize, classes: usize) -> RuleTurn
+    ensures { λ r. ⌜ r ≡ node-answer (class-after (now (sheet .entry)) (64 - classes) at next) ⌝ }
 {
-    RegexTurn {
-        step: Step::Stop(question, place),
-        due,
-        rules,
-    }
-}
-
-// A node read, with the columns that have it.
-fn regex_next(place: usize, due: usize, rules: RuleColumns) -> RegexTurn
-    ensures { λ r. ⌜ r ≡ regex-gone rules due place ⌝ }
-{
-    RegexTurn {
-        step: Step::Next(place),
-        due,
-        rules,
-    }
-}
-
-// A byte class whose tag stands at `at`: its low and high bytes stand from `next` on.
-fn class_turn(sheet: &[u8], at: usize, next: usize, due: usize, rules: RuleColumns) -> RegexTurn
-    requires { ⌜ (0 < due) × (rules .items < 256) × (rules .classes ≤ 64) ⌝ }
-    ensures { λ r. ⌜ r ≡ regex-turned rules due (class-after (now (sheet .entry)) (64 - rules .classes) at next) ⌝ }
-{
-    let classes = rules.classes;
     if classes >= MOST_CLASSES {
-        return regex_stop(5, at, due, rules);
+        return RuleTurn::Over(Step::Stop(5, at));
     }
     match read_field(sheet, next, 0, 256) {
-        Field::Unfit(question, place) => regex_stop(question, place, due, rules),
+        Field::Unfit(question, place) => RuleTurn::Over(Step::Stop(question, place)),
         Field::Value(low, after) => match read_field(sheet, after, low, 256) {
-            Field::Unfit(question, place) => regex_stop(question, place, due, rules),
-            Field::Value(high, end) => {
-                let tagged = with_tag(rules, 1);
-                let put = with_class(tagged, low, high);
-                regex_next(end, due - 1, put)
-            }
+            Field::Unfit(question, place) => RuleTurn::Over(Step::Stop(question, place)),
+            Field::Value(high, end) => RuleTurn::Class(low, high, end),
         },
     }
 }
 
-// A regex node at a place, while regexes are due.
-fn regex_turn(sheet: &[u8], at: usize, due: usize, rules: RuleColumns) -> RegexTurn
-    requires { ⌜ (0 < due) × (due ≤ 257) × RulesFit rules ⌝ }
-    ensures { λ r. ⌜ r ≡ regex-turned rules due (regex-turn (now (sheet .entry)) (256 - rules .items) (64 - rules .classes) at) ⌝ }
+// A regex node at a place, after so many nodes and classes.
+fn regex_turn(sheet: &[u8], at: usize, items: usize, classes: usize) -> RuleTurn
+    ensures { λ r. ⌜ r ≡ node-answer (regex-turn (now (sheet .entry)) (256 - items) (64 - classes) at) ⌝ }
 {
     match read_field(sheet, at, 0, REGEX_TAGS) {
-        Field::Unfit(question, place) => regex_stop(question, place, due, rules),
+        Field::Unfit(question, place) => RuleTurn::Over(Step::Stop(question, place)),
         Field::Value(tag, next) => {
-            let items = rules.items;
             if items >= MOST_REGEX_NODES {
-                return regex_stop(5, at, due, rules);
+                return RuleTurn::Over(Step::Stop(5, at));
             }
             if tag == 1 {
-                return class_turn(sheet, at, next, due, rules);
+                return class_turn(sheet, at, next, classes);
             }
-            let put = with_tag(rules, tag);
             if tag == 0 {
-                return regex_next(next, due - 1, put);
+                return RuleTurn::Plain(tag, 0, next);
             }
             if tag == 4 {
-                return regex_next(next, due, put);
+                return RuleTurn::Plain(tag, 1, next);
             }
-            regex_next(next, due + 1, put)
+            RuleTurn::Plain(tag, 2, next)
         }
     }
 }
 
-// A regex from a place on.
-fn read_regex(sheet: &[u8], at: usize, rules: RuleColumns) -> RulesRead
-    requires { ⌜ (at ≤ length (now sheet)) × RulesFit rules ⌝ }
-    ensures { λ r. ⌜ ReadsRegex (now (sheet .entry)) at rules (r .step) (r .rules) ⌝ }
+// The action of the next rule, while rules are left.
+fn action_turn(sheet: &[u8], at: usize, tokens: u8, left: usize) -> RuleTurn
+    requires { ⌜ tokens ≤ 24 ⌝ }
+    ensures { λ r. ⌜ r ≡ action-turn (now (sheet .entry)) tokens left at ⌝ }
 {
-    let mut place = at;
-    let mut due: usize = 1;
-    let mut out = rules;
-    while due > 0 {
-        let turn = regex_turn(sheet, place, due, out);
-        let put = turn.rules;
-        let step = turn.step;
-        match step {
-            Step::Stop(_, _) => return RulesRead { step, rules: put },
-            Step::Next(next) => place = next,
-        }
-        due = turn.due;
-        out = put;
+    if left == 0 {
+        return RuleTurn::Over(Step::Next(at));
     }
-    RulesRead {
-        step: Step::Next(place),
-        rules: out,
-    }
-}
-
-// A rule from a place on: its action, and then its regex.
-fn read_rule(sheet: &[u8], at: usize, tokens: u8, rules: RuleColumns) -> RulesRead
-    requires { ⌜ (at ≤ length (now sheet)) × (length (now sheet) ≤ 4096) × (tokens ≤ 24) × (rules .count < 32) × RulesFit rules ⌝ }
-    ensures { λ r. ⌜ ReadsRule (now (sheet .entry)) at tokens rules (r .step) (r .rules) ⌝ }
-{
     match read_field(sheet, at, 0, tokens as u64 + 1) {
-        Field::Unfit(question, place) => RulesRead {
-            step: Step::Stop(question, place),
-            rules,
-        },
-        Field::Value(action, next) => {
-            let put = with_action(rules, action, at as u16);
-            read_regex(sheet, next, put)
-        }
+        Field::Unfit(question, place) => RuleTurn::Over(Step::Stop(question, place)),
+        Field::Value(action, next) => RuleTurn::Action(action, next),
     }
+}
+
+// A regex node while regexes are due, and otherwise the next rule's action.
+fn rule_turn(
+    sheet: &[u8],
+    at: usize,
+    tokens: u8,
+    left: usize,
+    due: usize,
+    items: usize,
+    classes: usize,
+) -> RuleTurn
+    requires { ⌜ tokens ≤ 24 ⌝ }
+    ensures { λ r. ⌜ r ≡ rule-turn (now (sheet .entry)) tokens left due (256 - items) (64 - classes) at ⌝ }
+{
+    if due == 0 {
+        return action_turn(sheet, at, tokens, left);
+    }
+    regex_turn(sheet, at, items, classes)
 }
 
 // Columns with no rule.
@@ -328,27 +252,45 @@ fn no_rules() -> RuleColumns
     }
 }
 
-// So many rules from a place on.
+// So many rules from a place on. One loop has the columns and stores each entry in place: columns that go through a call by
+// value are copied whole.
 fn read_rules(sheet: &[u8], at: usize, tokens: u8, count: u8) -> RulesRead
     requires { ⌜ (at ≤ length (now sheet)) × (length (now sheet) ≤ 4096) × (tokens ≤ 24) × (count ≤ 32) ⌝ }
     ensures { λ r. ⌜ ReadsRules (now (sheet .entry)) at tokens count (r .step) (r .rules) ⌝ }
 {
-    let many = count as usize;
     let mut place = at;
+    let mut due: usize = 0;
     let mut out = no_rules();
-    while out.count < many {
-        let one = read_rule(sheet, place, tokens, out);
-        let put = one.rules;
-        let step = one.step;
-        match step {
-            Step::Stop(_, _) => return RulesRead { step, rules: put },
-            Step::Next(next) => place = next,
+    loop {
+        let rules = out.count;
+        let items = out.items;
+        let classes = out.classes;
+        let left = count as usize - rules;
+        match rule_turn(sheet, place, tokens, left, due, items, classes) {
+            RuleTurn::Over(step) => return RulesRead { step, rules: out },
+            RuleTurn::Action(action, next) => {
+                out.action[rules] = action;
+                out.place[rules] = place as u16;
+                out.count = rules + 1;
+                due = 1;
+                place = next;
+            }
+            RuleTurn::Class(low, high, next) => {
+                out.tag[items] = 1;
+                out.items = items + 1;
+                out.low[classes] = low;
+                out.high[classes] = high;
+                out.classes = classes + 1;
+                due = due - 1;
+                place = next;
+            }
+            RuleTurn::Plain(tag, parts, next) => {
+                out.tag[items] = tag;
+                out.items = items + 1;
+                due = due - 1 + parts;
+                place = next;
+            }
         }
-        out = put;
-    }
-    RulesRead {
-        step: Step::Next(place),
-        rules: out,
     }
 }
 
