@@ -19,57 +19,25 @@ use Rattle.stage1_sheet.specs.Reading.{sheet-field, ReadNode, expression-item, 
 use Rattle.stage1_sheet.specs.ExpressionItems.{expression-tag}
 use Rattle.stage1_sheet_columns.specs.Holds.{number-after}
 use Rattle.stage1_sheet_columns.specs.declared.NodeColumns.{NodeColumns}
-use Rattle.stage1_sheet_reader.specs.Put.{with-node, with-read-node, due-from, due-of, next-opened, with-parts, no-nodes, one-pending}
-use Rattle.stage1_sheet_reader.specs.Turns.{in-range, expression-stopped, expression-gone, expression-turn, expression-turned, numbered-turned}
-use Rattle.stage1_sheet_reader.specs.Answers.{PendingFit}
-use Rattle.stage1_sheet_reader.specs.declared.Step.the-variants.{Next, Stop}
-use Rattle.stage1_sheet_reader.specs.declared.Pending.{Pending}
-use Rattle.stage1_sheet_reader.specs.declared.ExpressionTurn.{ExpressionTurn}
+use Rattle.stage1_sheet_reader.specs.Put.{with-node, with-read-node, Pending, pending, due-from, due-of, next-opened, with-parts, no-nodes}
+use Rattle.stage1_sheet_reader.specs.Turns.{in-range, expression-turn, expression-answer, numbered-answer}
+use Rattle.stage1_sheet_reader.specs.declared.ExpressionTurn.the-variants.{Node, Unread}
 use Rattle.stage1_sheet_reader.proofs.Leading.{in-front}
 use Rattle.stage1_sheet_reader.proofs.Fields.{below, field-same, field-kept, Any, field-inside, pred-suc}
 
--- ---- a turn in columns, by what was read
-
-module _ (c : NodeColumns) (p : Pending) (at : ℕ) where
-  module _ {m : Reading ExpressionItem} where
-    pub node-stops : {question place : ℕ} → m ≡ stop question place → expression-stopped c p question place ≡ expression-turned c p at m
-    unfolding expression-turned
-    node-stops e = rw e
-
-  module _ (tag : ℕ) {m : Reading ℕ} where
-    pub numbered-stops : {question place : ℕ} → m ≡ stop question place → expression-stopped c p question place
-        ≡ numbered-turned c p at tag m
-    unfolding numbered-turned
-    numbered-stops e = rw e
-
-    pub numbered-goes : {number next : ℕ} {n : NodeColumns} {q : Pending} → m ≡ got number next → n ≡ with-node c tag number at → q
-        ≡ with-parts p tag
-        → expression-gone n q next ≡ numbered-turned c p at tag m
-    unfolding numbered-turned
-    numbered-goes e h k = rw (e, h, k)
-
-  -- A number after its tag is the definition's token or variable.
-  pub numbered-is : (make : ℕ → ExpressionItem) (tag : ℕ) → ((k : ℕ) → expression-tag (make k) ≡ tag)
-      → ((k : ℕ) → number-after (make k) ≡ k)
-      → (m : Reading ℕ) → numbered-turned c p at tag m ≡ expression-turned c p at (and-then m (λ k end. got (make k) end))
-  unfolding numbered-turned expression-turned
-  numbered-is make tag t n (stop q s) = refl
-  numbered-is make tag t n (got k end) = rw (t k, n k)
-
 -- ---- the ways through an expression node
 
--- A node that is only its tag.
-pub record PlainItem (tag : ℕ) (m : Reading ExpressionItem) (next : ℕ) : Type 0 where
-  pub item : ExpressionItem
-  pub read : m ≡ got item next
-  pub same-tag : expression-tag item ≡ tag
-  pub no-number : number-after item ≡ 0
+-- A number after its tag is the definition's token or variable.
+numbered-is : (make : ℕ → ExpressionItem) (tag : ℕ) → ((k : ℕ) → expression-tag (make k) ≡ tag) → ((k : ℕ) → number-after (make k) ≡ k)
+    → (m : Reading ℕ) → numbered-answer tag m ≡ expression-answer (and-then m (λ k end. got (make k) end))
+unfolding numbered-answer expression-answer
+numbered-is make tag t n (stop q s) = refl
+numbered-is make tag t n (got k end) = rw (t k, n k)
 
-pub plain-item-goes : (c : NodeColumns) (p : Pending) (at : ℕ) {m : Reading ExpressionItem} {tag next : ℕ} {n : NodeColumns} {q : Pending}
-    → PlainItem tag m next
-    → n ≡ with-node c tag 0 at → q ≡ with-parts p tag → expression-gone n q next ≡ expression-turned c p at m
-unfolding expression-turned
-plain-item-goes c p at i h k = rw (i .read, i .same-tag, i .no-number, h, k)
+plain-is : (item : ExpressionItem) {m : Reading ExpressionItem} {tag next : ℕ} → m ≡ got item next → tag ≡ expression-tag item
+    → number-after item ≡ 0 → Node tag 0 next ≡ expression-answer m
+unfolding expression-answer
+plain-is item e t n = rw (e, t, n)
 
 module _ (bytes : List ℕ) (tokens count opened at : ℕ) where
   pub node-unfit : {question place : ℕ} → sheet-field (between 0 most-expression-tag) bytes at ≡ stop question place
@@ -87,79 +55,58 @@ module _ (bytes : List ℕ) (tokens count opened at : ℕ) where
       unfolding expression-turn
       node-tag = rw (e, ne-eqb (64 - count) 0 (λ z. omega arith))
 
-      pub node-token : tag ≡ 2 → expression-turn bytes tokens (64 - count) opened at
-          ≡ and-then (sheet-field (λ k. ltb k tokens) bytes next) (λ k end. got (token-item k) end)
-      unfolding expression-item
-      node-token t = node-tag ∙ rw t
+      -- A token's and a variable's number, with the code's range.
+      pub node-token : tag ≡ 2 → numbered-answer 2 (sheet-field (in-range 0 tokens) bytes next)
+          ≡ expression-answer (expression-turn bytes tokens (64 - count) opened at)
+      unfolding expression-item expression-tag number-after
+      node-token t =
+          ap (numbered-answer 2) (field-same (below tokens) bytes next)
+          ∙ numbered-is token-item 2 (λ k. refl) (λ k. refl) _ ∙ ap expression-answer (sym (node-tag ∙ rw t))
 
-      pub node-variable : tag ≡ 6 → expression-turn bytes tokens (64 - count) opened at
-          ≡ and-then (sheet-field (λ k. ltb k opened) bytes next) (λ k end. got (variable-item k) end)
-      unfolding expression-item
-      node-variable t = node-tag ∙ rw t
+      pub node-variable : tag ≡ 6 → numbered-answer 6 (sheet-field (in-range 0 opened) bytes next)
+          ≡ expression-answer (expression-turn bytes tokens (64 - count) opened at)
+      unfolding expression-item expression-tag number-after
+      node-variable t =
+          ap (numbered-answer 6) (field-same (below opened) bytes next)
+          ∙ numbered-is variable-item 6 (λ k. refl) (λ k. refl) _ ∙ ap expression-answer (sym (node-tag ∙ rw t))
 
-      pub node-plain : (tag ≡ 2 → ⊥) → (tag ≡ 6 → ⊥) → PlainItem tag (expression-turn bytes tokens (64 - count) opened at) next
+      pub node-plain : (tag ≡ 2 → ⊥) → (tag ≡ 6 → ⊥) → Node tag 0 next ≡ expression-answer (expression-turn bytes tokens (64 - count) opened at)
       unfolding expression-item expression-tag number-after
       node-plain n2 n6 = go tag refl
         where
           most : tag ≤ most-expression-tag
           most = true-between 0 most-expression-tag tag (field-kept (between 0 most-expression-tag) bytes at e .holds) .1
 
-          go : (t : ℕ) → tag ≡ t → PlainItem tag (expression-turn bytes tokens (64 - count) opened at) next
-          go zero s = record { item = epsilon-item; read = node-tag ∙ rw s; same-tag = sym s; no-number = refl }
-          go (suc zero) s = record { item = bottom-item; read = node-tag ∙ rw s; same-tag = sym s; no-number = refl }
+          go : (t : ℕ) → tag ≡ t → Node tag 0 next ≡ expression-answer (expression-turn bytes tokens (64 - count) opened at)
+          go zero s = plain-is epsilon-item (node-tag ∙ rw s) s refl
+          go (suc zero) s = plain-is bottom-item (node-tag ∙ rw s) s refl
           go (suc (suc zero)) s = absurd (n2 s)
-          go (suc (suc (suc zero))) s = record { item = sequence-item; read = node-tag ∙ rw s; same-tag = sym s; no-number = refl }
-          go (suc (suc (suc (suc zero)))) s = record { item = alternative-item; read = node-tag ∙ rw s; same-tag = sym s; no-number = refl }
-          go (suc (suc (suc (suc (suc zero))))) s = record { item = fixed-point-item; read = node-tag ∙ rw s; same-tag = sym s; no-number = refl }
+          go (suc (suc (suc zero))) s = plain-is sequence-item (node-tag ∙ rw s) s refl
+          go (suc (suc (suc (suc zero)))) s = plain-is alternative-item (node-tag ∙ rw s) s refl
+          go (suc (suc (suc (suc (suc zero))))) s = plain-is fixed-point-item (node-tag ∙ rw s) s refl
           go (suc (suc (suc (suc (suc (suc zero)))))) s = absurd (n6 s)
-          go (suc (suc (suc (suc (suc (suc (suc zero))))))) s = record { item = repetition-item; read = node-tag ∙ rw s; same-tag = sym s; no-number = refl }
+          go (suc (suc (suc (suc (suc (suc (suc zero))))))) s = plain-is repetition-item (node-tag ∙ rw s) s refl
           go (suc (suc (suc (suc (suc (suc (suc (suc t)))))))) s = absurd (omega (arith, most))
 
-      -- A token's and a variable's number, with the code's range.
-      module _ (c : NodeColumns) (p : Pending) where
-        pub token-turn : tag ≡ 2 → numbered-turned c p at 2 (sheet-field (in-range 0 tokens) bytes next)
-            ≡ expression-turned c p at (expression-turn bytes tokens (64 - count) opened at)
-        unfolding expression-tag number-after
-        token-turn t =
-            ap (numbered-turned c p at 2) (field-same (below tokens) bytes next)
-            ∙ numbered-is c p at token-item 2 (λ k. refl) (λ k. refl) _ ∙ ap (expression-turned c p at) (sym (node-token t))
+-- ---- what a turn's answer tells of what was read
 
-        pub variable-turn : tag ≡ 6 → numbered-turned c p at 6 (sheet-field (in-range 0 opened) bytes next)
-            ≡ expression-turned c p at (expression-turn bytes tokens (64 - count) opened at)
-        unfolding expression-tag number-after
-        variable-turn t =
-            ap (numbered-turned c p at 6) (field-same (below opened) bytes next)
-            ∙ numbered-is c p at variable-item 6 (λ k. refl) (λ k. refl) _ ∙ ap (expression-turned c p at) (sym (node-variable t))
-
--- ---- what a turn that goes on has read, and left
-
-record NodeTurned (c : NodeColumns) (p : Pending) (at : ℕ) (m : Reading ExpressionItem) (r : ExpressionTurn) (next : ℕ) : Type 0 where
+record NodeTold (m : Reading ExpressionItem) (tag number next : ℕ) : Type 0 where
   item : ExpressionItem
   read : m ≡ got item next
-  nodes-are : r .nodes ≡ with-node c (expression-tag item) (number-after item) at
-  pending-is : r .pending ≡ with-parts p (expression-tag item)
+  tag-is : tag ≡ expression-tag item
+  number-is : number ≡ number-after item
 
-module _ (c : NodeColumns) (p : Pending) (at : ℕ) where
-  pub node-stopped : (m : Reading ExpressionItem) {r : ExpressionTurn} {question place : ℕ} → r ≡ expression-turned c p at m → r .step
-      ≡ Stop question place
-      → m ≡ stop question place
-  unfolding expression-turned
-  node-stopped (stop q s) {r} e h = let k = ap (λ (t : ExpressionTurn). t .step) e in cc
-  node-stopped (got i n) {r} e h = let k = ap (λ (t : ExpressionTurn). t .step) e in let z : _≡_ {A = ℕ} 0 1 = cc in absurd (omega arith)
+pub node-unread : (m : Reading ExpressionItem) {question place : ℕ} → expression-answer m ≡ Unread question place → m ≡ stop question place
+unfolding expression-answer
+node-unread (stop q s) e = cc
+node-unread (got i n) e = let z : _≡_ {A = ℕ} 0 1 = cc in absurd (omega arith)
 
-  node-turned : (m : Reading ExpressionItem) {r : ExpressionTurn} {next : ℕ} → r ≡ expression-turned c p at m → r .step ≡ Next next
-      → NodeTurned c p at m r next
-  unfolding expression-turned
-  node-turned (stop q s) {r} e h = let k = ap (λ (t : ExpressionTurn). t .step) e in let z : _≡_ {A = ℕ} 0 1 = cc in absurd (omega arith)
-  node-turned (got i n) {r} {next} e h =
-      let k = ap (λ (t : ExpressionTurn). t .step) e in
-      let same : n ≡ next = cc in
-      record {
-        item = i;
-        read = ap (got i) same;
-        nodes-are = ap (λ (t : ExpressionTurn). t .nodes) e;
-        pending-is = ap (λ (t : ExpressionTurn). t .pending) e;
-      }
+node-told : (m : Reading ExpressionItem) {tag number next : ℕ} → expression-answer m ≡ Node tag number next → NodeTold m tag number next
+unfolding expression-answer
+node-told (stop q s) e = let z : _≡_ {A = ℕ} 0 1 = cc in absurd (omega arith)
+node-told (got i n) {tag} {number} {next} e =
+    let same : n ≡ next = cc in
+    record { item = i; read = ap (got i) same; tag-is = cc; number-is = cc }
 
 -- A node was still allowed, and the place after it lies within the bytes.
 record ExpressionKept (bytes : List ℕ) (left : ℕ) (item : ExpressionItem) (next : ℕ) : Type 0 where
@@ -205,6 +152,17 @@ module _ (bytes : List ℕ) where
       (then-outcome (field-inside (between 0 most-expression-tag) bytes at) (λ tag next f. item-keeps tokens left opened at tag next (f .inside)))
 
 -- ---- the expressions due
+
+-- One, with no fixed point open.
+abbrev pub one-pending : Pending
+one-pending = pending 1 (replicate 65 0)
+
+-- They fit: each node read so far adds at most one, as it opens at most one fixed point.
+pub record PendingFit (c : NodeColumns) (p : Pending) : Type 0 where
+  pub nodes : c .count ≤ 64
+  pub due : p .count ≤ c .count + 1
+  pub opened : (i : ℕ) → getD (p .opened) i 0 ≤ c .count
+  pub entries : length (p .opened) ≡ 65
 
 -- A store past the top is not among them.
 due-set : (n : ℕ) (l : List ℕ) (i x : ℕ) → n ≤ i → due-from n (set l i x) ≡ due-from n l
@@ -364,36 +322,42 @@ module _ (bytes : List ℕ) (tokens : ℕ) (c : NodeColumns) (p : Pending) (at :
     pub nodes-stop : {question place : ℕ} → node-from ≡ stop question place → nodes-still ≡ stop question place
     nodes-stop e = first-node ∙ nodes-turn bytes tokens (64 - c .count) (next-opened p) (due-from (p .count - 1) (p .opened)) at ∙ rw e
 
--- How it goes on after a turn, from the columns d with the expressions q due.
+-- How it goes on after a node, from the columns d with the expressions q due.
 pub record NodesAgain (bytes : List ℕ) (tokens : ℕ) (c : NodeColumns) (p : Pending) (at : ℕ) (d : NodeColumns) (q : Pending) (next : ℕ) : Type 0 where
   pub node : ReadNode
   pub inside : next ≤ length bytes
   pub fits : PendingFit d q
-  pub more : d .count ≡ c .count + 1
-  pub room : c .count < 64
   pub put : d ≡ with-read-node c node
   pub rest : nodes-still bytes tokens c p at ≡ and-then (nodes-still bytes tokens d q next) (in-front node)
 
-module _ (bytes : List ℕ) (tokens : ℕ) (c : NodeColumns) (p : Pending) (at : ℕ) {r : ExpressionTurn} {next : ℕ}
-    (some : 0 < p .count) (f : PendingFit c p) where
-  after-node : NodeTurned c p at (node-from bytes tokens c p at) r next → NodesAgain bytes tokens c p at (r .nodes) (r .pending) next
+module _ (bytes : List ℕ) (tokens : ℕ) (c : NodeColumns) (p : Pending) (at : ℕ) where
+  node-kept : {item : ExpressionItem} {next : ℕ} → node-from bytes tokens c p at ≡ got item next → ExpressionKept bytes (64 - c .count) item next
+  node-kept e = outcome-got (turn-keeps bytes tokens (64 - c .count) (next-opened p) at) e
+
+  after-node : {item : ExpressionItem} {next : ℕ} {d : NodeColumns} {q : Pending} → 0 < p .count → PendingFit c p
+      → node-from bytes tokens c p at ≡ got item next
+      → d ≡ with-node c (expression-tag item) (number-after item) at → q ≡ with-parts p (expression-tag item)
+      → NodesAgain bytes tokens c p at d q next
   unfolding with-read-node
-  after-node t =
-      let n = outcome-got (turn-keeps bytes tokens (64 - c .count) (next-opened p) at) (t .read) in
-      let room : c .count < 64 = omega (arith, n .node-allowed) in
+  after-node {item} some f e h k =
+      let room : c .count < 64 = omega (arith, node-kept e .node-allowed) in
       let left : 64 - c .count - 1 ≡ 64 - (c .count + 1) = omega arith in
-      let parts = due-parts p some (omega (arith, f .due, f .entries)) (t .item) in
-      rw (t .nodes-are, t .pending-is) record {
-        node = read-node at (t .item);
-        inside = n .inside;
-        fits = fit-parts c p _ _ at some room f (t .item);
-        more = refl;
-        room = room;
+      let parts = due-parts p some (omega (arith, f .due, f .entries)) item in
+      rw (h, k) record {
+        node = read-node at item;
+        inside = node-kept e .inside;
+        fits = fit-parts c p _ _ at some room f item;
         put = refl;
         rest = first-node bytes tokens c p at some
-            ∙ nodes-turn bytes tokens (64 - c .count) (next-opened p) (due-from (p .count - 1) (p .opened)) at ∙ rw (t .read, left, ← parts);
+            ∙ nodes-turn bytes tokens (64 - c .count) (next-opened p) (due-from (p .count - 1) (p .opened)) at ∙ rw (e, left, ← parts);
       }
 
-  pub node-again : r ≡ expression-turned c p at (node-from bytes tokens c p at) → r .step ≡ Next next
-      → NodesAgain bytes tokens c p at (r .nodes) (r .pending) next
-  node-again e h = after-node (node-turned c p at (node-from bytes tokens c p at) e h)
+  module _ {tag number next : ℕ} (told : expression-answer (node-from bytes tokens c p at) ≡ Node tag number next) where
+    pub node-room : c .count < 64
+    node-room = omega (arith, node-kept (node-told (node-from bytes tokens c p at) told .read) .node-allowed)
+
+    pub node-again : {q : Pending} → 0 < p .count → PendingFit c p → q ≡ with-parts p tag
+        → NodesAgain bytes tokens c p at (with-node c tag number at) q next
+    node-again some f h =
+        let t = node-told (node-from bytes tokens c p at) told in
+        after-node some f (t .read) (ap₂ (λ (a b : ℕ). with-node c a b at) (t .tag-is) (t .number-is)) (h ∙ ap (with-parts p) (t .tag-is))

@@ -2,8 +2,8 @@
 -- with it; for a refusal, its question and place, whatever the columns then are.
 use mathlib.Core.Path.{_≡_}
 use mathlib.Core.List.{List, [], _∷_}
-use Prim.Native.Nat.{ℕ, _+_, _-_, _≤_}
-use lib.ListN.{length, getD}
+use Prim.Native.Nat.{ℕ, _-_, _≤_}
+use lib.ListN.{length}
 use Rattle.stage1_sheet.specs.Limits.{most-expression-nodes}
 use Rattle.stage1_sheet.specs.Field.{Reading, stop, got, read-many}
 use Rattle.stage1_sheet.specs.Reading.{ReadNode, Allowance, less-rule, read-rule, expression-nodes}
@@ -13,7 +13,6 @@ use Rattle.stage1_sheet_reader.specs.Put.{with-all, with-rule, with-read
 use Rattle.stage1_sheet_reader.specs.Reads.{refused-columns}
 use Rattle.stage1_sheet_reader.specs.declared.Step.{Step}
 use Rattle.stage1_sheet_reader.specs.declared.Step.the-variants.{Next, Stop}
-use Rattle.stage1_sheet_reader.specs.declared.Pending.{Pending}
 use Rattle.stage1_sheet_reader.specs.declared.SheetColumns.{SheetColumns}
 use Rattle.stage1_sheet_reader.specs.declared.Outcome.the-variants.{Done}
 
@@ -22,13 +21,6 @@ pub record RulesFit (c : RuleColumns) : Type 0 where
   pub rules : c .count ≤ 32
   pub nodes : c .items ≤ 256
   pub classes : c .classes ≤ 64
-
--- The nodes read so far, and the expressions due, of which each node adds at most one, as it opens at most one fixed point.
-pub record PendingFit (c : NodeColumns) (p : Pending) : Type 0 where
-  pub nodes : c .count ≤ 64
-  pub due : p .count ≤ c .count + 1
-  pub opened : (i : ℕ) → getD (p .opened) i 0 ≤ c .count
-  pub entries : length (p .opened) ≡ 65
 
 -- The nodes and classes that the columns leave.
 unfoldable pub allowance : RuleColumns → Allowance

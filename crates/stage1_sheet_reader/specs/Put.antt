@@ -10,7 +10,6 @@ use Rattle.stage1_sheet.specs.ExpressionItems.{expression-tag}
 use Rattle.stage1_sheet_columns.specs.Holds.{number-after}
 use Rattle.stage1_sheet_columns.specs.declared.RuleColumns.{RuleColumns}
 use Rattle.stage1_sheet_columns.specs.declared.NodeColumns.{NodeColumns}
-use Rattle.stage1_sheet_reader.specs.declared.Pending.{Pending}
 
 -- ---- one number more
 
@@ -74,10 +73,6 @@ no-rules = record {
 abbrev pub no-nodes : NodeColumns
 no-nodes = record { count = 0; tag = replicate 64 0; number = replicate 64 0; place = replicate 64 0 }
 
--- One expression due, with no fixed point open.
-abbrev pub one-pending : Pending
-one-pending = record { count = 1; opened = replicate 65 0 }
-
 -- ---- one thing more
 
 unfoldable pub with-item : RuleColumns → RegexItem → RuleColumns
@@ -100,7 +95,15 @@ with-read-node c n = with-node c (expression-tag (n .item)) (number-after (n .it
 
 -- ---- the expressions still due
 
--- How many fixed points are open at each, the next one first.
+-- So many, and for each, the next one last, how many fixed points are open where it stands.
+pub record Pending : Type 0 where
+  pub count : ℕ
+  pub opened : List ℕ
+
+abbrev pub pending : ℕ → List ℕ → Pending
+pending n l = record { count = n; opened = l }
+
+-- The same as a list, the next one first.
 unfoldable pub due-from : ℕ → List ℕ → List ℕ
 due-from zero opened = []
 due-from (suc n) opened = getD opened n 0 ∷ due-from n opened

@@ -11,7 +11,6 @@ use Rattle.stage1_sheet.specs.Items.{RegexItem, empty-item, class-item, concat-
 use Rattle.stage1_sheet.specs.Reading.{sheet-field, regex-item, ReadNode, expression-item, expression-nodes}
 use Rattle.stage1_sheet.specs.ExpressionItems.{expression-tag}
 use Rattle.stage1_sheet_columns.specs.Holds.{number-after}
-use Rattle.stage1_sheet_columns.specs.declared.NodeColumns.{NodeColumns}
 use Rattle.stage1_sheet_reader.specs.declared.Field.{Field}
 use Rattle.stage1_sheet_reader.specs.declared.Field.the-variants.{Value, Unfit}
 use Rattle.stage1_sheet_reader.specs.declared.Header.{Header}
@@ -19,9 +18,8 @@ use Rattle.stage1_sheet_reader.specs.declared.Header.the-variants.{Count
 use Rattle.stage1_sheet_reader.specs.declared.Step.the-variants.{Next, Stop}
 use Rattle.stage1_sheet_reader.specs.declared.RuleTurn.{RuleTurn}
 use Rattle.stage1_sheet_reader.specs.declared.RuleTurn.the-variants.{Action, Class, Plain, Over}
-use Rattle.stage1_sheet_reader.specs.declared.Pending.{Pending}
 use Rattle.stage1_sheet_reader.specs.declared.ExpressionTurn.{ExpressionTurn}
-use Rattle.stage1_sheet_reader.specs.Put.{with-node, with-parts}
+use Rattle.stage1_sheet_reader.specs.declared.ExpressionTurn.the-variants.{Node, Unread}
 
 -- From the least on, below the limit.
 unfoldable pub in-range : ℕ → ℕ → ℕ → Bool
@@ -86,18 +84,11 @@ expression-turn bytes tokens left opened at =
     and-then (sheet-field (between 0 most-expression-tag) bytes at)
     (λ tag next. cond (eqb left 0) (stop 5 at) (expression-item bytes tokens opened at tag next))
 
-abbrev pub expression-stopped : NodeColumns → Pending → ℕ → ℕ → ExpressionTurn
-expression-stopped c p question place = record { step = Stop question place; nodes = c; pending = p }
-
-abbrev pub expression-gone : NodeColumns → Pending → ℕ → ExpressionTurn
-expression-gone c p next = record { step = Next next; nodes = c; pending = p }
-
-unfoldable pub expression-turned : NodeColumns → Pending → ℕ → Reading ExpressionItem → ExpressionTurn
-expression-turned c p at (stop question place) = expression-stopped c p question place
-expression-turned c p at (got item next) =
-    expression-gone (with-node c (expression-tag item) (number-after item) at) (with-parts p (expression-tag item)) next
+unfoldable pub expression-answer : Reading ExpressionItem → ExpressionTurn
+expression-answer (stop question place) = Unread question place
+expression-answer (got item next) = Node (expression-tag item) (number-after item) next
 
 -- The same for a tag with a number after it, which is given.
-unfoldable pub numbered-turned : NodeColumns → Pending → ℕ → ℕ → Reading ℕ → ExpressionTurn
-numbered-turned c p at tag (stop question place) = expression-stopped c p question place
-numbered-turned c p at tag (got number next) = expression-gone (with-node c tag number at) (with-parts p tag) next
+unfoldable pub numbered-answer : ℕ → Reading ℕ → ExpressionTurn
+numbered-answer tag (stop question place) = Unread question place
+numbered-answer tag (got number next) = Node tag number next

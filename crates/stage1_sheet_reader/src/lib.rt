@@ -4,14 +4,11 @@ ghost use mathlib.Core.Path.{_≡_};
 ghost use Prim.Native.Nat.{_-_, _≤_, _<_};
 ghost use lib.ListN.{length, getD};
 ghost use Rattle.stage1_sheet.specs.Reading.{sheet-field, class-after, read-sheet};
-ghost use Rattle.stage1_sheet_reader.specs.Put.{with-node, with-parts, next-opened};
-ghost use Rattle.stage1_sheet_reader.specs.Put.{no-rules, no-nodes, one-pending};
+ghost use Rattle.stage1_sheet_reader.specs.Put.{pending, with-parts, no-rules, no-nodes};
 ghost use Rattle.stage1_sheet_reader.specs.Turns.{in-range, field-answer, header, header-answer, nodes-to-end};
 ghost use Rattle.stage1_sheet_reader.specs.Turns.{node-answer, regex-turn, action-turn, rule-turn};
-ghost use Rattle.stage1_sheet_reader.specs.Turns.{expression-turn, expression-stopped, expression-gone, expression-turned};
-ghost use Rattle.stage1_sheet_reader.specs.Turns.{numbered-turned};
-ghost use Rattle.stage1_sheet_reader.specs.Answers.{PendingFit, ReadsRules, ReadsExpression};
-ghost use Rattle.stage1_sheet_reader.specs.Answers.{Finished};
+ghost use Rattle.stage1_sheet_reader.specs.Turns.{expression-turn, expression-answer, numbered-answer};
+ghost use Rattle.stage1_sheet_reader.specs.Answers.{ReadsRules, ReadsExpression, Finished};
 ghost use Rattle.stage1_sheet_reader.specs.Reads.{refused-columns, Reads};
 use stage0_number::Number;
 use stage1_sheet_columns::NodeColumns;
@@ -80,17 +77,10 @@ struct RulesRead {
     rules: RuleColumns,
 }
 
-// The expressions still due, the next one last: for each, how many fixed points are open where it stands.
-struct Pending {
-    count: usize,
-    opened: [u8; 65],
-}
-
-// An expression node read into the columns, with the expressions still due.
-struct ExpressionTurn {
-    step: Step,
-    nodes: NodeColumns,
-    pending: Pending,
+// An expression node: its tag, the number after it or 0, and the place after them. Or the question that fails and its place.
+enum ExpressionTurn {
+    Node(u8, u8, usize),
+    Unread(u8, usize),
 }
 
 // A whole expression read into the columns.
@@ -117,50 +107,6 @@ fn read_field(sheet: &[u8], at: usize, least: u8, limit: u64) -> Field
             Field::Value(value, at + used)
         }
     }
-}
-
-// The columns with one expression node more.
-fn with_node(nodes: NodeColumns, tag: u8, number: u8, place: u16) -> NodeColumns
-    requires { ⌜ nodes .count < 64 ⌝ }
-    ensures { λ r. ⌜ r ≡ with-node nodes tag number place ⌝ }
-{
-    let mut out = nodes;
-    let n = out.count;
-    out.tag[n] = tag;
-    out.number[n] = number;
-    out.place[n] = place;
-    out.count = n + 1;
-    out
-}
-
-// The parts of a node with this tag in the place of the next expression due.
-fn with_parts(pending: Pending, tag: u8) -> Pending
-    requires { ⌜ (0 < pending .count) × (pending .count ≤ 64) × (getD (pending .opened) (pending .count - 1) 0 ≤ 64) ⌝ }
-    ensures { λ r. ⌜ r ≡ with-parts pending tag ⌝ }
-{
-    let mut out = pending;
-    let n = out.count;
-    let last = n - 1;
-    let opened = out.opened[last];
-    if tag == 5 {
-        out.opened[last] = opened + 1;
-        return out;
-    }
-    if tag == 7 {
-        // A repetition is no fixed point: its part is due where it was itself.
-        return out;
-    }
-    if tag < 3 {
-        out.count = last;
-        return out;
-    }
-    if tag == 6 {
-        out.count = last;
-        return out;
-    }
-    out.opened[n] = opened;
-    out.count = n + 1;
-    out
 }
 
 // A byte class whose tag stands at `at`, after so many classes: its low and high bytes stand from `next` on.
@@ -294,88 +240,62 @@ fn read_rules(sheet: &[u8], at: usize, tokens: u8, count: u8) -> RulesRead
     }
 }
 
-// A refusal, with the columns as they are.
-fn expression_stop(
-    question: u8,
-    place: usize,
-    nodes: NodeColumns,
-    pending: Pending,
-) -> ExpressionTurn
-    ensures { λ r. ⌜ r ≡ expression-stopped nodes pending question place ⌝ }
-{
-    ExpressionTurn {
-        step: Step::Stop(question, place),
-        nodes,
-        pending,
-    }
-}
-
-// A node read, with the columns that have it and the expressions then due.
-fn expression_next(place: usize, nodes: NodeColumns, pending: Pending) -> ExpressionTurn
-    ensures { λ r. ⌜ r ≡ expression-gone nodes pending place ⌝ }
-{
-    ExpressionTurn {
-        step: Step::Next(place),
-        nodes,
-        pending,
-    }
-}
-
-// A node whose tag stands at `at`, with a number below `limit` after it.
-fn numbered_turn(
-    sheet: &[u8],
-    at: usize,
-    next: usize,
-    tag: u8,
-    limit: u64,
-    nodes: NodeColumns,
-    pending: Pending,
-) -> ExpressionTurn
-    requires { ⌜ (at ≤ 4096) × (limit ≤ 256) × (nodes .count < 64) × (0 < pending .count) × PendingFit nodes pending ⌝ }
-    ensures { λ r. ⌜ r ≡ numbered-turned nodes pending at tag (sheet-field (in-range 0 limit) (now (sheet .entry)) next) ⌝ }
+// A node with this tag, and with a number below `limit` at `next`.
+fn numbered_turn(sheet: &[u8], next: usize, tag: u8, limit: u64) -> ExpressionTurn
+    requires { ⌜ limit ≤ 256 ⌝ }
+    ensures { λ r. ⌜ r ≡ numbered-answer tag (sheet-field (in-range 0 limit) (now (sheet .entry)) next) ⌝ }
 {
     match read_field(sheet, next, 0, limit) {
-        Field::Unfit(question, after_tag) => expression_stop(question, after_tag, nodes, pending),
-        Field::Value(number, end) => {
-            let put = with_node(nodes, tag, number, at as u16);
-            let parts = with_parts(pending, tag);
-            expression_next(end, put, parts)
+        Field::Unfit(question, after_tag) => ExpressionTurn::Unread(question, after_tag),
+        Field::Value(number, end) => ExpressionTurn::Node(tag, number, end),
+    }
+}
+
+// An expression node at a place, after so many nodes and inside so many open fixed points.
+fn expression_turn(sheet: &[u8], at: usize, tokens: u8, count: usize, opened: u8) -> ExpressionTurn
+    ensures { λ r. ⌜ r ≡ expression-answer (expression-turn (now (sheet .entry)) tokens (64 - count) opened at) ⌝ }
+{
+    match read_field(sheet, at, 0, EXPRESSION_TAGS) {
+        Field::Unfit(question, place) => ExpressionTurn::Unread(question, place),
+        Field::Value(tag, next) => {
+            if count >= MOST_NODES {
+                return ExpressionTurn::Unread(5, at);
+            }
+            if tag == 2 {
+                return numbered_turn(sheet, next, 2, tokens as u64);
+            }
+            if tag == 6 {
+                return numbered_turn(sheet, next, 6, opened as u64);
+            }
+            ExpressionTurn::Node(tag, 0, next)
         }
     }
 }
 
-// An expression node at a place, while expressions are due.
-fn expression_turn(
-    sheet: &[u8],
-    at: usize,
-    tokens: u8,
-    nodes: NodeColumns,
-    pending: Pending,
-) -> ExpressionTurn
-    requires { ⌜ (at ≤ 4096) × (0 < pending .count) × PendingFit nodes pending ⌝ }
-    ensures { λ r. ⌜ r ≡ expression-turned nodes pending at
-        (expression-turn (now (sheet .entry)) tokens (64 - nodes .count) (next-opened pending) at) ⌝ }
+// Puts the parts of a node with this tag in the place of the next expression due, and says how many are then due. For each
+// expression due, the next one last, `opened` has how many fixed points are open where it stands.
+fn put_parts(opened: &mut [u8; 65], due: usize, tag: u8) -> usize
+    requires { ⌜ (0 < due) × (due ≤ 64) × (getD (now opened) (due - 1) 0 ≤ 64) ⌝ }
+    ensures { λ r. ⌜ pending r (now (opened .exit)) ≡ with-parts (pending due (now (opened .entry))) tag ⌝ }
 {
-    match read_field(sheet, at, 0, EXPRESSION_TAGS) {
-        Field::Unfit(question, place) => expression_stop(question, place, nodes, pending),
-        Field::Value(tag, next) => {
-            let count = nodes.count;
-            if count >= MOST_NODES {
-                return expression_stop(5, at, nodes, pending);
-            }
-            if tag == 2 {
-                return numbered_turn(sheet, at, next, 2, tokens as u64, nodes, pending);
-            }
-            if tag == 6 {
-                let last = pending.count - 1;
-                let opened = pending.opened[last];
-                return numbered_turn(sheet, at, next, 6, opened as u64, nodes, pending);
-            }
-            let put = with_node(nodes, tag, 0, at as u16);
-            let parts = with_parts(pending, tag);
-            expression_next(next, put, parts)
-        }
+    let last = due - 1;
+    let depth = opened[last];
+    if tag == 5 {
+        opened[last] = depth + 1;
+        return due;
     }
+    if tag == 7 {
+        // A repetition is no fixed point: its part is due where it was itself.
+        return due;
+    }
+    if tag < 3 {
+        return last;
+    }
+    if tag == 6 {
+        return last;
+    }
+    opened[due] = depth;
+    due + 1
 }
 
 // Columns with no node.
@@ -390,35 +310,32 @@ fn no_nodes() -> NodeColumns
     }
 }
 
-// One expression due, with no fixed point open.
-fn one_pending() -> Pending
-    ensures { λ r. ⌜ r ≡ one-pending ⌝ }
-{
-    Pending {
-        count: 1,
-        opened: [0u8; 65],
-    }
-}
-
-// One expression from a place on, with no fixed point open.
+// One expression from a place on, with no fixed point open. Its loop stores each entry in place, as that of the rules does.
 fn read_expression(sheet: &[u8], at: usize, tokens: u8) -> NodesRead
     requires { ⌜ (at ≤ length (now sheet)) × (length (now sheet) ≤ 4096) ⌝ }
     ensures { λ r. ⌜ ReadsExpression (now (sheet .entry)) at tokens (r .step) (r .nodes) ⌝ }
 {
     let mut place = at;
     let mut nodes = no_nodes();
-    let mut pending = one_pending();
-    while pending.count > 0 {
-        let turn = expression_turn(sheet, place, tokens, nodes, pending);
-        let put = turn.nodes;
-        let due = turn.pending;
-        let step = turn.step;
-        match step {
-            Step::Stop(_, _) => return NodesRead { step, nodes: put },
-            Step::Next(next) => place = next,
+    let mut opened = [0u8; 65];
+    let mut due: usize = 1;
+    while due > 0 {
+        let count = nodes.count;
+        let depth = opened[due - 1];
+        match expression_turn(sheet, place, tokens, count, depth) {
+            ExpressionTurn::Unread(question, at) => {
+                let step = Step::Stop(question, at);
+                return NodesRead { step, nodes };
+            }
+            ExpressionTurn::Node(tag, number, next) => {
+                nodes.tag[count] = tag;
+                nodes.number[count] = number;
+                nodes.place[count] = place as u16;
+                nodes.count = count + 1;
+                due = put_parts(&mut opened, due, tag);
+                place = next;
+            }
         }
-        nodes = put;
-        pending = due;
     }
     NodesRead {
         step: Step::Next(place),

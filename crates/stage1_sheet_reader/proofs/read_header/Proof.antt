@@ -1,6 +1,5 @@
 -- `stage1_sheet_reader::read_header` meets its contract.
 use borrow.Author.Needs.{needs}
-use mathlib.Core.Path.{_∙_}
 use denote.Ref.{now}
 use Rattle.stage1_sheet_reader.proofs.Fields.{up-to, field-value, field-unfit}
 use Rattle.stage1_sheet_reader.proofs.Whole.{head-version, head-tokens, head-count, head-whole}

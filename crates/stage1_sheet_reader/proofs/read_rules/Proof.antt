@@ -5,8 +5,8 @@ use native.Mathlib.Omega.{arith}
 use denote.Ref.{now}
 use Prim.Native.Nat.{_+_, _-_}
 use Rattle.stage1_sheet_reader.specs.Put.{with-tag, with-class}
-use Rattle.stage1_sheet_reader.proofs.RuleTurns.{RulesSoFar, all-rules, so-far-start, turn-over}
-use Rattle.stage1_sheet_reader.proofs.RuleTurns.{ActionGoes, turn-acts, NodeGoes, class-goes, plain-goes}
+use Rattle.stage1_sheet_reader.proofs.RulesLoop.{RulesSoFar, all-rules, so-far-start, turn-over}
+use Rattle.stage1_sheet_reader.proofs.RulesLoop.{ActionGoes, turn-acts, NodeGoes, class-goes, plain-goes}
 use Rattle.stage1_sheet_reader.proofs.read_rules.Statement.{statement}
 use Rattle.stage1_sheet_reader.proofs.read_rules.Tie as tie
 

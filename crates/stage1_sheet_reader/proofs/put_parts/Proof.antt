@@ -1,21 +1,21 @@
--- `stage1_sheet_reader::with_parts` meets its contract.
+-- `stage1_sheet_reader::put_parts` meets its contract.
 use borrow.Author.Needs.{needs}
 use borrow.Author.Tests.{eq-eqb, ne-eqb, lt-ltb, le-ltb}
 use Rattle.stage1_sheet_reader.specs.Put.{with-parts}
-use Rattle.stage1_sheet_reader.proofs.with_parts.Statement.{statement}
-use Rattle.stage1_sheet_reader.proofs.with_parts.Tie as tie
+use Rattle.stage1_sheet_reader.proofs.put_parts.Statement.{statement}
+use Rattle.stage1_sheet_reader.proofs.put_parts.Tie as tie
 
 sub-last : tie.Need-sub-last
 sub-last c = search needs
 
-element-copy-out-opened : tie.Need-element-copy-out-opened
-element-copy-out-opened c = search needs
+element-copy-out-depth : tie.Need-element-copy-out-depth
+element-copy-out-depth c = search needs
 
-add-out : tie.Need-add-out
-add-out c = search needs
+add-opened : tie.Need-add-opened
+add-opened c = search needs
 
-element-write-out : tie.Need-element-write-out
-element-write-out c = search needs
+element-write-opened : tie.Need-element-write-opened
+element-write-opened c = search needs
 
 returns : tie.Need-returns
 unfolding with-parts
@@ -38,11 +38,11 @@ returns-4 c =
     let t = one .before .before .before .args .tag in
     simp (ne-eqb t 5 (one .before .if1 .left), ne-eqb t 7 (one .if2 .left), le-ltb t 3 (c .before .if3 .left), eq-eqb t 6 (c .if4 .taken))
 
-element-write-out-2 : tie.Need-element-write-out-2
-element-write-out-2 c = search needs
+element-write-opened-2 : tie.Need-element-write-opened-2
+element-write-opened-2 c = search needs
 
-add-out-2 : tie.Need-add-out-2
-add-out-2 c = search needs
+add-result : tie.Need-add-result
+add-result c = search needs
 
 returns-5 : tie.Need-returns-5
 unfolding with-parts
@@ -51,18 +51,18 @@ returns-5 c =
     let t = one .before .before .before .args .tag in
     simp (ne-eqb t 5 (one .before .if1 .left), ne-eqb t 7 (one .if2 .left), le-ltb t 3 (c .before .if3 .left), ne-eqb t 6 (c .if4 .left))
 
-pub with-parts-spec : {M : Type 1} → statement M
-with-parts-spec =
+pub put-parts-spec : {M : Type 1} → statement M
+put-parts-spec =
     tie.close
     (tie.spec
     sub-last
-    element-copy-out-opened
-    add-out
-    element-write-out
+    element-copy-out-depth
+    add-opened
+    element-write-opened
     returns
     returns-2
     returns-3
     returns-4
-    element-write-out-2
-    add-out-2
+    element-write-opened-2
+    add-result
     returns-5)
