@@ -18,10 +18,9 @@ use Rattle.stage2_types_columns.specs.Tabulate.{tabulate-length, tabulate-at}
 use Rattle.stage2_types_columns.specs.Held.{held-node, held-nodes}
 use Rattle.stage2_types_columns.specs.declared.NodeLinks.{NodeLinks}
 use Rattle.stage2_types_linker.specs.declared.Due.{Due}
-use Rattle.stage2_types_linker.specs.declared.Walk.{Walk}
-use Rattle.stage2_types_linker.specs.Walking.{first-walk, walk-step, CanStep}
 use Rattle.stage2_types_columns.specs.Linked.{SheetExpression, LinksOf}
 use Rattle.stage2_types_columns.specs.HeldOnce.{held-once}
+use Rattle.stage2_types_linker.proofs.Turn.{Walk, first-walk, whole, walk-step, CanStep}
 use Rattle.stage2_types_linker.proofs.Parts.{pending}
 use Rattle.stage2_types_linker.proofs.Completed.{completed}
 use Rattle.stage2_types_linker.proofs.Walking.{Columns, Walking, none-due, walking-step, walking-can}
@@ -47,8 +46,8 @@ abbrev pub WalkingFor : NodeColumns → ℕ → Walk → Type 0
 WalkingFor c i w = (s : SheetExpression c)
     → Walking (s .tokens) (c .tag) (expression-items-of (s .expression)) (nodes (s .expression)) i w
 
-pub walking-first : (c : NodeColumns) → WalkingFor c 0 first-walk
-unfolding first-walk nodes
+pub walking-first : (c : NodeColumns) → WalkingFor c 0 (first-walk whole)
+unfolding nodes
 walking-first c s = record {
   parts = s .expression ∷ [];
   walked = record {

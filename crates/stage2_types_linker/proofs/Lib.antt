@@ -1,4 +1,5 @@
 -- Laws that the proofs of the functions cite.
+pub mod Stored
 pub mod Turn
 pub mod Parts
 pub mod Completed

@@ -10,8 +10,8 @@ use Rattle.stage1_sheet.specs.ExpressionItems.{expression-items-of, expression-
 use Rattle.stage1_sheet_columns.specs.Holds.{number-after}
 use Rattle.stage2_types.specs.Nodes.{Node}
 use Rattle.stage2_types_linker.specs.declared.Due.{Due}
-use Rattle.stage2_types_linker.specs.declared.Walk.{Walk}
-use Rattle.stage2_types_linker.specs.Walking.{due, due-at, next-due, linked, taken, with-due, with-link, with-owner, with-variable, with-parts, step-at, walk-step, CanStep}
+use Rattle.stage2_types_linker.specs.Walking.{due, linked, links-after, owners-after, guarded-after, parts-due}
+use Rattle.stage2_types_linker.proofs.Turn.{Walk, walk, due-at, next-due, stack-with, height-with, step-at, walk-step, CanStep}
 use Rattle.stage2_types_linker.proofs.Parts.{pending, pending-push, items-due, DuesFit}
 use Rattle.stage2_types_linker.proofs.Walked.{Walked, drop-head}
 use Rattle.stage2_types_linker.proofs.Turns.{walked-epsilon, walked-bottom, walked-token, walked-sequence, walked-alternative, walked-fixed-point, walked-variable, walked-repetition}
@@ -115,8 +115,8 @@ module _ (tokens : ℕ) (tag : List ℕ) (items : List ExpressionItem) (ns : Lis
       two-turned : (right-guarded : ℕ) (a b : Expression)
           → Walked tokens tag items ns (suc i) linked-here (w .guarded) (w .owner)
           (due (top .depth) (top .guarded) 64 ∷ due (top .depth) right-guarded i ∷ pending (w .stack) k) (a ∷ b ∷ gs)
-          → Walking (suc i) (with-parts (taken w k (top .parent) i) i (top .depth) (top .guarded) right-guarded)
-      unfolding taken with-due with-parts
+          → Walking (suc i) (walk linked-here (w .guarded) (w .owner)
+          (set (set (w .stack) k (due (top .depth) right-guarded i)) (suc k) (due (top .depth) (top .guarded) 64)) (suc (suc k)))
       two-turned right-guarded a b h =
           let left = due (top .depth) (top .guarded) 64 in
           let right = due (top .depth) right-guarded i in
@@ -131,7 +131,7 @@ module _ (tokens : ℕ) (tag : List ℕ) (items : List ExpressionItem) (ns : Lis
       -- A node with one part, for which x is due.
       one-turned : (link owner : List ℕ) (x : Due) (a : Expression)
           → Walked tokens tag items ns (suc i) link (w .guarded) owner (x ∷ pending (w .stack) k) (a ∷ gs)
-          → Walking (suc i) (record { link = link; guarded = w .guarded; owner = owner; stack = set (w .stack) k x; height = suc k })
+          → Walking (suc i) (walk link (w .guarded) owner (set (w .stack) k x) (suc k))
       one-turned link owner x a h = record {
         parts = a ∷ gs;
         walked = subst (λ (l : List Due). Walked tokens tag items ns (suc i) link (w .guarded) owner l (a ∷ gs))
@@ -142,7 +142,7 @@ module _ (tokens : ℕ) (tag : List ℕ) (items : List ExpressionItem) (ns : Lis
 
       turned : (g : Expression) → At (g ∷ gs)
           → getD tag i 0 ≡ expression-tag (own-item g) → Walking (suc i) (step-at k (expression-tag (own-item g)) (number-after (own-item g)) i w)
-      unfolding step-at taken with-link with-due with-owner with-variable with-parts expression-tag number-after
+      unfolding step-at links-after owners-after guarded-after parts-due stack-with height-with expression-tag number-after
       turned epsilon h t = record {
         parts = gs;
         walked = walked-epsilon tokens tag items ns i (w .link) (w .guarded) (w .owner) top (pending (w .stack) k) gs small h t;
@@ -232,12 +232,14 @@ module _ (tokens : ℕ) (tag : List ℕ) (items : List ExpressionItem) (ns : Lis
         go (g ∷ gs) (suc k) e d =
             let is-top : due-at w k ≡ next-due w = ap (due-at w) (top-is k e) in
             record {
-              node-fits = omega (arith, columns .most);
               some-due = omega arith;
               room = omega (arith, height-left i w h, h .height-small, columns .most);
-              depth-fits = subst (λ (t : Due). t .depth < 64) is-top (omega (arith, d .fit .0 .within, columns .most));
-              variable-open = λ t. subst (λ (x : Due). getD number i 0 < x .depth) is-top
-                  (rw (number-at g gs (d .items-left)) (variable-bound i w k gs (omega (arith, columns .most))
-                  (h .stack-long) (omega (arith, h .height-small)) (omega (arith, height-left i w h, h .height-small, columns .most)) g d
-                  (sym (tag-at g gs (d .items-left)) ∙ t)));
+              can-link = record {
+                node-fits = omega (arith, columns .most);
+                depth-fits = subst (λ (t : Due). t .depth < 64) is-top (omega (arith, d .fit .0 .within, columns .most));
+                variable-open = λ t. subst (λ (x : Due). getD number i 0 < x .depth) is-top
+                    (rw (number-at g gs (d .items-left)) (variable-bound i w k gs (omega (arith, columns .most))
+                    (h .stack-long) (omega (arith, h .height-small)) (omega (arith, height-left i w h, h .height-small, columns .most)) g d
+                    (sym (tag-at g gs (d .items-left)) ∙ t)));
+              };
             }

@@ -3,173 +3,157 @@
 use stage1_sheet_columns::NodeColumns;
 use stage2_types_columns::NodeLinks;
 ghost use mathlib.Core.Path.{_≡_};
-ghost use Prim.Native.Nat.{_+_, _-_, _≤_, _<_};
-ghost use Rattle.stage2_types_linker.specs.Walking.{due, first-walk, next-due, taken, walk-step, CanStep};
-ghost use Rattle.stage2_types_linker.specs.Walking.{with-due, with-link, with-owner, with-variable, with-parts};
+ghost use Prim.Native.Nat.{_<_};
+ghost use Rattle.stage2_types_linker.specs.Walking.{due, linked, links-after, owners-after, guarded-after};
+ghost use Rattle.stage2_types_linker.specs.Walking.{parts-due, CanLink};
 ghost use Rattle.stage2_types_columns.specs.Linked.{SheetExpression, LinksOf};
 
 // An expression that is still to come: how many fixed points are open there, how many of these are guarded, counted from the
 // outermost, and the node whose right part it is, or 64.
-pub struct Due {
-    pub depth: u8,
-    pub guarded: u8,
-    pub parent: u8,
+struct Due {
+    depth: u8,
+    guarded: u8,
+    parent: u8,
 }
 
-// The links so far, the node of each open fixed point, the outermost first, and the expressions still to come, the next one last.
-pub struct Walk {
-    pub link: [u8; 64],
-    pub guarded: u64,
-    pub owner: [u8; 64],
-    pub stack: [Due; 64],
-    pub height: usize,
+// The parts of a node, which are then still to come: none, one, or the left and the right.
+enum NodeParts {
+    Leaf,
+    One(Due),
+    Two(Due, Due),
 }
 
-fn first_walk() -> Walk
-    ensures { λ r. ⌜ r ≡ first-walk ⌝ }
+fn still_due(depth: u8, guarded: u8, parent: u8) -> Due
+    ensures { λ r. ⌜ r ≡ due depth guarded parent ⌝ }
 {
-    let whole = Due {
-        depth: 0,
-        guarded: 0,
-        parent: 64,
-    };
-    Walk {
-        link: [0; 64],
-        guarded: 0,
-        owner: [0; 64],
-        stack: [whole; 64],
-        height: 1,
-    }
-}
-
-// Takes the expression that comes next off the stack. It is node i, and a right part's node is its parent's link.
-fn taken(w: Walk, parent: u8, i: u8) -> Walk
-    requires { ⌜ 0 < w .height ⌝ }
-    ensures { λ r. ⌜ r ≡ taken w (w .height - 1) parent i ⌝ }
-{
-    let mut out = w;
-    out.height = out.height - 1;
-    let at = parent as usize;
-    if at < 64 {
-        out.link[at] = i;
-        return out;
-    }
-    out
-}
-
-fn with_due(w: Walk, depth: u8, guarded: u8, parent: u8) -> Walk
-    requires { ⌜ w .height < 64 ⌝ }
-    ensures { λ r. ⌜ r ≡ with-due w (due depth guarded parent) ⌝ }
-{
-    let mut out = w;
-    let height = out.height;
-    out.stack[height] = Due {
+    Due {
         depth,
         guarded,
         parent,
-    };
-    out.height = height + 1;
-    out
-}
-
-fn with_link(w: Walk, i: usize, to: u8) -> Walk
-    requires { ⌜ i < 64 ⌝ }
-    ensures { λ r. ⌜ r ≡ with-link w i to ⌝ }
-{
-    let mut out = w;
-    out.link[i] = to;
-    out
-}
-
-fn with_owner(w: Walk, depth: u8, i: u8) -> Walk
-    requires { ⌜ depth < 64 ⌝ }
-    ensures { λ r. ⌜ r ≡ with-owner w depth i ⌝ }
-{
-    let mut out = w;
-    let at = depth as usize;
-    out.owner[at] = i;
-    out
-}
-
-// The variable at node i. Its fixed point is the open one at this place, and guarded if it is among the outermost so many.
-fn with_variable(w: Walk, i: usize, place: u8, guarded: u8) -> Walk
-    requires { ⌜ (i < 64) × (place < 64) ⌝ }
-    ensures { λ r. ⌜ r ≡ with-variable w i place guarded ⌝ }
-{
-    let mut out = w;
-    let at = place as usize;
-    out.link[i] = out.owner[at];
-    if place < guarded {
-        out.guarded = out.guarded | (1u64 << i);
-        return out;
     }
-    out
 }
 
-fn with_parts(w: Walk, i: u8, depth: u8, left_guarded: u8, right_guarded: u8) -> Walk
-    requires { ⌜ w .height < 63 ⌝ }
-    ensures { λ r. ⌜ r ≡ with-parts w i depth «left_guarded» «right_guarded» ⌝ }
+// A right part's node is its parent's link.
+fn put_right(link: &mut [u8; 64], parent: u8, node: u8)
+    ensures { λ r. ⌜ now (link .exit) ≡ linked (now (link .entry)) parent node ⌝ }
 {
-    let right = with_due(w, depth, right_guarded, i);
-    with_due(right, depth, left_guarded, 64)
+    let at = parent as usize;
+    if at < 64 {
+        link[at] = node;
+    }
 }
 
-// Node i, which has this tag and number.
-fn walk_step(tag: u8, number: u8, i: usize, w: Walk) -> Walk
-    requires { ⌜ CanStep tag number i w ⌝ }
-    ensures { λ r. ⌜ r ≡ walk-step tag number i w ⌝ }
+// Stores the link of node i, which has this tag and number and was due so, and the node itself where it is the link of another:
+// of its parent, or of the variables of the fixed point that it opens.
+fn put_links(link: &mut [u8; 64], owner: &mut [u8; 64], tag: u8, number: u8, i: usize, d: Due)
+    requires { ⌜ CanLink tag number i d ⌝ }
+    ensures { λ r. ⌜ now (link .exit) ≡ links-after tag number i d (now (owner .entry)) (now (link .entry)) ⌝ }
+    ensures { λ r. ⌜ now (owner .exit) ≡ owners-after tag i d (now (owner .entry)) ⌝ }
 {
-    let top = w.height - 1;
-    let d = w.stack[top];
+    let node = i as u8;
+    let depth = d.depth;
+    put_right(link, d.parent, node);
+    if tag == 2 {
+        link[i] = number;
+        return;
+    }
+    if tag == 5 {
+        let opened = depth as usize;
+        owner[opened] = node;
+        return;
+    }
+    if tag == 6 {
+        let place = (depth - 1 - number) as usize;
+        link[i] = owner[place];
+        return;
+    }
+    if tag == 7 {
+        link[i] = node;
+    }
+}
+
+// The guarded variables after node i. A variable is one of them if its fixed point is among those that are guarded where it stands.
+fn with_guarded(guarded: u64, tag: u8, number: u8, i: usize, d: Due) -> u64
+    requires { ⌜ CanLink tag number i d ⌝ }
+    ensures { λ r. ⌜ r ≡ guarded-after tag number i d guarded ⌝ }
+{
+    if tag != 6 {
+        return guarded;
+    }
+    let place = d.depth - 1 - number;
+    if place < d.guarded {
+        return guarded | (1u64 << i);
+    }
+    guarded
+}
+
+// The parts of node i, which has this tag and was due so.
+fn parts_due(tag: u8, i: usize, d: Due) -> NodeParts
+    requires { ⌜ (i < 64) × (d .depth < 64) ⌝ }
+    ensures { λ r. ⌜ r ≡ parts-due tag i d ⌝ }
+{
     let depth = d.depth;
     let guarded = d.guarded;
     let node = i as u8;
-    let v = taken(w, d.parent, node);
-    if tag == 2 {
-        return with_link(v, i, number);
-    }
+    let left = still_due(depth, guarded, 64);
     if tag == 3 {
-        // In a right part every open fixed point is guarded.
-        return with_parts(v, node, depth, guarded, depth);
+        // In the right part every open fixed point is guarded.
+        let right = still_due(depth, depth, node);
+        return NodeParts::Two(left, right);
     }
     if tag == 4 {
-        return with_parts(v, node, depth, guarded, guarded);
+        let right = still_due(depth, guarded, node);
+        return NodeParts::Two(left, right);
     }
     if tag == 5 {
-        let o = with_owner(v, depth, node);
-        return with_due(o, depth + 1, guarded, 64);
-    }
-    if tag == 6 {
-        return with_variable(v, i, depth - 1 - number, guarded);
+        return NodeParts::One(still_due(depth + 1, guarded, 64));
     }
     if tag == 7 {
         // No fixed point opens, and none is guarded by it.
-        let own = with_link(v, i, node);
-        return with_due(own, depth, guarded, 64);
+        return NodeParts::One(still_due(depth, guarded, 64));
     }
-    v
+    NodeParts::Leaf
 }
 
-// The links of the expression that the columns hold.
+// The links of the expression that the columns hold. `owner` has the node of each open fixed point, the outermost first, and
+// `stack` the expressions still to come, the next one last. One loop has all the arrays and stores each entry in place: an array
+// that goes through a call by value is copied whole.
 pub fn link_nodes(nodes: NodeColumns) -> NodeLinks
     requires { ⌜ SheetExpression nodes ⌝ }
     ensures { λ r. ⌜ LinksOf nodes r ⌝ }
 {
     let count = nodes.count;
-    let mut w = first_walk();
+    let mut link = [0u8; 64];
+    let mut guarded = 0;
+    let mut owner = [0u8; 64];
+    let whole = still_due(0, 0, 64);
+    let mut stack = [whole; 64];
+    let mut height = 1;
     let mut i = 0;
     while i < count {
         let tag = nodes.tag[i];
         let number = nodes.number[i];
-        w = walk_step(tag, number, i, w);
+        let top = height - 1;
+        let d = stack[top];
+        put_links(&mut link, &mut owner, tag, number, i, d);
+        guarded = with_guarded(guarded, tag, number, i, d);
+        let parts = parts_due(tag, i, d);
         i += 1;
+        match parts {
+            NodeParts::Leaf => height = top,
+            NodeParts::One(part) => stack[top] = part,
+            NodeParts::Two(left, right) => {
+                stack[top] = right;
+                stack[height] = left;
+                height = height + 1;
+            }
+        }
     }
     let tag = nodes.tag;
-    let link = w.link;
     NodeLinks {
         count,
         tag,
         link,
-        guarded: w.guarded,
+        guarded,
     }
 }
