@@ -53,7 +53,7 @@ bottom-at zero n = refl
 bottom-at (suc k) zero = refl
 bottom-at (suc k) (suc n) = bottom-at k n
 
-bottoms-below : (k : ℕ) (types : List LanguageType) → AllBelow (replicate k bottom-type) types
+pub bottoms-below : (k : ℕ) (types : List LanguageType) → AllBelow (replicate k bottom-type) types
 bottoms-below k types n = subst (λ (a : LanguageType). a ⊑ type-of types n) (sym (bottom-at k n)) (bottom-least (type-of types n))
 
 pub types-long : (ns : List Node) → length (types-of ns) ≡ length ns

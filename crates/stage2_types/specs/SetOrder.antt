@@ -30,6 +30,10 @@ or-rises a true b b' f g e = refl
 or-rises true false b b' f g e = absurd (true≢false (sym (f refl)))
 or-rises false false b b' f g e = g e
 
+pub or-most : (a b c : Bool) → a ⇒ c → b ⇒ c → (a || b) ⇒ c
+or-most true b c f g e = f refl
+or-most false b c f g e = g e
+
 pub false-falls : (a b : Bool) → a ⇒ b → b ≡ false → a ≡ false
 false-falls true b f e = sym (f refl) ∙ e
 false-falls false b f e = refl
@@ -44,6 +48,9 @@ included-both s t f g = bit-ext-all s t (λ i. implied-both (bit s i) (bit t i) 
 
 pub union-rises : (s s' t t' : ℕ) → s ⊆ s' → t ⊆ t' → bitOr s t ⊆ bitOr s' t'
 union-rises s s' t t' f g i h = ⊎-elim (λ x. ∈-left s' t' i (f i x)) (λ x. ∈-right s' t' i (g i x)) (∈-cases s t i h)
+
+pub union-most : (s t u : ℕ) → s ⊆ u → t ⊆ u → bitOr s t ⊆ u
+union-most s t u f g i h = ⊎-elim (f i) (g i) (∈-cases s t i h)
 
 pub cond-rises : (a a' : Bool) (s s' : ℕ) → a ⇒ a' → s ⊆ s' → cond a s 0 ⊆ cond a' s' 0
 cond-rises a a' s s' f g i h = let m = ∈-cond a s i h in ∈-when a' s' i (f (m .0)) (g i (m .1))

@@ -6,10 +6,11 @@ use mathlib.Core.Logic.{⊎-elim}
 use Prim.Native.Nat.{ℕ}
 use lib.Bits.{bitOr, bitAnd}
 use Rattle.stage0_laws.specs.Bits.{_∈_}
+use Rattle.stage0_laws.specs.Truth.{or-true-left, or-true-right}
 use Rattle.stage0_laws.specs.BitLaws.{∈-zero, ∈-left, ∈-right, ∈-cases, ∈-cond, ∈-disjoint, disjoint-zero}
 use Rattle.stage2_types.specs.Types.{LanguageType, if-null, epsilon-type, bottom-type, sequence-type, alternative-type, repetition-type, Separable, Apart}
 use Rattle.stage2_types.specs.LeastSolution.{_⊑_}
-use Rattle.stage2_types.specs.SetOrder.{implied-both, and-rises, or-rises, false-falls, _⊆_, included-both, union-rises, cond-rises}
+use Rattle.stage2_types.specs.SetOrder.{implied-both, and-rises, or-rises, or-most, false-falls, _⊆_, included-both, union-rises, union-most, cond-rises}
 
 pub ⊑-refl : (a : LanguageType) → a ⊑ a
 ⊑-refl a = record { null-rises = λ e. e; first-rises = λ i m. m; flast-rises = λ i m. m }
@@ -51,6 +52,31 @@ alternative-rises {a} {a'} {b} {b'} p q = record {
   null-rises = or-rises (a .null) (a' .null) (b .null) (b' .null) (p .null-rises) (q .null-rises);
   first-rises = union-rises (a .first) (a' .first) (b .first) (b' .first) (p .first-rises) (q .first-rises);
   flast-rises = union-rises (a .flast) (a' .flast) (b .flast) (b' .flast) (p .flast-rises) (q .flast-rises);
+}
+
+-- An alternative has the least type that is above both its parts' types.
+pub above-left : (a b : LanguageType) → a ⊑ alternative-type a b
+unfolding alternative-type
+above-left a b = record {
+  null-rises = or-true-left (a .null) (b .null);
+  first-rises = ∈-left (a .first) (b .first);
+  flast-rises = ∈-left (a .flast) (b .flast);
+}
+
+pub above-right : (a b : LanguageType) → b ⊑ alternative-type a b
+unfolding alternative-type
+above-right a b = record {
+  null-rises = or-true-right (a .null) (b .null);
+  first-rises = ∈-right (a .first) (b .first);
+  flast-rises = ∈-right (a .flast) (b .flast);
+}
+
+pub above-least : {a b c : LanguageType} → a ⊑ c → b ⊑ c → alternative-type a b ⊑ c
+unfolding alternative-type
+above-least {a} {b} {c} p q = record {
+  null-rises = or-most (a .null) (b .null) (c .null) (p .null-rises) (q .null-rises);
+  first-rises = union-most (a .first) (b .first) (c .first) (p .first-rises) (q .first-rises);
+  flast-rises = union-most (a .flast) (b .flast) (c .flast) (p .flast-rises) (q .flast-rises);
 }
 
 pub repetition-rises : {a a' b b' : LanguageType} → a ⊑ a' → b ⊑ b' → repetition-type a b ⊑ repetition-type a' b'

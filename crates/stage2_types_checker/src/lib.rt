@@ -5,11 +5,11 @@ use stage2_types_columns::NodeLinks;
 use stage2_types_columns::TypeColumns;
 use stage2_types_linker::link_nodes;
 ghost use mathlib.Core.Path.{_≡_};
-ghost use mathlib.Core.Bool.{Bool, cond};
-ghost use Prim.Native.Nat.{ℕ, _+_, _-_, _*_, _^_, _≤_, _<_};
+ghost use mathlib.Core.Bool.{Bool, cond, not};
+ghost use Prim.Native.Nat.{_^_, _<_};
 ghost use Rattle.stage0_laws.specs.Bits.{bit};
 ghost use Rattle.stage2_types.specs.Types.{if-null, sequence-type, alternative-type, repetition-type};
-ghost use Rattle.stage2_types.specs.LeastTypes.{next-types, same-type, same-types, types-of};
+ghost use Rattle.stage2_types.specs.LeastTypes.{same-type, same-types, types-of};
 ghost use Rattle.stage2_types.specs.Questions.{separable, apart, first-fault};
 ghost use Rattle.stage2_types_columns.specs.Held.{node-of, held-nodes, held-type, held-types};
 ghost use Rattle.stage2_types_columns.specs.Linked.{SheetExpression};
@@ -17,6 +17,7 @@ ghost use Rattle.stage1_sheet.specs.Limits.{most-tokens};
 ghost use Rattle.stage2_types.specs.NodeRanges.{NodeInRange};
 ghost use Rattle.stage2_types_columns.specs.Within.{LinksFit};
 ghost use Rattle.stage2_types_checker.specs.TypeBy.{type-by, fault-by};
+ghost use Rattle.stage2_types_checker.specs.Raised.{raised};
 ghost use Rattle.stage2_types_checker.specs.Found.{language-type, fault-of, asked};
 ghost use Rattle.stage2_types_checker.specs.Checking.{CheckedOf};
 
@@ -30,6 +31,12 @@ pub struct NodeType {
     pub null: bool,
     pub first: u32,
     pub flast: u32,
+}
+
+// The types after a round, and whether it changed any.
+struct Raised {
+    types: TypeColumns,
+    changed: bool,
 }
 
 // The question that failed, 8 to 10, and the node at which it did.
@@ -206,46 +213,37 @@ fn node_type<'a>(
     without_flast(false, 0)
 }
 
-// All equations at once.
-pub fn next_types(links: NodeLinks, types: TypeColumns) -> TypeColumns
+// One round: every node's equation once, each type stored at once. A node's parts stand behind it, so from the last node to the
+// first only variables and repetitions go by types of the round before. A node keeps what it had: types only grow, so no flag is
+// ever taken back.
+fn raise(links: NodeLinks, types: TypeColumns) -> Raised
     requires { ⌜ LinksFit links ⌝ }
-    ensures { λ r. ⌜ held-types (links .count) r ≡ next-types (held-nodes links) (held-types (links .count) types) ⌝ }
+    ensures { λ r. ⌜
+        (held-types (links .count) (r .types) ≡ raised (held-nodes links) (held-types (links .count) types))
+        × (r .changed ≡ not (same-types (held-types (links .count) types) (held-types (links .count) (r .types))))
+        ⌝ }
 {
-    let count = links.count;
-    let mut out = TypeColumns {
-        null: 0,
-        first: [0; 64],
-        flast: [0; 64],
-    };
-    let mut i = 0;
-    while i < count {
+    let mut out = types;
+    let mut changed = false;
+    let mut i = links.count;
+    while 0 < i {
+        i -= 1;
         let tag = links.tag[i];
         let link = links.link[i];
-        let t = node_type(types.null, &types.first, &types.flast, tag, link, i);
+        let own = type_at(out.null, &out.first, &out.flast, i);
+        let step = node_type(out.null, &out.first, &out.flast, tag, link, i);
+        let t = alternative_type(own, step);
+        let same = same_type(own, t);
+        changed = changed | !same;
         let one = one_if(t.null, i);
         out.null = out.null | one;
         out.first[i] = t.first;
         out.flast[i] = t.flast;
-        i += 1;
     }
-    out
-}
-
-fn same_types(count: usize, a: TypeColumns, b: TypeColumns) -> bool
-    requires { ⌜ count ≤ 64 ⌝ }
-    ensures { λ r. ⌜ r ≡ same-types (held-types count a) (held-types count b) ⌝ }
-{
-    let mut i = 0;
-    while i < count {
-        let x = type_at(a.null, &a.first, &a.flast, i);
-        let y = type_at(b.null, &b.first, &b.flast, i);
-        let same = same_type(x, y);
-        if !same {
-            return false;
-        }
-        i += 1;
+    Raised {
+        types: out,
+        changed,
     }
-    true
 }
 
 // The least types that solve the equations: all nodes start with the type of ⊥.
@@ -261,11 +259,11 @@ pub fn least_types(links: NodeLinks) -> TypeColumns
     };
     let mut rounds = TYPE_HEIGHT * count;
     while 0 < rounds {
-        let next = next_types(links, types);
-        let same = same_types(count, types, next);
-        if same {
+        let round = raise(links, types);
+        if !round.changed {
             return types;
         }
+        let next = round.types;
         types = next;
         rounds -= 1;
     }

@@ -1,15 +1,15 @@
--- `stage2_types_checker::least_types` meets its contract. The loop's invariant: the rounds that are left
--- lead from the present types to the least ones.
-use mathlib.Core.Path.{_≡_, _∙_}
+-- `stage2_types_checker::least_types` meets its contract. The loop's invariant: the present types are between
+-- those of as many rounds of all equations at once, and the least ones.
 use native.Mathlib.Omega.{arith}
-use Rattle.stage2_types.specs.LeastTypes.{types-of}
-use Rattle.stage2_types_columns.specs.Held.{held-nodes}
-use Rattle.stage2_types_checker.proofs.Rounds.{settled, rounds-first, rounds-over, rounds-stop, rounds-on}
+use borrow.Author.Tests.{not-true}
+use Rattle.stage2_types_columns.specs.Held.{held-nodes, held-types}
+use Rattle.stage2_types_checker.specs.RaisedLaws.{Between}
+use Rattle.stage2_types_checker.proofs.Rounds.{rounds-first, rounds-stop, rounds-on, rounds-over}
 use Rattle.stage2_types_checker.proofs.least_types.Statement.{statement}
 use Rattle.stage2_types_checker.proofs.least_types.Tie as tie
 
 abbrev Inv-loop : tie.InvT-loop
-Inv-loop links count types₀ rounds₀ types rounds = settled links rounds types ≡ types-of (held-nodes links)
+Inv-loop links count types₀ rounds₀ types rounds = Between (held-nodes links) rounds (held-types (links .count) types)
 
 abbrev μ-loop : tie.MeasureT-loop
 μ-loop links count types₀ rounds₀ types rounds = rounds
@@ -18,19 +18,18 @@ mul-rounds : tie.Need-mul-rounds Inv-loop μ-loop
 mul-rounds c = omega (arith, c .pre .count-fits)
 
 loop-holds : tie.Need-loop-holds Inv-loop μ-loop
-loop-holds c = rounds-first (c .args .links) (c .pre .count-fits)
+loop-holds c = rounds-first (c .args .links) (c .pre)
 
-next-types-requires : tie.Need-next-types-requires Inv-loop μ-loop
-next-types-requires c κs = c .before .before .pre
-
-same-types-requires : tie.Need-same-types-requires Inv-loop μ-loop
-same-types-requires c κs = c .before .before .before .pre .count-fits
+raise-requires : tie.Need-raise-requires Inv-loop μ-loop
+raise-requires c κs = c .before .before .pre
 
 returns : tie.Need-returns Inv-loop μ-loop
 returns c =
+    let z = c .before .before .before .before .before in
     let l = c .before .before .before .before .loop in
-    rounds-stop (c .before .before .before .before .before .args .links) (l .types) _ (l .rounds) _ (c .before .before .next-types .ensures)
-    (c .before .same-types .ensures) (omega arith) (c .if1 .taken) ∙ l .inv
+    let r = c .before .before .raise in
+    rounds-stop (z .args .links) (z .pre) (l .types) (r .result .types) (l .rounds) (l .inv) (r .ensures .0) (r .result .changed)
+    (r .ensures .1) (not-true _ (c .if1 .taken))
 
 sub-rounds : tie.Need-sub-rounds Inv-loop μ-loop
 sub-rounds c = omega arith
@@ -40,12 +39,15 @@ loop-less c = omega arith
 
 loop-again : tie.Need-loop-again Inv-loop μ-loop
 loop-again c =
-    let l = c .before .before .before .before .loop in
-    rounds-on (c .before .before .before .before .before .args .links) (l .types) _ (l .rounds) _ (c .before .before .next-types .ensures)
-    (c .before .same-types .ensures) (omega arith) (c .if1 .left) ∙ l .inv
+    let z = c .before .before .before .before .before .before in
+    let l = c .before .before .before .before .before .loop in
+    let r = c .before .before .before .raise in
+    rounds-on (z .args .links) (z .pre) (l .types) (r .result .types) (l .rounds) (l .inv) (r .ensures .0) (omega arith)
 
 returns-2 : tie.Need-returns-2 Inv-loop μ-loop
-returns-2 c = rounds-over (c .before .before .args .links) (c .before .loop .types) (c .before .loop .rounds) (omega arith) ∙ c .before .loop .inv
+returns-2 c =
+    let l = c .before .loop in
+    rounds-over (c .before .before .args .links) (l .types) (l .rounds) (l .inv) (omega arith)
 
 pub least-types-spec : {M : Type 1} → statement M
 least-types-spec =
@@ -55,8 +57,7 @@ least-types-spec =
     μ-loop
     mul-rounds
     loop-holds
-    next-types-requires
-    same-types-requires
+    raise-requires
     returns
     sub-rounds
     loop-less
