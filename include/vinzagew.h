@@ -1,12 +1,12 @@
 /*
  * Vinzagew: a proved grammar compiler, and the machine that reads by its images.
  *
- * The functions of the static library libvinzagew.a. Their contract is document 01 with request 1 of
- * document 02; the numbers and places below are the contract's.
+ * The functions of the static library libvinzagew.a. Their contract is document 01 with requests 1 and 2
+ * of document 02; the numbers and places below are the contract's.
  *
  * Every buffer is a pointer to its first byte (or number) and a length. All buffers must be valid for
  * their length, pointers must not be null (any address that is not null will do for a length of 0),
- * and no buffer that is written to may overlap another. Neither function keeps a pointer.
+ * and no buffer that is written to may overlap another. No function keeps a pointer.
  */
 #ifndef VINZAGEW_H
 #define VINZAGEW_H
@@ -37,7 +37,7 @@ extern "C" {
 #define VINZAGEW_STACK_LENGTH(n) (1 + (VINZAGEW_TAIL_LIMIT - 1) * (size_t)(n))
 
 /* The numbers: 0 for success, otherwise the question that was answered with no. */
-#define VINZAGEW_SUCCESS 0           /* compiled, or accepted */
+#define VINZAGEW_SUCCESS 0           /* passed, written or accepted */
 #define VINZAGEW_WORK_TOO_SHORT 1    /* the work area has fewer than 65,536 bytes */
 #define VINZAGEW_SHEET_TOO_LONG 2    /* the sheet has more than 4,096 bytes */
 #define VINZAGEW_BAD_NUMBER 3        /* a number is missing, cut off, not shortest, or 2^64 or more */
@@ -57,22 +57,37 @@ extern "C" {
 #define VINZAGEW_STACK_TOO_SHORT 17  /* the stack does not hold all pending nonterminals */
 
 /*
- * Compiles a sheet into an image.
+ * Checks a sheet: questions 1 to 10, without an image buffer.
  *
- * out[0]  number, 0 to 11
+ * out[0]  number, 0 to 10
  * out[1]  place: of 3 to 5 the number's first byte, of 6 the first byte left over, of 7 the rule's
  *         action, of 8 to 10 the node's tag, otherwise 0
+ * out[2]  0
+ *
+ * A sheet passes (number 0) exactly if there is an image buffer that is long enough for writing it. The
+ * first 65,536 bytes of `work` end as zero, except after 1, when none changes; the rest of `work` never
+ * changes. Numbers of `out` past the third do not change. If out_len is below 3, nothing happens and
+ * nothing changes.
+ */
+void sheet_check(const uint8_t *sheet, size_t sheet_len,
+                 uint8_t *work, size_t work_len,
+                 uint64_t *out, size_t out_len);
+
+/*
+ * Writes a sheet's image. The sheet is checked first, whether it was checked before or not.
+ *
+ * out[0]  number, 0 to 11: that of checking, or 11 if the sheet passes and its image does not fit
+ * out[1]  place: that of checking; of 11, 0
  * out[2]  length: the bytes written on success, the bytes needed after 11, otherwise 0
  *
  * On success the first out[2] bytes of `image` are the image, and the rest are as before; a refusal
- * leaves `image` as it was. The first 65,536 bytes of `work` end as zero, except after 1, when none
- * changes; the rest of `work` never changes. Numbers of `out` past the third do not change. If out_len
- * is below 3, nothing happens and nothing changes.
+ * leaves `image` as it was. `work` ends as after checking. Numbers of `out` past the third do not
+ * change. If out_len is below 3, nothing happens and nothing changes.
  */
-void sheet_compile(const uint8_t *sheet, size_t sheet_len,
-                   uint8_t *work, size_t work_len,
-                   uint8_t *image, size_t image_len,
-                   uint64_t *out, size_t out_len);
+void sheet_write(const uint8_t *sheet, size_t sheet_len,
+                 uint8_t *work, size_t work_len,
+                 uint8_t *image, size_t image_len,
+                 uint64_t *out, size_t out_len);
 
 /*
  * Runs an image over a text.

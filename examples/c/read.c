@@ -1,10 +1,11 @@
 /*
- * Reads a text by a sheet: read SHEET TEXT
+ * Checks a sheet, and reads a text by it: read SHEET [TEXT]
  *
- * Compiles the sheet in the first file, runs its image over the text in the second, and prints number,
- * place and count. If the sheet is refused, that refusal's number and place are printed, and count 0.
- * The exit status is 0 if the text was accepted, 1 if the sheet or the text was refused, and 2 if a
- * file could not be read.
+ * Checks the sheet in the first file. If it passes and a second file is named, writes the sheet's image
+ * and runs it over the text in that file. Prints number, place and count: of the check if the sheet is
+ * refused or no text is named, with count 0, otherwise of the run. The exit status is 0 if the sheet
+ * passed and the text was accepted, 1 if the sheet or the text was refused, and 2, with nothing printed
+ * but an error, if a file could not be read, there was no memory or the usage was wrong.
  *
  * A sheet for numbers between slashes, with its numbers in octal for printf: version and counts; the
  * rules for a number N, a slash S and a blank that is skipped; the expression, N and then any number
@@ -16,9 +17,10 @@
  *   printf '\0\1\40\40' >>sheet
  *   printf '\3\2\0\7\3\2\1\2\0' >>sheet
  *   printf '12/7' >text
+ *   ./read sheet
  *   ./read sheet text
  *
- * prints `0 4 3`.
+ * prints `0 0 0` and `0 4 3`.
  */
 #include <inttypes.h>
 #include <stdio.h>
@@ -51,33 +53,40 @@ static size_t read_file(const char *name, uint8_t *bytes, size_t room)
     return length;
 }
 
+/* Writes the image of a sheet that passes, and runs it over a text: number, place and count. */
+static void read_text(size_t sheet_length, size_t text_length, uint64_t out[3])
+{
+    size_t stack_length = VINZAGEW_STACK_LENGTH(text_length);
+    uint8_t *stack = malloc(stack_length);
+
+    if (stack == NULL) {
+        fputs("no memory for the stack\n", stderr);
+        exit(2);
+    }
+    sheet_write(sheet, sheet_length, work, sizeof work, image, sizeof image, out, 3);
+    /* With a shorter image buffer this might be 11, and the third number a length and no count. */
+    if (out[0] == VINZAGEW_SUCCESS)
+        image_run(image, out[2], text, text_length, stack, stack_length, out, 3);
+    else
+        out[2] = 0;
+    free(stack);
+}
+
 int main(int argc, char **argv)
 {
     uint64_t out[3];
 
-    if (argc != 3) {
-        fprintf(stderr, "usage: %s SHEET TEXT\n", argv[0]);
+    if (argc != 2 && argc != 3) {
+        fprintf(stderr, "usage: %s SHEET [TEXT]\n", argv[0]);
         return 2;
     }
 
     size_t sheet_length = read_file(argv[1], sheet, sizeof sheet);
-    size_t text_length = read_file(argv[2], text, sizeof text);
+    size_t text_length = argc == 3 ? read_file(argv[2], text, sizeof text) : 0;
 
-    sheet_compile(sheet, sheet_length, work, sizeof work, image, sizeof image, out, 3);
-    if (out[0] == VINZAGEW_SUCCESS) {
-        size_t image_length = out[2];
-        size_t stack_length = VINZAGEW_STACK_LENGTH(text_length);
-        uint8_t *stack = malloc(stack_length);
-
-        if (stack == NULL) {
-            fputs("no memory for the stack\n", stderr);
-            return 2;
-        }
-        image_run(image, image_length, text, text_length, stack, stack_length, out, 3);
-        free(stack);
-    } else {
-        out[2] = 0;
-    }
+    sheet_check(sheet, sheet_length, work, sizeof work, out, 3);
+    if (argc == 3 && out[0] == VINZAGEW_SUCCESS)
+        read_text(sheet_length, text_length, out);
 
     printf("%" PRIu64 " %" PRIu64 " %" PRIu64 "\n", out[0], out[1], out[2]);
     return out[0] == VINZAGEW_SUCCESS ? 0 : 1;

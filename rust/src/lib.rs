@@ -1,9 +1,10 @@
 //! A proved grammar compiler, and the machine that reads by its images.
 //!
-//! A *sheet* has lexer rules and one typed context-free expression. [`compile`] turns a sheet into an
-//! [`Image`], and [`Image::run`] reads a text by it. Both call a static library whose code is proved to
-//! meet its contract, document 01 with request 1 of document 02; this package links it and lends it the
-//! buffers that it needs. The places and numbers in this documentation are those of the contract.
+//! A *sheet* has lexer rules and one typed context-free expression. [`check`](check()) says whether a
+//! sheet passes, [`write`](write()) turns it into an [`Image`], and [`Image::run`] reads a text by
+//! it. All three call a static library whose code is proved to meet its contract, document 01 with
+//! requests 1 and 2 of document 02; this package links it and lends it the buffers that it needs. The
+//! places and numbers in this documentation are those of the contract.
 //!
 //! [`builder`] writes sheets as Rust code.
 //!
@@ -25,18 +26,18 @@
 //! // A number, then any number of times a slash and a number.
 //! let sheet = builder.finish(number.then(slash.then(number).star()))?;
 //!
-//! let image = vinzagew::compile(&sheet.to_bytes())?;
+//! let image = vinzagew::write(sheet.as_bytes())?;
 //! assert_eq!(image.run(b"12 /7"), Ok(3));
 //!
 //! let refusal = image.run(b"12//7").unwrap_err();
 //! assert_eq!((refusal.number, refusal.place), (15, 3));
 //!
-//! // A sheet that is refused names the part that is to blame.
+//! // A sheet that is refused names the part that is to blame. For the verdict no image is written.
 //! let mut builder = SheetBuilder::new();
 //! let number = builder.token("number");
 //! builder.rule(number, Regex::class(b'0', b'9').plus());
 //! let sheet = builder.finish(number.or(number))?;
-//! let refusal = vinzagew::compile(&sheet.to_bytes()).unwrap_err();
+//! let refusal = vinzagew::check(sheet.as_bytes()).unwrap_err();
 //! assert_eq!(refusal.number, 10);
 //! let part = sheet.locate(refusal.place);
 //! assert_eq!(part.to_string(), "expression node 0: (number ∨ number)");
@@ -50,11 +51,11 @@ pub mod library;
 mod refusal;
 
 pub use library::LIBRARY_LINKED;
-pub use refusal::Refusal;
+pub use refusal::{CheckRefusal, Refusal};
 
-use library::{image_run, sheet_compile};
+use library::{image_run, sheet_check, sheet_write};
 
-/// The bytes that the work area of [`compile_into`] must have at least.
+/// The bytes that the work area of [`check_with`] and [`write_into`] must have at least.
 pub const WORK_BYTES: usize = 65_536;
 
 /// The length of an image buffer that is enough for every sheet.
@@ -79,41 +80,81 @@ pub const fn stack_length(text_length: usize) -> usize {
     1 + (TAIL_LIMIT - 1) * text_length
 }
 
-/// Compiles a sheet, with buffers of its own.
+/// Checks a sheet, with a work area of its own.
+///
+/// A sheet passes exactly if [`write`](write()) accepts it.
 ///
 /// # Errors
 ///
 /// The first of questions 2 to 10 that is answered with no.
 #[cfg_attr(vinzagew_library, doc = "```")]
 #[cfg_attr(not(vinzagew_library), doc = "```no_run")]
-/// let refusal = vinzagew::compile(b"").unwrap_err();
+/// let refusal = vinzagew::check(b"").unwrap_err();
 /// assert_eq!((refusal.number, refusal.place), (3, 0));
 /// ```
-pub fn compile(sheet: &[u8]) -> Result<Image, Refusal> {
+pub fn check(sheet: &[u8]) -> Result<(), CheckRefusal> {
+    check_with(sheet, &mut vec![0; WORK_BYTES])
+}
+
+/// Checks a sheet with a work area that is lent, which an editor keeps from one check to the next.
+///
+/// The first [`WORK_BYTES`] bytes of the work area end as zero, except after 1, when none changes; the
+/// rest never change. A sheet passes exactly if there is an image buffer that is long enough for
+/// [`write_into`] with the same work area.
+///
+/// # Errors
+///
+/// The first of questions 1 to 10 that is answered with no.
+pub fn check_with(sheet: &[u8], work: &mut [u8]) -> Result<(), CheckRefusal> {
+    let mut out = [0; 3];
+    sheet_check(sheet, work, &mut out);
+    let [number, place, _] = out;
+    if number == 0 {
+        return Ok(());
+    }
+    Err(CheckRefusal {
+        number,
+        place: place as usize,
+    })
+}
+
+/// Checks a sheet and writes its image, with buffers of its own.
+///
+/// # Errors
+///
+/// The first of questions 2 to 10 that is answered with no.
+#[cfg_attr(vinzagew_library, doc = "```")]
+#[cfg_attr(not(vinzagew_library), doc = "```no_run")]
+/// let sheet = [1, 1, 1, 1, 1, 48, 57, 2, 0];
+/// let image = vinzagew::write(&sheet)?;
+/// assert_eq!(image.run(b"7"), Ok(1));
+/// # Ok::<(), vinzagew::Refusal>(())
+/// ```
+pub fn write(sheet: &[u8]) -> Result<Image, Refusal> {
     let mut work = vec![0; WORK_BYTES];
     let mut image = vec![0; IMAGE_BYTES];
-    let length = compile_into(sheet, &mut work, &mut image)?.len();
+    let length = write_into(sheet, &mut work, &mut image)?.len();
     image.truncate(length);
     image.shrink_to_fit();
     Ok(Image { bytes: image })
 }
 
-/// Compiles a sheet into a buffer, and gives the part of the buffer that was written.
+/// Checks a sheet, writes its image into a buffer, and gives the part of the buffer that was written.
 ///
-/// The first [`WORK_BYTES`] bytes of the work area end as zero, except after 1, when none changes; the
-/// rest never change. A refusal leaves the image buffer untouched; success leaves the bytes past the
-/// image. [`IMAGE_BYTES`] are enough for every sheet.
+/// Nothing is taken over from an earlier check. The work area ends as after [`check_with`]. A refusal
+/// leaves the image buffer untouched; success leaves the bytes past the image. [`IMAGE_BYTES`] are enough
+/// for every sheet.
 ///
 /// # Errors
 ///
 /// The first of questions 1 to 11 that is answered with no.
-pub fn compile_into<'a>(
+pub fn write_into<'a>(
     sheet: &[u8],
     work: &mut [u8],
     image: &'a mut [u8],
 ) -> Result<&'a [u8], Refusal> {
     let mut out = [0; 3];
-    sheet_compile(sheet, work, image, &mut out);
+    sheet_write(sheet, work, image, &mut out);
     let [number, place, length] = out;
     if number == 0 {
         return Ok(&image[..length as usize]);
@@ -129,7 +170,7 @@ pub fn compile_into<'a>(
 /// Runs an image over a text on a stack, and gives how many tokens were taken.
 ///
 /// The stack ends all zero, except after 12 and 13, when it is untouched. [`stack_length`] says how long
-/// a stack is enough for an image that compiling made.
+/// a stack is enough for an image that writing made.
 ///
 /// # Errors
 ///
@@ -181,7 +222,7 @@ impl Image {
 
     /// Runs the image over a text on a long enough stack, and gives how many tokens were taken.
     ///
-    /// For an image that compiling made, this is the sheet's own answer. The stack is long enough for
+    /// For an image that writing made, this is the sheet's own answer. The stack is long enough for
     /// every readable image: a tail has at most [`TAIL_LIMIT`] members, and replaces one.
     ///
     /// # Errors

@@ -1,4 +1,4 @@
-//! The two functions of the static library, over slices.
+//! The three functions of the static library, over slices.
 //!
 //! They have all results and all effects of the C functions: an `out` shorter than 3 is left untouched,
 //! and nothing else happens then. Without the library they panic.
@@ -6,13 +6,22 @@
 /// Whether the static library was found when this package was built.
 pub const LIBRARY_LINKED: bool = cfg!(vinzagew_library);
 
-pub use linked::{image_run, sheet_compile};
+pub use linked::{image_run, sheet_check, sheet_write};
 
 #[cfg(vinzagew_library)]
 mod linked {
     mod c {
         extern "C" {
-            pub fn sheet_compile(
+            pub fn sheet_check(
+                sheet: *const u8,
+                sheet_len: usize,
+                work: *mut u8,
+                work_len: usize,
+                out: *mut u64,
+                out_len: usize,
+            );
+
+            pub fn sheet_write(
                 sheet: *const u8,
                 sheet_len: usize,
                 work: *mut u8,
@@ -36,13 +45,28 @@ mod linked {
         }
     }
 
-    /// Compiles a sheet: number, place and length go to `out[0..3]`.
-    pub fn sheet_compile(sheet: &[u8], work: &mut [u8], image: &mut [u8], out: &mut [u64]) {
+    /// Checks a sheet: number, place and 0 go to `out[0..3]`.
+    pub fn sheet_check(sheet: &[u8], work: &mut [u8], out: &mut [u64]) {
         // SAFETY: each pointer comes from a slice with the length that is passed beside it. The slices
         // that are written to are borrowed for this call alone, so no two overlap. The function keeps
         // no pointer.
         unsafe {
-            c::sheet_compile(
+            c::sheet_check(
+                sheet.as_ptr(),
+                sheet.len(),
+                work.as_mut_ptr(),
+                work.len(),
+                out.as_mut_ptr(),
+                out.len(),
+            );
+        }
+    }
+
+    /// Checks a sheet and writes its image: number, place and length go to `out[0..3]`.
+    pub fn sheet_write(sheet: &[u8], work: &mut [u8], image: &mut [u8], out: &mut [u64]) {
+        // SAFETY: as for `sheet_check`.
+        unsafe {
+            c::sheet_write(
                 sheet.as_ptr(),
                 sheet.len(),
                 work.as_mut_ptr(),
@@ -57,7 +81,7 @@ mod linked {
 
     /// Runs an image over a text: number, place and count go to `out[0..3]`.
     pub fn image_run(image: &[u8], text: &[u8], stack: &mut [u8], out: &mut [u64]) {
-        // SAFETY: as for `sheet_compile`. The image and the text are only read.
+        // SAFETY: as for `sheet_check`. The image and the text are only read.
         unsafe {
             c::image_run(
                 image.as_ptr(),
@@ -76,7 +100,12 @@ mod linked {
 #[cfg(not(vinzagew_library))]
 mod linked {
     /// Stands where the library's function would be.
-    pub fn sheet_compile(_sheet: &[u8], _work: &mut [u8], _image: &mut [u8], _out: &mut [u64]) {
+    pub fn sheet_check(_sheet: &[u8], _work: &mut [u8], _out: &mut [u64]) {
+        missing();
+    }
+
+    /// Stands where the library's function would be.
+    pub fn sheet_write(_sheet: &[u8], _work: &mut [u8], _image: &mut [u8], _out: &mut [u64]) {
         missing();
     }
 

@@ -1,9 +1,55 @@
-//! Refusals.
+//! Refusals: the question that was answered with no, its place, and both in words.
+//!
+//! Nothing is checked here. What stands at a place of a sheet is said by
+//! [`Sheet::locate`](crate::builder::Sheet::locate).
 
 use std::error::Error;
 use std::fmt;
 
-/// A refusal: which question was answered with no, and where.
+/// A refusal by checking: which of questions 1 to 10 was answered with no, and where.
+///
+/// Checking is lent no image buffer and reads no text, so there is no length and no count.
+#[derive(Clone, Copy, Debug, PartialEq, Eq, Hash)]
+pub struct CheckRefusal {
+    /// The number of the question, 1 to 10.
+    pub number: u64,
+    /// The place in the sheet (3 to 10); 0 if the refusal names none.
+    pub place: usize,
+}
+
+impl CheckRefusal {
+    /// The question that was answered with no.
+    ///
+    /// ```
+    /// let refusal = vinzagew::CheckRefusal { number: 10, place: 20 };
+    /// assert_eq!(refusal.question(), "Are the alternatives apart?");
+    /// ```
+    pub fn question(&self) -> &'static str {
+        Refusal::from(*self).question()
+    }
+}
+
+impl fmt::Display for CheckRefusal {
+    fn fmt(&self, formatter: &mut fmt::Formatter) -> fmt::Result {
+        Refusal::from(*self).fmt(formatter)
+    }
+}
+
+impl Error for CheckRefusal {}
+
+/// What writing says of a sheet that checking refuses.
+impl From<CheckRefusal> for Refusal {
+    fn from(refusal: CheckRefusal) -> Refusal {
+        Refusal {
+            number: refusal.number,
+            place: refusal.place,
+            needed: 0,
+            tokens: 0,
+        }
+    }
+}
+
+/// A refusal by writing or running: which question was answered with no, and where.
 #[derive(Clone, Copy, Debug, PartialEq, Eq, Hash)]
 pub struct Refusal {
     /// The number of the question, 1 to 17.
@@ -13,7 +59,7 @@ pub struct Refusal {
     pub place: usize,
     /// After 11 the bytes that the image needs, otherwise 0.
     pub needed: usize,
-    /// The tokens that running took before the refusal, 0 for compiling.
+    /// The tokens that running took before the refusal, 0 for writing.
     pub tokens: usize,
 }
 
@@ -108,5 +154,13 @@ mod tests {
             words(15, 3, 0, 2),
             "refused with 15 at place 3 of the text: Does a pending nonterminal take it? No, after 2 tokens"
         );
+    }
+
+    #[test]
+    fn a_check_is_refused_in_the_same_words() {
+        for (number, place) in [(1, 0), (2, 0), (3, 20), (7, 3), (8, 21), (10, 20)] {
+            let refusal = CheckRefusal { number, place };
+            assert_eq!(refusal.to_string(), words(number, place, 0, 0));
+        }
     }
 }

@@ -1,4 +1,6 @@
-//! Builds the C example with its script and runs it.
+//! Builds the C example with its script and runs it, and holds the C header against this package.
+//!
+//! What the library's functions do is tested elsewhere: here it is only that C reaches them.
 
 use std::path::{Path, PathBuf};
 use std::process::Command;
@@ -31,16 +33,62 @@ fn the_example_compiles() {
     assert!(status.success());
 }
 
+fn header() -> String {
+    fs::read_to_string(top().join("include/vinzagew.h")).expect("the header")
+}
+
+/// What the header defines a name as, without the comment.
+fn defined(header: &str, name: &str) -> usize {
+    let define = format!("#define VINZAGEW_{name} ");
+    let line = header.lines().find_map(|line| line.strip_prefix(&define));
+    let value = line.unwrap_or_else(|| panic!("{name} is in the header"));
+    let value = value.split("/*").next().unwrap_or_default();
+    value.trim().parse().expect("a number")
+}
+
+/// The names of the numbers from 0 on, each with words of its question.
+const NUMBERS: [(&str, &str); 18] = [
+    ("SUCCESS", "no question"),
+    ("WORK_TOO_SHORT", "work area"),
+    ("SHEET_TOO_LONG", "sheet within"),
+    ("BAD_NUMBER", "number present, whole, shortest"),
+    ("BAD_VALUE", "value allowed"),
+    ("TOO_MANY_NODES", "node and class limits"),
+    ("SHEET_GOES_ON", "sheet end"),
+    ("EMPTY_WORD", "non-empty words"),
+    ("NOT_GUARDED", "guarded"),
+    ("NOT_SEPARABLE", "separable"),
+    ("NOT_APART", "apart"),
+    ("IMAGE_TOO_LONG", "image fit"),
+    ("TEXT_TOO_LONG", "text within"),
+    ("NOT_READABLE", "readable"),
+    ("NO_MATCH", "rule match"),
+    ("NOT_TAKEN", "take it"),
+    ("ENDS_EARLY", "At the end"),
+    ("STACK_TOO_SHORT", "stack"),
+];
+
+/// The header's numbers are those of this package's questions.
+#[test]
+fn the_header_has_the_same_numbers() {
+    let header = header();
+    for (number, (name, words)) in NUMBERS.into_iter().enumerate() {
+        assert_eq!(defined(&header, name), number, "{name}");
+        let refusal = vinzagew::Refusal {
+            number: number as u64,
+            place: 0,
+            needed: 0,
+            tokens: 0,
+        };
+        assert!(refusal.question().contains(words), "{name}");
+    }
+}
+
 /// The header's limits are those of this package.
 #[test]
 fn the_header_has_the_same_limits() {
-    let header = fs::read_to_string(top().join("include/vinzagew.h")).expect("the header");
-    let limit = |name: &str| {
-        let define = format!("#define VINZAGEW_{name} ");
-        let line = header.lines().find_map(|line| line.strip_prefix(&define));
-        let value = line.unwrap_or_else(|| panic!("{name} is in the header"));
-        value.trim().parse::<usize>().expect("a number")
-    };
+    let header = header();
+    let limit = |name: &str| defined(&header, name);
     assert_eq!(limit("WORK_BYTES"), vinzagew::WORK_BYTES);
     assert_eq!(limit("IMAGE_BYTES"), vinzagew::IMAGE_BYTES);
     assert_eq!(limit("SHEET_LIMIT"), vinzagew::SHEET_LIMIT);
@@ -51,9 +99,9 @@ fn the_header_has_the_same_limits() {
     ));
 }
 
-/// Builds the example and gives its folder.
-fn build() -> PathBuf {
-    let folder = Path::new(env!("CARGO_TARGET_TMPDIR")).join("c-example");
+/// Builds the example in a folder of this name, and gives the folder.
+fn build(name: &str) -> PathBuf {
+    let folder = Path::new(env!("CARGO_TARGET_TMPDIR")).join(name);
     fs::create_dir_all(&folder).expect("a folder of our own");
     let status = Command::new(top().join("examples/c/build.sh"))
         .arg(&folder)
@@ -67,24 +115,35 @@ fn build() -> PathBuf {
     folder
 }
 
-/// What the example prints for a sheet and a text, and its exit status.
-fn read(folder: &Path, sheet: &[u8], text: &[u8]) -> (String, Option<i32>) {
-    fs::write(folder.join("sheet"), sheet).expect("a sheet");
-    fs::write(folder.join("text"), text).expect("a text");
+/// What the example prints if it is called with these arguments, and its exit status.
+fn call(folder: &Path, arguments: &[&str]) -> (String, Option<i32>) {
     let output = Command::new(folder.join("read"))
         .current_dir(folder)
-        .args(["sheet", "text"])
+        .args(arguments)
         .output()
         .expect("the example runs");
     let line = String::from_utf8(output.stdout).expect("a line");
     (line.trim_end().to_owned(), output.status.code())
 }
 
+/// What the example prints for a sheet and a text, if there is one, and its exit status.
+fn read(folder: &Path, sheet: &[u8], text: Option<&[u8]>) -> (String, Option<i32>) {
+    fs::write(folder.join("sheet"), sheet).expect("a sheet");
+    match text {
+        Some(text) => {
+            fs::write(folder.join("text"), text).expect("a text");
+            call(folder, &["sheet", "text"])
+        }
+        None => call(folder, &["sheet"]),
+    }
+}
+
 #[test]
 #[cfg_attr(not(vinzagew_library), ignore = "the static library was not found")]
 fn the_example_reads_numbers_between_slashes() {
-    let folder = build();
-    let read = |sheet: &[u8], text: &[u8]| read(&folder, sheet, text);
+    let folder = build("c-example");
+    let check = |sheet: &[u8]| read(&folder, sheet, None);
+    let read = |sheet: &[u8], text: &[u8]| read(&folder, sheet, Some(text));
     // Sheet D's rules, with N·(S·N)* and with sheet D's own expression.
     let rules = [
         1, 2, 3, 1, 2, 1, 48, 57, 4, 1, 48, 57, 2, 1, 47, 47, 0, 1, 32, 32,
@@ -93,16 +152,38 @@ fn the_example_reads_numbers_between_slashes() {
     let own = [3, 2, 0, 5, 4, 0, 3, 2, 1, 3, 2, 0, 6, 0];
     let sheet_d = [&rules[..], &own].concat();
     for sheet in [&sheet, &sheet_d] {
+        assert_eq!(check(sheet), ("0 0 0".to_owned(), Some(0)));
         assert_eq!(read(sheet, b"12/7"), ("0 4 3".to_owned(), Some(0)));
         assert_eq!(read(sheet, b"12//7"), ("15 3 2".to_owned(), Some(1)));
         assert_eq!(read(sheet, b"12h"), ("14 2 1".to_owned(), Some(1)));
     }
-    assert_eq!(read(&rules, b""), ("3 20 0".to_owned(), Some(1)));
-    assert_eq!(read(&[0; 4_097], b""), ("2 0 0".to_owned(), Some(1)));
+    for (sheet, refusal) in [(&rules[..], "3 20 0"), (&[0; 4_097], "2 0 0")] {
+        assert_eq!(check(sheet), (refusal.to_owned(), Some(1)));
+        assert_eq!(read(sheet, b""), (refusal.to_owned(), Some(1)));
+    }
     let long = vec![b'1'; 1_048_577];
     assert_eq!(read(&sheet, &long), ("12 0 0".to_owned(), Some(1)));
     assert_eq!(
         read(&sheet, &long[1..]),
         ("0 1048576 1".to_owned(), Some(0))
     );
+}
+
+/// The status is 2, and nothing is printed, if a file is missing and if the usage is wrong.
+#[test]
+#[cfg_attr(not(vinzagew_library), ignore = "the static library was not found")]
+fn the_example_says_what_it_cannot_do() {
+    let folder = build("c-example-misused");
+    fs::write(folder.join("sheet"), [1]).expect("a sheet");
+    assert_eq!(call(&folder, &["sheet"]), ("3 1 0".to_owned(), Some(1)));
+    for arguments in [
+        &[][..],
+        &["missing"],
+        &["sheet", "missing"],
+        &["missing", "sheet"],
+        &["sheet", "sheet", "sheet"],
+    ] {
+        let found = call(&folder, arguments);
+        assert_eq!(found, (String::new(), Some(2)), "{arguments:?}");
+    }
 }

@@ -1,4 +1,6 @@
-//! Random comparisons.
+//! Random comparisons: of the library with the reference, and of what both say in different ways.
+//!
+//! No result is written down here; the vectors have some that come from elsewhere.
 //!
 //! `VINZAGEW_SEED` sets the seed and `VINZAGEW_CASES` the number of cases of each test. A failure names
 //! the seed and the case; the same seed gives the same cases. By hand:
@@ -7,241 +9,19 @@
 
 mod common;
 
+use common::calls;
 use common::random::{for_case, seed_and_cases, Random};
-use common::{compile_checked, engines, generate, run_checked, Engine, LIBRARY, REFERENCE};
+use common::{
+    engines, full_check, full_run, full_write, generate, hexadecimal, image_of, pattern, Engine,
+    LIBRARY, REFERENCE,
+};
 use std::collections::BTreeMap;
-use std::fmt;
-use vinzagew::builder::{self, Expression, PartKind};
+use vinzagew::builder::{self, Expression, Part, PartKind};
 use vinzagew::{stack_length, TAIL_LIMIT};
 use vinzagew_reference::image::Image;
-use vinzagew_reference::sheet::{Kind, Node, Sheet};
+use vinzagew_reference::sheet::{Kind, Node, Regex, Sheet};
 use vinzagew_reference::types::least_types;
-use vinzagew_reference::{answer, image_of};
-
-/// A call with all its buffers.
-#[derive(Clone, PartialEq, Eq)]
-enum Call {
-    Compile {
-        sheet: Vec<u8>,
-        work: Vec<u8>,
-        image: Vec<u8>,
-        out: Vec<u64>,
-    },
-    Run {
-        image: Vec<u8>,
-        text: Vec<u8>,
-        stack: Vec<u8>,
-        out: Vec<u64>,
-    },
-}
-
-impl Call {
-    fn make(&mut self, engine: Engine) {
-        match self {
-            Call::Compile {
-                sheet,
-                work,
-                image,
-                out,
-            } => (engine.compile)(sheet, work, image, out),
-            Call::Run {
-                image,
-                text,
-                stack,
-                out,
-            } => (engine.run)(image, text, stack, out),
-        }
-    }
-
-    fn out(&self) -> &[u64] {
-        match self {
-            Call::Compile { out, .. } | Call::Run { out, .. } => out,
-        }
-    }
-}
-
-fn hexadecimal(bytes: &[u8]) -> String {
-    bytes.iter().map(|byte| format!("{byte:02x}")).collect()
-}
-
-impl fmt::Display for Call {
-    fn fmt(&self, formatter: &mut fmt::Formatter) -> fmt::Result {
-        match self {
-            Call::Compile {
-                sheet,
-                work,
-                image,
-                out,
-            } => write!(
-                formatter,
-                "compile sheet {} work length {} image length {} out {out:?}",
-                hexadecimal(sheet),
-                work.len(),
-                image.len()
-            ),
-            Call::Run {
-                image,
-                text,
-                stack,
-                out,
-            } => write!(
-                formatter,
-                "run image {} text {} stack length {} out {out:?}",
-                hexadecimal(image),
-                hexadecimal(text),
-                stack.len()
-            ),
-        }
-    }
-}
-
-fn sheet(random: &mut Random) -> Vec<u8> {
-    match random.below(24) {
-        0..=7 => generate::accepted_sheet(random).to_bytes(),
-        8 => generate::long_tailed_sheet(random).to_bytes(),
-        9..=13 => {
-            let sheet = generate::accepted_sheet(random).to_bytes();
-            generate::damage(random, &sheet)
-        }
-        14..=17 => generate::nearly_accepted_sheet(random).to_bytes(),
-        18 | 19 => generate::untyped_sheet(random).to_bytes(),
-        20 => generate::number_soup(random),
-        21 if random.once_in(2) => generate::crowded_sheet(random),
-        21 => generate::long_expression_sheet(random),
-        22 => {
-            let length = random.below(12);
-            random.bytes(length)
-        }
-        _ => {
-            // Around the limit, with leftover bytes.
-            let mut sheet = generate::accepted_sheet(random).to_bytes();
-            let length = random.range(4_094, 4_098);
-            sheet.resize(length, random.next() as u8);
-            sheet
-        }
-    }
-}
-
-/// A buffer with random content, which repeats in most long ones.
-fn buffer(random: &mut Random, length: usize) -> Vec<u8> {
-    if length < 256 || random.once_in(64) {
-        return random.bytes(length);
-    }
-    let pattern = random.bytes(31);
-    pattern.iter().copied().cycle().take(length).collect()
-}
-
-fn out(random: &mut Random) -> Vec<u64> {
-    let length = match random.below(16) {
-        0 => random.below(3),
-        1 => random.range(4, 6),
-        _ => 3,
-    };
-    (0..length).map(|_| random.next()).collect()
-}
-
-fn compile_call(random: &mut Random) -> Call {
-    let sheet = sheet(random);
-    let work_length = match random.below(24) {
-        0 => random.below(4),
-        1 => random.below(65_536),
-        2 => 65_535,
-        3 => 65_537,
-        4 => 65_536 + random.below(100),
-        _ => 65_536,
-    };
-    let needed = image_of(&sheet).map_or(0, |image| image.to_bytes().len());
-    let image_length = match random.below(12) {
-        0 => needed.saturating_sub(1),
-        1 => random.below(needed + 1),
-        2 => 0,
-        3 => 65_536,
-        4 | 5 => needed,
-        _ => needed + random.below(20),
-    };
-    Call::Compile {
-        work: buffer(random, work_length),
-        image: buffer(random, image_length),
-        out: out(random),
-        sheet,
-    }
-}
-
-/// The shortest stack that does not lead to 17.
-fn least_stack(image: &[u8], text: &[u8]) -> usize {
-    let enough = |length| {
-        let mut out = [0; 3];
-        (REFERENCE.run)(image, text, &mut vec![0; length], &mut out);
-        out[0] != 17
-    };
-    let (mut low, mut high) = (0, stack_length(text.len()));
-    while low < high {
-        let middle = (low + high) / 2;
-        if enough(middle) {
-            high = middle;
-        } else {
-            low = middle + 1;
-        }
-    }
-    low
-}
-
-/// A text around the limit, on a stack that is long enough for sheet D's image or nearly so.
-fn long_call(random: &mut Random) -> Call {
-    let image = [
-        1, 3, 0, 0, 1, 4, 48, 57, 0, 1, 2, 48, 57, 0, 1, 2, 47, 47, 1, 1, 0, 32, 32, 2, 1, 0, 13,
-        4, 0, 1, 0, 1, 1, 1, 1, 1, 1, 2, 0, 1, 0, 1, 3, 1, 1, 1, 1, 2,
-    ];
-    let length = random.range(1_048_574, 1_048_577);
-    let piece = *random.pick(&[&b"7"[..], b"12 /", b"7/"]);
-    let entries = random.below(4);
-    Call::Run {
-        image: image.to_vec(),
-        text: piece.iter().copied().cycle().take(length).collect(),
-        stack: buffer(random, entries),
-        out: out(random),
-    }
-}
-
-fn run_call(random: &mut Random) -> Call {
-    if random.once_in(150) {
-        return long_call(random);
-    }
-    let image = match random.below(12) {
-        0..=3 => generate::readable_image(random),
-        4 => image_of(generate::long_tailed_sheet(random).as_bytes()).expect("accepted"),
-        _ => image_of(generate::accepted_sheet(random).as_bytes()).expect("accepted"),
-    };
-    let text = generate::text(random, &image);
-    let image = match random.below(6) {
-        0 => generate::damage(random, &image.to_bytes()),
-        1 => generate::damage_field(random, &image),
-        2 if random.once_in(2) => generate::stretch_tail(random, &image).to_bytes(),
-        _ => image.to_bytes(),
-    };
-    let entries = match random.below(8) {
-        0 => random.below(12),
-        1..=3 => {
-            let least = least_stack(&image, &text);
-            (least + random.below(3)).saturating_sub(1)
-        }
-        _ => stack_length(text.len()),
-    };
-    Call::Run {
-        stack: buffer(random, entries),
-        out: out(random),
-        image,
-        text,
-    }
-}
-
-fn call(random: &mut Random) -> Call {
-    if random.once_in(2) {
-        compile_call(random)
-    } else {
-        run_call(random)
-    }
-}
+use vinzagew_reference::{answer, Refusal};
 
 /// The generators are of use only if every answer comes up.
 #[test]
@@ -249,40 +29,40 @@ fn every_number_comes_up() {
     let mut tally = BTreeMap::new();
     let (seed, cases) = seed_and_cases(6_000);
     for case in 0..cases {
-        let mut call = call(&mut for_case(seed, case));
+        let mut call = calls::call(&mut for_case(seed, case));
         call.make(REFERENCE);
         if let [number, _, _, ..] = *call.out() {
-            let kind = match call {
-                Call::Compile { .. } => "compile",
-                Call::Run { .. } => "run",
-            };
-            *tally.entry((kind, number)).or_insert(0) += 1;
+            *tally.entry((call.kind(), number)).or_insert(0) += 1;
         }
     }
     println!("seed {seed}, {cases} cases: {tally:?}");
-    if cases < 6_000 {
-        return;
-    }
-    for number in 0..=11 {
-        assert!(tally.contains_key(&("compile", number)), "compile {number}");
-    }
-    for number in [0, 12, 13, 14, 15, 16, 17] {
-        assert!(tally.contains_key(&("run", number)), "run {number}");
-    }
+    let checks = (0..=10).map(|number| ("check", number));
+    let writes = (0..=11).map(|number| ("write", number));
+    let runs = [0, 12, 13, 14, 15, 16, 17].map(|number| ("run", number));
+    let expected: Vec<(&str, u64)> = checks.chain(writes).chain(runs).collect();
+    let missing: Vec<&(&str, u64)> = expected
+        .iter()
+        .filter(|answer| !tally.contains_key(*answer))
+        .collect();
+    assert!(cases < 6_000 || missing.is_empty(), "{missing:?}");
+    assert!(tally.keys().all(|answer| expected.contains(answer)));
 }
 
-/// Every sheet that is made to be accepted is accepted.
+/// Every sheet that is made to pass passes.
 #[test]
-fn typed_sheets_are_accepted() {
+fn typed_sheets_pass() {
     let (seed, cases) = seed_and_cases(2_000);
     let (mut nodes, mut rows, mut members) = (0, 0, 0);
     for case in 0..cases {
-        let sheet = generate::accepted_sheet(&mut for_case(seed, case));
+        let sheet = generate::passing_sheet(&mut for_case(seed, case));
         let image = image_of(sheet.as_bytes()).unwrap_or_else(|refusal| {
             let part = sheet.locate(refusal.place);
             panic!("seed {seed}, case {case}: {refusal:?}: {part}");
         });
-        let own_nodes = Sheet::read(sheet.as_bytes()).expect("accepted").nodes.len();
+        let own_nodes = Sheet::read(sheet.as_bytes())
+            .expect("it passes")
+            .nodes
+            .len();
         nodes += own_nodes;
         // The nonterminals are the start, right parts and repetitions: twice as many are at most one more
         // than the nodes.
@@ -295,6 +75,71 @@ fn typed_sheets_are_accepted() {
         members += productions.map(|(_, tail)| tail.len()).sum::<usize>();
     }
     println!("seed {seed}, {cases} sheets: {nodes} nodes, {rows} rows, {members} tail members");
+}
+
+/// How many nodes and classes a regex has, and how many nodes stand on the longest way down.
+fn regex_sizes(regex: &Regex) -> [usize; 3] {
+    let (one, other) = match regex {
+        Regex::Empty => return [1, 0, 1],
+        Regex::Class { .. } => return [1, 1, 1],
+        Regex::Sequence(left, right) | Regex::Alternative(left, right) => {
+            (regex_sizes(left), regex_sizes(right))
+        }
+        Regex::Star(part) => (regex_sizes(part), [0; 3]),
+    };
+    [
+        1 + one[0] + other[0],
+        one[1] + other[1],
+        1 + one[2].max(other[2]),
+    ]
+}
+
+/// Every large sheet passes and has as many regex nodes as can be; many have all classes and all nodes,
+/// and their rules are deep and flat.
+#[test]
+fn large_sheets_pass_and_are_large() {
+    let (seed, cases) = seed_and_cases(2_000);
+    let mut tally = BTreeMap::new();
+    for case in 0..cases {
+        let sheet = generate::large_sheet(&mut for_case(seed, case));
+        let parts = vinzagew_reference::check(sheet.as_bytes(), &mut vec![0; 65_536])
+            .unwrap_or_else(|refusal| panic!("seed {seed}, case {case}: {refusal:?}"));
+        let sizes: Vec<[usize; 3]> = parts
+            .rules
+            .iter()
+            .map(|rule| regex_sizes(&rule.regex))
+            .collect();
+        let sum = |which: usize| sizes.iter().map(|sizes| sizes[which]).sum::<usize>();
+        assert_eq!(sum(0), 256, "seed {seed}, case {case}: regex nodes");
+        let depth = sizes.iter().map(|sizes| sizes[2]).max();
+        let kinds = [
+            ("64 classes", sum(1) == 64),
+            ("depth 190 or more", depth >= Some(190)),
+            ("depth 8 or less", depth <= Some(8)),
+            ("32 rules", sizes.len() == 32),
+            ("64 expression nodes", parts.nodes.len() == 64),
+        ];
+        for (kind, holds) in kinds {
+            *tally.entry(kind).or_insert(0) += usize::from(holds);
+        }
+    }
+    println!("seed {seed}, {cases} sheets: {tally:?}");
+    let often = tally.values().all(|&count| count >= cases / 100);
+    assert!(cases < 2_000 || often, "{tally:?}");
+}
+
+/// A sheet of many classes passes, has the empty word or breaks a limit; each comes up.
+#[test]
+fn crowded_sheets_come_both_ways() {
+    let (seed, cases) = seed_and_cases(2_000);
+    let mut tally = BTreeMap::new();
+    for case in 0..cases {
+        let sheet = generate::crowded_sheet(&mut for_case(seed, case));
+        let [number, _] = full_check(REFERENCE, &sheet, 65_536);
+        *tally.entry(number).or_insert(0) += 1;
+    }
+    println!("seed {seed}, {cases} cases: {tally:?}");
+    assert!(cases < 2_000 || tally.keys().eq(&[0, 5, 7]), "{tally:?}");
 }
 
 /// The node after the last one of an expression.
@@ -326,7 +171,7 @@ fn repetition_kinds(nodes: &[Node], repetition: usize, part: usize) -> Vec<&'sta
     held.map(|(kind, _)| *kind).collect()
 }
 
-/// Repetitions come up in many places of accepted sheets, and the longest tail does.
+/// Repetitions come up in many places of sheets that pass, and the longest tail does.
 #[test]
 fn repetitions_come_up() {
     let (seed, cases) = seed_and_cases(2_000);
@@ -335,16 +180,16 @@ fn repetitions_come_up() {
         let random = &mut for_case(seed, case);
         let sheet = match random.below(8) {
             0 => generate::long_tailed_sheet(random),
-            _ => generate::accepted_sheet(random),
+            _ => generate::passing_sheet(random),
         };
-        let nodes = Sheet::read(sheet.as_bytes()).expect("accepted").nodes;
+        let nodes = Sheet::read(sheet.as_bytes()).expect("it passes").nodes;
         let mut found: Vec<&str> = (0..nodes.len())
             .flat_map(|node| match nodes[node].kind {
                 Kind::Repetition(part) => repetition_kinds(&nodes, node, part),
                 _ => Vec::new(),
             })
             .collect();
-        let image = image_of(sheet.as_bytes()).expect("accepted");
+        let image = image_of(sheet.as_bytes()).expect("it passes");
         let mut productions = image.rows.iter().flat_map(|row| &row.productions);
         if productions.any(|(_, tail)| tail.len() == TAIL_LIMIT) {
             found.push("longest tail");
@@ -357,47 +202,65 @@ fn repetitions_come_up() {
     assert!(cases < 2_000 || tally.len() == 6, "{tally:?}");
 }
 
-/// The place of a refusal leads back to a part of the kind that the question is about.
+/// Whether a part is at the place of a refusal and of the kind that the question is about.
+fn leads_back(part: &Part, refusal: Refusal) -> bool {
+    let expression = match part.kind {
+        PartKind::Expression { expression, .. } => Some(expression),
+        _ => None,
+    };
+    let right = match refusal.number {
+        4 => matches!(part.kind, PartKind::RuleCount),
+        5 => matches!(part.kind, PartKind::Regex { .. }) || expression.is_some(),
+        7 => matches!(part.kind, PartKind::Action { .. }),
+        8 => matches!(expression, Some(Expression::Variable(_))),
+        9 => matches!(
+            expression,
+            Some(Expression::Sequence(..) | Expression::Repetition(_))
+        ),
+        10 => matches!(expression, Some(Expression::Alternative(..))),
+        _ => false,
+    };
+    right && part.place == refusal.place
+}
+
+/// Every refusal leads back to its part, that of 5 to a regex or an expression.
 #[test]
 fn refusals_lead_back_to_their_parts() {
     let (seed, cases) = seed_and_cases(2_000);
     let mut tally = BTreeMap::new();
     for case in 0..cases {
         let random = &mut for_case(seed, case);
-        let sheet = if random.once_in(2) {
-            generate::untyped_sheet(random)
-        } else {
-            generate::nearly_accepted_sheet(random)
+        let sheet = match random.below(5) {
+            0 => generate::overfull_sheet(random),
+            1 | 2 => generate::untyped_sheet(random),
+            _ => generate::nearly_passing_sheet(random),
         };
         let refusal = match image_of(sheet.as_bytes()) {
             Err(refusal) => refusal,
             Ok(_) => continue,
         };
         let part = sheet.locate(refusal.place);
-        assert_eq!(part.place, refusal.place);
-        let expression = match part.kind {
-            PartKind::Expression { expression, .. } => Some(expression),
-            _ => None,
-        };
-        let right = match refusal.number {
-            4 => matches!(part.kind, PartKind::RuleCount),
-            5 => matches!(part.kind, PartKind::Regex { .. }) || expression.is_some(),
-            7 => matches!(part.kind, PartKind::Action { .. }),
-            8 => matches!(expression, Some(Expression::Variable(_))),
-            9 => matches!(
-                expression,
-                Some(Expression::Sequence(..) | Expression::Repetition(_))
-            ),
-            10 => matches!(expression, Some(Expression::Alternative(..))),
-            _ => false,
-        };
-        assert!(right, "seed {seed}, case {case}: {refusal:?}: {part}");
-        *tally.entry(refusal.number).or_insert(0) += 1;
+        assert!(
+            leads_back(&part, refusal),
+            "seed {seed}, case {case}: {refusal:?}: {part}"
+        );
+        let of_regex = matches!(part.kind, PartKind::Regex { .. });
+        *tally.entry((refusal.number, of_regex)).or_insert(0) += 1;
     }
     println!("seed {seed}, {cases} cases: {tally:?}");
+    let mut expected = vec![(5, true)];
+    expected.extend([4, 5, 7, 8, 9, 10].map(|number| (number, false)));
+    let all_came_up = expected.iter().all(|key| tally.contains_key(key));
+    assert!(cases < 2_000 || all_came_up, "{tally:?}");
 }
 
-/// Running the image that compiling made gives the sheet's own answer.
+/// The sheet's own answer: number, place and count.
+fn own_answer(sheet: &[u8], text: &[u8]) -> [u64; 3] {
+    let own = answer(&Sheet::read(sheet).expect("readable"), text);
+    [own.number, own.place as u64, own.tokens as u64]
+}
+
+/// Running the image that writing made gives the sheet's own answer.
 #[test]
 fn runs_give_the_sheets_own_answer() {
     let (seed, cases) = seed_and_cases(2_000);
@@ -407,41 +270,43 @@ fn runs_give_the_sheets_own_answer() {
         let sheet = if random.once_in(3) {
             generate::untyped_sheet(random)
         } else {
-            generate::accepted_sheet(random)
+            generate::passing_sheet(random)
         };
         let sheet = sheet.as_bytes();
         for engine in engines() {
-            let (compiled, image) = compile_checked(engine, sheet, 65_536, 65_536);
-            if compiled[0] != 0 {
+            let (written, image) = full_write(engine, sheet, 65_536, 65_536);
+            if written[0] != 0 {
                 continue;
             }
-            let parts = Image::read(&image).expect("compiled");
+            let parts = Image::read(&image).expect("written");
             for _ in 0..4 {
                 let mut text = generate::text(random, &parts);
                 text.truncate(40);
-                let ran = run_checked(engine, &image, &text, stack_length(text.len()));
-                let own = answer(&Sheet::read(sheet).expect("compiled"), &text);
+                let own = own_answer(sheet, &text);
                 assert_eq!(
-                    ran,
-                    [own.number, own.place as u64, own.tokens as u64],
+                    full_run(engine, &image, &text, stack_length(text.len())),
+                    own,
                     "seed {seed}, case {case}, {}: sheet {} text {}",
                     engine.name,
                     hexadecimal(sheet),
                     hexadecimal(&text)
                 );
-                *tally.entry(own.number).or_insert(0) += 1;
+                *tally.entry((engine.name, own[0])).or_insert(0) += 1;
             }
         }
     }
     println!("seed {seed}, {cases} cases: {tally:?}");
+    // For each engine 0, 14, 15 and 16.
+    let every_number = 4 * engines().len();
+    assert!(cases < 2_000 || tally.len() == every_number, "{tally:?}");
 }
 
 /// A sheet, and the same with its repetitions spelled out as fixed points, if it has some and both keep
 /// the limits: a repetition that is spelled out has four nodes more.
 fn two_spellings(random: &mut Random) -> Option<[builder::Sheet; 2]> {
     let sheet = match random.below(4) {
-        0 | 1 => generate::accepted_sheet(random),
-        2 => generate::nearly_accepted_sheet(random),
+        0 | 1 => generate::passing_sheet(random),
+        2 => generate::nearly_passing_sheet(random),
         _ => generate::untyped_sheet(random),
     };
     let spelled_out = generate::spelled_out_sheet(&sheet);
@@ -450,7 +315,7 @@ fn two_spellings(random: &mut Random) -> Option<[builder::Sheet; 2]> {
     (differ && readable(&sheet) && readable(&spelled_out)).then_some([sheet, spelled_out])
 }
 
-/// Both sheets are accepted, or both are refused with the same number, which is given. A repetition of a
+/// Both sheets pass, or both are refused with the same number, which is given. A repetition of a
 /// nullable part is the one exception: its fixed point meets 10 at the alternative, before 9.
 fn same_verdict([sheet, spelled_out]: &[builder::Sheet; 2], context: &str) -> u64 {
     let nodes_of = |sheet: &builder::Sheet| Sheet::read(sheet.as_bytes()).expect("readable").nodes;
@@ -469,13 +334,10 @@ fn same_verdict([sheet, spelled_out]: &[builder::Sheet; 2], context: &str) -> u6
     };
     let mut verdict = 0;
     for engine in engines() {
-        let compile = |sheet: &builder::Sheet| {
-            let ([number, place, _], _) = compile_checked(engine, sheet.as_bytes(), 65_536, 65_536);
-            (number, place as usize)
-        };
-        let (number, place) = compile(sheet);
-        let (other, _) = compile(spelled_out);
-        let excepted = number == 9 && repeats_nullable(place);
+        let check = |sheet: &builder::Sheet| full_check(engine, sheet.as_bytes(), 65_536);
+        let [number, place] = check(sheet);
+        let [other, _] = check(spelled_out);
+        let excepted = number == 9 && repeats_nullable(place as usize);
         let expected = if excepted { 10 } else { number };
         assert_eq!(other, expected, "{context}: {}", engine.name);
         verdict = number;
@@ -488,12 +350,11 @@ fn same_answers(sheets: &[builder::Sheet; 2], text: &[u8], context: &str) {
     let mut answers = Vec::new();
     for sheet in sheets {
         let sheet = sheet.as_bytes();
-        let own = answer(&Sheet::read(sheet).expect("readable"), text);
-        answers.push([own.number, own.place as u64, own.tokens as u64]);
+        answers.push(own_answer(sheet, text));
         for engine in engines() {
-            let (compiled, image) = compile_checked(engine, sheet, 65_536, 65_536);
-            if compiled[0] == 0 {
-                answers.push(run_checked(engine, &image, text, stack_length(text.len())));
+            let (written, image) = full_write(engine, sheet, 65_536, 65_536);
+            if written[0] == 0 {
+                answers.push(full_run(engine, &image, text, stack_length(text.len())));
             }
         }
     }
@@ -538,13 +399,122 @@ fn repetitions_are_like_their_fixed_points() {
     assert!(cases < 2_000 || tally.len() == 5, "{tally:?}");
 }
 
+/// Whatever its length, an image buffer changes nothing for a sheet that is refused.
+fn refused_by_both(engine: Engine, sheet: &[u8], work: usize, verdict: [u64; 2], context: &str) {
+    let [number, place] = verdict;
+    for room in [0, 1, 300, 65_536] {
+        let (written, image) = full_write(engine, sheet, work, room);
+        assert_eq!(written, [number, place, 0], "{context}");
+        assert!(image.is_empty(), "{context}");
+    }
+}
+
+/// A sheet that passes is written from its image's own length on, and with less it is 11.
+fn written_from_own_length_on(
+    engine: Engine,
+    sheet: &[u8],
+    work: usize,
+    more: usize,
+    context: &str,
+) {
+    let (written, image) = full_write(engine, sheet, work, 65_536);
+    let length = image.len();
+    let accepted = [0, 0, length as u64];
+    assert_eq!(written, accepted, "{context}");
+    for room in [length, length + 1, length + more, 70_000] {
+        let found = full_write(engine, sheet, work, room);
+        assert!(found == (accepted, image.clone()), "{context}, room {room}");
+    }
+    for room in [length - 1, more % length, 0] {
+        let (written, image) = full_write(engine, sheet, work, room);
+        assert_eq!(written, [11, 0, length as u64], "{context}, room {room}");
+        assert!(image.is_empty(), "{context}, room {room}");
+    }
+}
+
+/// A sheet passes checking exactly if some image buffer is long enough for writing it, whatever the
+/// length of the work area; otherwise both say the same.
+#[test]
+fn a_sheet_passes_exactly_if_it_can_be_written() {
+    let (seed, cases) = seed_and_cases(2_000);
+    let mut tally = BTreeMap::new();
+    for case in 0..cases {
+        let random = &mut for_case(seed, case);
+        let sheet = calls::sheet(random);
+        let work = calls::work_length(random);
+        let more = random.range(2, 400);
+        for engine in engines() {
+            let context = format!(
+                "seed {seed}, case {case}, {}: sheet {} work length {work}",
+                engine.name,
+                hexadecimal(&sheet)
+            );
+            let verdict = full_check(engine, &sheet, work);
+            match verdict[0] {
+                0 => written_from_own_length_on(engine, &sheet, work, more, &context),
+                _ => refused_by_both(engine, &sheet, work, verdict, &context),
+            }
+            assert_eq!(verdict[0] == 1, work < 65_536, "{context}");
+            *tally.entry((engine.name, verdict[0])).or_insert(0) += 1;
+        }
+    }
+    println!("seed {seed}, {cases} cases: {tally:?}");
+    let every_number = 11 * engines().len();
+    assert!(cases < 2_000 || tally.len() == every_number, "{tally:?}");
+}
+
+/// Writes and then checks a sheet with a work area that earlier calls left. All results must be those of
+/// the reference with fresh buffers, and each time the first 65,536 bytes of the work area must end as
+/// zero, and the rest as they were.
+fn as_if_it_came_first(engine: Engine, sheet: &[u8], work: &mut [u8], room: usize, context: &str) {
+    let rest = work[65_536..].to_vec();
+    let as_promised =
+        |work: &[u8]| work[..65_536].iter().all(|&byte| byte == 0) && work[65_536..] == rest;
+    let mut out = [7; 3];
+
+    let (written, image) = full_write(REFERENCE, sheet, 65_536, room);
+    let mut found = pattern(room);
+    (engine.write)(sheet, work, &mut found, &mut out);
+    assert_eq!(out, written, "{context}");
+    assert_eq!(found[..image.len()], image, "{context}");
+    let rest_of_buffer = &pattern(room)[image.len()..];
+    assert_eq!(found[image.len()..], *rest_of_buffer, "{context}");
+    assert!(as_promised(work), "{context}: work after writing");
+
+    let [number, place] = full_check(REFERENCE, sheet, 65_536);
+    (engine.check)(sheet, work, &mut out);
+    assert_eq!(out, [number, place, 0], "{context}");
+    assert!(as_promised(work), "{context}: work after checking");
+}
+
+/// After any check and any write, with the same work area, a sheet is judged as if it came first.
+#[test]
+fn no_call_trusts_an_earlier_one() {
+    let (seed, cases) = seed_and_cases(1_000);
+    for case in 0..cases {
+        let random = &mut for_case(seed, case);
+        let sheets = [(); 4].map(|()| calls::sheet(random));
+        let room = match random.below(2) {
+            0 => random.below(400),
+            _ => random.below(4_000),
+        };
+        for engine in engines() {
+            let context = format!("seed {seed}, case {case}, {}", engine.name);
+            let mut work = pattern(65_600);
+            for sheet in &sheets {
+                as_if_it_came_first(engine, sheet, &mut work, room, &context);
+            }
+        }
+    }
+}
+
 /// The library and the reference agree on all results and all buffers.
 #[test]
 #[cfg_attr(not(vinzagew_library), ignore = "the static library was not found")]
 fn library_and_reference_agree() {
     let (seed, cases) = seed_and_cases(20_000);
     for case in 0..cases {
-        let before = call(&mut for_case(seed, case));
+        let before = calls::call(&mut for_case(seed, case));
         let mut expected = before.clone();
         expected.make(REFERENCE);
         let mut found = before.clone();
@@ -552,16 +522,9 @@ fn library_and_reference_agree() {
         if found != expected {
             panic!(
                 "seed {seed}, case {case}:\nbefore: {before}\nlibrary: {found}\nreference: {expected}\nbuffers equal: {}",
-                buffers(&found) == buffers(&expected)
+                found.buffers() == expected.buffers()
             );
         }
     }
     println!("seed {seed}, {cases} cases agree");
-}
-
-fn buffers(call: &Call) -> [&[u8]; 2] {
-    match call {
-        Call::Compile { work, image, .. } => [work, image],
-        Call::Run { stack, image, .. } => [stack, image],
-    }
 }

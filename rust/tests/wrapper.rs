@@ -1,12 +1,15 @@
-//! The wrapper, the builder together with the compiler, and the limits.
+//! The wrapper, the builder together with checking and writing, and the limits.
+//!
+//! A few sheets with results that are written down; the many sheets are those of the vectors and of the
+//! random comparisons. Without the library, what needs no wrapper is still tested on the reference.
 
 mod common;
 
-use common::{compile_checked, engines, run_checked, FILL};
+use common::{engines, full_check, full_run, full_write, pattern, short_out_changes_nothing};
 use vinzagew::builder::{Expression, PartKind, Regex, Sheet, SheetBuilder, Token};
 #[cfg(vinzagew_library)]
-use vinzagew::{compile, compile_into, run_with, Image};
-use vinzagew::{stack_length, Refusal};
+use vinzagew::{check, check_with, run_with, write, write_into, Image, Refusal};
+use vinzagew::{stack_length, CheckRefusal};
 use vinzagew_reference::image::Image as Parts;
 
 fn builder() -> SheetBuilder {
@@ -133,10 +136,10 @@ fn variables_count_past_repetitions() {
     assert_eq!(words(31), "expression node 8: (x0)*");
     assert_eq!(words(33), "number of expression node 9: x0");
     for engine in engines() {
-        let (compiled, image) = compile_checked(engine, sheet.as_bytes(), 65_536, 65_536);
-        assert_eq!(compiled[0], 0);
+        let (written, image) = full_write(engine, sheet.as_bytes(), 65_536, 65_536);
+        assert_eq!(written[0], 0);
         let room = stack_length(10);
-        assert_eq!(run_checked(engine, &image, b"1 1/1 1///", room), [0, 10, 8]);
+        assert_eq!(full_run(engine, &image, b"1 1/1 1///", room), [0, 10, 8]);
     }
 
     let (outer, inner) = (Expression::variable("outer"), Expression::variable("inner"));
@@ -150,12 +153,10 @@ fn a_refused_repetition_is_named() {
     let (number, slash) = tokens();
     let sheet = builder().finish(number.then(slash.star().star())).unwrap();
     for engine in engines() {
-        let ([number, place, _], _) = compile_checked(engine, sheet.as_bytes(), 65_536, 0);
-        let refusal = Refusal {
+        let [number, place] = full_check(engine, sheet.as_bytes(), 65_536);
+        let refusal = CheckRefusal {
             number,
             place: place as usize,
-            needed: 0,
-            tokens: 0,
         };
         assert_eq!(
             refusal.to_string(),
@@ -184,8 +185,7 @@ fn places_count_bytes() {
     builder.rule(token, Regex::class(200, 255));
     let sheet = builder.finish(token.or(token)).unwrap();
     for engine in engines() {
-        let ([number, place, _], _) = compile_checked(engine, sheet.as_bytes(), 65_536, 0);
-        assert_eq!((number, place), (10, 9));
+        assert_eq!(full_check(engine, sheet.as_bytes(), 65_536), [10, 9]);
     }
     assert_eq!(
         sheet.locate(9).to_string(),
@@ -197,22 +197,28 @@ fn places_count_bytes() {
 fn limits() {
     let sheet = sheet_d();
     for engine in engines() {
-        let compile = |work, image| compile_checked(engine, sheet.as_bytes(), work, image).0;
-        assert_eq!(compile(65_535, 48), [1, 0, 0]);
-        assert_eq!(compile(65_536, 47), [11, 0, 48]);
-        assert_eq!(compile(65_537, 48), [0, 0, 48]);
-        assert_eq!(compile_checked(engine, &[1; 4_097], 65_536, 0).0, [2, 0, 0]);
+        let check = |work| full_check(engine, sheet.as_bytes(), work);
+        assert_eq!(check(0), [1, 0]);
+        assert_eq!(check(65_535), [1, 0]);
+        assert_eq!(check(65_536), [0, 0]);
+        assert_eq!(check(65_537), [0, 0]);
+        assert_eq!(full_check(engine, &[1; 4_097], 65_535), [1, 0]);
+        assert_eq!(full_check(engine, &[1; 4_097], 65_536), [2, 0]);
+        assert_eq!(full_check(engine, &[1; 4_096], 65_536), [6, 8]);
 
-        let (_, image) = compile_checked(engine, sheet.as_bytes(), 65_536, 65_536);
+        let write = |work, image| full_write(engine, sheet.as_bytes(), work, image).0;
+        assert_eq!(write(65_535, 48), [1, 0, 0]);
+        assert_eq!(write(65_536, 47), [11, 0, 48]);
+        assert_eq!(write(65_537, 48), [0, 0, 48]);
+        assert_eq!(full_write(engine, &[1; 4_097], 65_536, 0).0, [2, 0, 0]);
+
+        let (_, image) = full_write(engine, sheet.as_bytes(), 65_536, 65_536);
         let long = vec![b'7'; 1_048_577];
-        assert_eq!(run_checked(engine, &image, &long, 5), [12, 0, 0]);
-        assert_eq!(run_checked(engine, &[], &long, 5), [12, 0, 0]);
-        assert_eq!(
-            run_checked(engine, &image, &long[1..], 2),
-            [0, 1_048_576, 1]
-        );
-        assert_eq!(run_checked(engine, &image, b"", 0), [17, 0, 0]);
-        assert_eq!(run_checked(engine, &image, b"h", 0), [17, 0, 0]);
+        assert_eq!(full_run(engine, &image, &long, 5), [12, 0, 0]);
+        assert_eq!(full_run(engine, &[], &long, 5), [12, 0, 0]);
+        assert_eq!(full_run(engine, &image, &long[1..], 2), [0, 1_048_576, 1]);
+        assert_eq!(full_run(engine, &image, b"", 0), [17, 0, 0]);
+        assert_eq!(full_run(engine, &image, b"h", 0), [17, 0, 0]);
     }
 }
 
@@ -226,16 +232,16 @@ fn the_longest_tail_is_reached() {
     let row = (0..31).fold(Expression::token(a), |row, _| row.then(a));
     let sheet = builder.finish(row.star()).unwrap();
     for engine in engines() {
-        let (compiled, bytes) = compile_checked(engine, sheet.as_bytes(), 65_536, 65_536);
-        assert_eq!(compiled[0], 0);
+        let (written, bytes) = full_write(engine, sheet.as_bytes(), 65_536, 65_536);
+        assert_eq!(written[0], 0);
         let image = Parts::read(&bytes).unwrap();
         // The right parts from the innermost on, then the repetition itself, which is the start.
         let tail: Vec<usize> = (1..=31).chain([0]).collect();
         assert_eq!(image.rows[0].productions, [(0, tail)]);
         assert_eq!(stack_length(1), 32);
-        assert_eq!(run_checked(engine, &bytes, b"a", 32), [16, 1, 1]);
-        assert_eq!(run_checked(engine, &bytes, b"a", 31), [17, 0, 0]);
-        assert_eq!(run_checked(engine, &bytes, &[b'a'; 64], 32), [0, 64, 64]);
+        assert_eq!(full_run(engine, &bytes, b"a", 32), [16, 1, 1]);
+        assert_eq!(full_run(engine, &bytes, b"a", 31), [17, 0, 0]);
+        assert_eq!(full_run(engine, &bytes, &[b'a'; 64], 32), [0, 64, 64]);
     }
 }
 
@@ -249,7 +255,7 @@ fn tails_of_images_run_to_32() {
         image
     };
     for engine in engines() {
-        let run = |length, room| run_checked(engine, &image(length), b"aaa", room);
+        let run = |length, room| full_run(engine, &image(length), b"aaa", room);
         assert_eq!(run(31, 1 + 30 * 3), [0, 3, 3]);
         assert_eq!(run(32, 1 + 31 * 3), [0, 3, 3]);
         assert_eq!(run(32, 31 * 3), [17, 2, 2]);
@@ -263,53 +269,160 @@ fn tails_of_images_run_to_32() {
 fn a_short_out_changes_nothing() {
     let sheet = sheet_d();
     for engine in engines() {
-        let (_, compiled) = compile_checked(engine, sheet.as_bytes(), 65_536, 65_536);
+        short_out_changes_nothing(engine, sheet.as_bytes(), 65_536, 65_536);
+        let (_, image) = full_write(engine, sheet.as_bytes(), 65_536, 65_536);
         for length in 0..3 {
             let mut out = vec![7; length];
-            let mut work = vec![FILL; 65_536];
-            let mut image = vec![FILL; 65_536];
-            (engine.compile)(sheet.as_bytes(), &mut work, &mut image, &mut out);
-            let mut stack = vec![FILL; 100];
-            (engine.run)(&compiled, b"12", &mut stack, &mut out);
-            assert!(work.iter().all(|&byte| byte == FILL));
-            assert!(image.iter().all(|&byte| byte == FILL));
-            assert!(stack.iter().all(|&byte| byte == FILL));
+            let mut stack = pattern(100);
+            (engine.run)(&image, b"12", &mut stack, &mut out);
+            assert_eq!(stack, pattern(100));
             assert_eq!(out, vec![7; length]);
         }
     }
 }
 
+/// A good sheet is checked, then a bad one is written with the same work area, and the other way round.
+#[test]
+fn writing_does_not_trust_an_earlier_check() {
+    let (number, _) = tokens();
+    let good = sheet_d();
+    let bad = builder().finish(number.or(number)).unwrap();
+    for engine in engines() {
+        let mut work = pattern(65_540);
+        let mut image = pattern(50);
+        let mut out = [7; 3];
+        (engine.check)(good.as_bytes(), &mut work, &mut out);
+        assert_eq!(out, [0, 0, 0]);
+        (engine.write)(bad.as_bytes(), &mut work, &mut image, &mut out);
+        assert_eq!(out, [10, 20, 0]);
+        assert_eq!(image, pattern(50));
+        (engine.check)(bad.as_bytes(), &mut work, &mut out);
+        assert_eq!(out, [10, 20, 0]);
+        (engine.write)(good.as_bytes(), &mut work, &mut image, &mut out);
+        assert_eq!(out, [0, 0, 48]);
+        let (_, expected) = full_write(engine, good.as_bytes(), 65_536, 48);
+        assert_eq!(image[..48], expected);
+        assert_eq!(image[48..], pattern(50)[48..]);
+        assert!(work[..65_536].iter().all(|&byte| byte == 0));
+        assert_eq!(work[65_536..], pattern(65_540)[65_536..]);
+    }
+}
+
 #[cfg(vinzagew_library)]
 #[test]
-fn the_wrapper_compiles_and_runs() {
+fn the_wrapper_checks() {
     let sheet = sheet_d();
-    let image = compile(sheet.as_bytes()).unwrap();
+    assert_eq!(check(sheet.as_bytes()), Ok(()));
+    let mut work = pattern(65_537);
+    assert_eq!(check_with(sheet.as_bytes(), &mut work), Ok(()));
+    assert!(work[..65_536].iter().all(|&byte| byte == 0));
+    assert_eq!(work[65_536..], pattern(65_537)[65_536..]);
+
+    let cut = &sheet.as_bytes()[..30];
+    let refusal = CheckRefusal {
+        number: 3,
+        place: 30,
+    };
+    assert_eq!(check(cut), Err(refusal));
+    assert_eq!(check_with(cut, &mut work), Err(refusal));
+    assert_eq!(write(cut), Err(refusal.into()));
+}
+
+#[cfg(vinzagew_library)]
+#[test]
+fn the_wrapper_writes_and_runs() {
+    let sheet = sheet_d();
+    let image = write(sheet.as_bytes()).unwrap();
     assert_eq!(image.as_bytes().len(), 48);
     assert_eq!(image.run(b"12 /7"), Ok(3));
     let refusal = image.run(b"12h").unwrap_err();
     assert_eq!((refusal.number, refusal.place, refusal.tokens), (14, 2, 1));
     assert_eq!(image.run(&vec![b'1'; 1_048_577]).unwrap_err().number, 12);
 
-    let mut buffer = [FILL; 50];
-    let written = compile_into(sheet.as_bytes(), &mut vec![FILL; 65_536], &mut buffer).unwrap();
+    let mut work = pattern(65_536);
+    let mut buffer = pattern(50);
+    let written = write_into(sheet.as_bytes(), &mut work, &mut buffer).unwrap();
     assert_eq!(written, image.as_bytes());
-    let refusal =
-        compile_into(sheet.as_bytes(), &mut vec![FILL; 65_536], &mut [FILL; 47]).unwrap_err();
-    assert_eq!((refusal.number, refusal.needed), (11, 48));
 
-    assert_eq!(run_with(image.as_bytes(), b"1", &mut [FILL]), Ok(1));
+    assert_eq!(run_with(image.as_bytes(), b"1", &mut [1]), Ok(1));
+    let refusal = run_with(image.as_bytes(), b"1", &mut []).unwrap_err();
+    assert_eq!(refusal.number, 17);
+}
+
+/// A refusal of writing or running that names no place.
+#[cfg(vinzagew_library)]
+fn nowhere(number: u64, needed: usize) -> Refusal {
+    Refusal {
+        number,
+        place: 0,
+        needed,
+        tokens: 0,
+    }
+}
+
+/// With a work area that is too short nothing changes.
+#[cfg(vinzagew_library)]
+#[test]
+fn the_wrapper_changes_nothing_after_1() {
+    let sheet = sheet_d();
+    for length in [0, 1, 65_535] {
+        let mut work = pattern(length);
+        let mut buffer = pattern(50);
+        let short = check_with(sheet.as_bytes(), &mut work).unwrap_err();
+        assert_eq!((short.number, short.place), (1, 0));
+        assert_eq!(work, pattern(length));
+        let refusal = write_into(sheet.as_bytes(), &mut work, &mut buffer).unwrap_err();
+        assert_eq!(refusal, nowhere(1, 0));
+        assert_eq!(work, pattern(length));
+        assert_eq!(buffer, pattern(50));
+    }
+}
+
+/// With an image buffer that is too short it does not change, and the work area ends as after checking.
+#[cfg(vinzagew_library)]
+#[test]
+fn the_wrapper_keeps_the_buffer_after_11() {
+    let sheet = sheet_d();
+    for room in [0, 1, 47] {
+        let mut work = pattern(65_540);
+        let mut buffer = pattern(room);
+        let refusal = write_into(sheet.as_bytes(), &mut work, &mut buffer).unwrap_err();
+        assert_eq!(refusal, nowhere(11, 48));
+        assert_eq!(buffer, pattern(room));
+        assert!(work[..65_536].iter().all(|&byte| byte == 0));
+        assert_eq!(work[65_536..], pattern(65_540)[65_536..]);
+    }
+}
+
+#[cfg(vinzagew_library)]
+#[test]
+fn the_wrapper_refuses_a_sheet_that_is_too_long() {
+    let sheet = [1; 4_097];
+    let refusal = CheckRefusal {
+        number: 2,
+        place: 0,
+    };
+    assert_eq!(check(&sheet), Err(refusal));
+    assert_eq!(write(&sheet), Err(nowhere(2, 0)));
+    let mut work = pattern(65_536);
+    assert_eq!(check_with(&sheet, &mut work), Err(refusal));
+    assert!(work.iter().all(|&byte| byte == 0));
+    let mut work = pattern(65_536);
+    let mut buffer = pattern(50);
     assert_eq!(
-        run_with(image.as_bytes(), b"1", &mut [])
-            .unwrap_err()
-            .number,
-        17
+        write_into(&sheet, &mut work, &mut buffer),
+        Err(nowhere(2, 0))
     );
+    assert!(work.iter().all(|&byte| byte == 0));
+    assert_eq!(buffer, pattern(50));
+    // One byte less is within the limit.
+    assert_eq!(check(&sheet[1..]).unwrap_err().number, 6);
 }
 
 #[cfg(vinzagew_library)]
 #[test]
 fn images_come_from_readable_bytes_only() {
-    let image = compile(sheet_d().as_bytes()).unwrap();
+    let image = write(sheet_d().as_bytes()).unwrap();
     assert_eq!(Image::from_bytes(image.as_bytes()), Ok(image.clone()));
     let mut bytes = image.into_bytes();
     bytes.push(0);
@@ -322,7 +435,7 @@ fn images_come_from_readable_bytes_only() {
 #[test]
 fn a_refusal_leads_back_to_its_part() {
     let sheet = builder().finish(Expression::fix(|own| own)).unwrap();
-    let refusal = compile(sheet.as_bytes()).unwrap_err();
+    let refusal = check(sheet.as_bytes()).unwrap_err();
     assert_eq!(
         refusal.to_string(),
         "refused with 8 at place 21 of the sheet: Is the variable guarded? No"

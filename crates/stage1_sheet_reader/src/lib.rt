@@ -246,7 +246,7 @@ fn numbered_turn(sheet: &[u8], next: usize, tag: u8, limit: u64) -> ExpressionTu
     ensures { λ r. ⌜ r ≡ numbered-answer tag (sheet-field (in-range 0 limit) (now (sheet .entry)) next) ⌝ }
 {
     match read_field(sheet, next, 0, limit) {
-        Field::Unfit(question, after_tag) => ExpressionTurn::Unread(question, after_tag),
+        Field::Unfit(question, place) => ExpressionTurn::Unread(question, place),
         Field::Value(number, end) => ExpressionTurn::Node(tag, number, end),
     }
 }
@@ -323,8 +323,8 @@ fn read_expression(sheet: &[u8], at: usize, tokens: u8) -> NodesRead
         let count = nodes.count;
         let depth = opened[due - 1];
         match expression_turn(sheet, place, tokens, count, depth) {
-            ExpressionTurn::Unread(question, at) => {
-                let step = Step::Stop(question, at);
+            ExpressionTurn::Unread(question, stopped) => {
+                let step = Step::Stop(question, stopped);
                 return NodesRead { step, nodes };
             }
             ExpressionTurn::Node(tag, number, next) => {

@@ -1,9 +1,10 @@
--- The items of several regexes, one after the other: the regexes that they make, and that each item finds its parts after it.
+-- The items of several regexes, one after the other: the regexes that they make, that each item finds its parts after it, and what a
+-- sweep over them may ask of its stack. What is kept of a regex on the stack is not spoken of here.
 use mathlib.Core.Path.{_≡_, refl, sym, ap, _∙_, subst}
 use mathlib.Core.List.{List, [], _∷_, _++_, append-assoc, map, flatMap}
 use Prim.Native.Nat.{ℕ, zero, suc, _+_, _-_, _≤_, _<_}
 use native.Mathlib.Omega.{arith}
-use lib.ListN.{length, take, drop, getD}
+use lib.ListN.{length, take, drop, getD, length-drop}
 use lib.Seq.{drop-cons, getD-take}
 use Rattle.stage0_laws.specs.Lists.{sum}
 use Rattle.stage1_sheet.specs.Regex.{Regex, empty, class, concat, union, star, class-count}
@@ -11,7 +12,7 @@ use Rattle.stage1_sheet.specs.Items.{RegexItem, empty-item, class-item, concat-
 use Rattle.stage1_sheet.specs.Items.{regex-before, regexes}
 use Rattle.stage1_sheet.specs.ListLaws.{sum-append}
 use Rattle.stage1_sheet.specs.RegexItems.{regex-items-of, regex-tag, items-classes, regexes-items}
-use Rattle.stage4_lexer_sets.specs.Forests.{RegexesHeld}
+use Rattle.stage4_lexer_sets.specs.Stacks.{TagsHeld, parts-of}
 
 pub regexes-all : (rs : List Regex) → regexes (flatMap regex-items-of rs) ≡ rs
 unfolding flatMap regexes
@@ -68,7 +69,7 @@ before-short union-item (r ∷ s ∷ rs) = omega arith
 before-short star-item [] = omega arith
 before-short star-item (r ∷ rs) = omega arith
 
-pub regexes-short : (is : List RegexItem) → length (regexes is) ≤ length is
+regexes-short : (is : List RegexItem) → length (regexes is) ≤ length is
 unfolding regexes
 regexes-short [] = omega arith
 regexes-short (i ∷ is) = omega (arith, before-short i (regexes is), regexes-short is)
@@ -93,10 +94,10 @@ pub record ItemBefore (is : List RegexItem) (tags : List ℕ) (at : ℕ) (i : Re
   pub parts : regex-parts i ≤ length (regexes (drop at is))
   pub classes : sum item-classes (take at is) ≡ sum item-classes (take (at - 1) is) + item-classes i
 
-pub item-before : (rs : List Regex) (tags : List ℕ) (items classes at : ℕ) → RegexesHeld tags items classes rs → 0 < at → at ≤ items
+pub item-before : (rs : List Regex) (tags : List ℕ) (items at : ℕ) → TagsHeld tags items rs → 0 < at → at ≤ items
     → (i : RegexItem) × ItemBefore (flatMap regex-items-of rs) tags at i
 unfolding regexes regex-tag
-item-before rs tags items classes at h l m =
+item-before rs tags items at h l m =
     let is = flatMap regex-items-of rs in
     let n = at - 1 in
     let e : suc n ≡ at = omega arith in
@@ -112,3 +113,31 @@ item-before rs tags items classes at h l m =
         classes = ap (λ (k : ℕ). sum item-classes (take k is)) (sym e) ∙ sum-take is n empty-item b;
       },
     )
+
+-- ---- the top of the stack
+
+-- An item takes as many parts as its tag says.
+tag-parts : (i : RegexItem) → parts-of (regex-tag i) ≡ regex-parts i
+unfolding parts-of regex-tag regex-parts
+tag-parts empty-item = refl
+tag-parts (class-item low high) = refl
+tag-parts concat-item = refl
+tag-parts union-item = refl
+tag-parts star-item = refl
+
+-- What a turn may ask of the top of a stack, which has one entry for each regex made so far.
+pub record Top (tags : List ℕ) (at top : ℕ) : Type 0 where
+  pub least : 1 ≤ top
+  pub most : top ≤ 256
+  pub parts-most : parts-of (getD tags (at - 1) 0) ≤ top
+
+pub turn-top : (tags : List ℕ) (items : ℕ) (rs : List Regex) (at top : ℕ) → TagsHeld tags items rs → 0 < at → at ≤ items
+    → top ≡ 1 + length (regexes (drop at (flatMap regex-items-of rs))) → Top tags at top
+turn-top tags items rs at top h l m e =
+    let is = flatMap regex-items-of rs in
+    let i = item-before rs tags items at h l m in
+    record {
+      least = omega arith;
+      most = omega (arith, e, regexes-short (drop at is), length-drop at is, h .nodes, h .nodes-fit);
+      parts-most = omega (arith, e, ap parts-of (i .1 .tag), tag-parts (i .0), i .1 .parts);
+    }

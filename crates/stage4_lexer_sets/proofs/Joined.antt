@@ -1,6 +1,6 @@
--- The answer for columns that hold a sheet's rules, from the answers of the steps.
+-- The two answers for columns that hold a sheet's rules, question 7's and the positions, from the answers of the steps.
 use mathlib.Core.Path.{_≡_, refl, sym, ap, _∙_}
-use mathlib.Core.Bool.{cond}
+use mathlib.Core.Bool.{Bool, false, cond}
 use mathlib.Core.List.{List, [], _∷_, _++_, map, flatMap}
 use mathlib.Core.Option.{Option, some}
 use Prim.Native.Nat.{ℕ, suc, _+_}
@@ -17,12 +17,13 @@ use Rattle.stage1_sheet_columns.specs.declared.RuleColumns.{RuleColumns}
 use Rattle.stage1_sheet_columns.specs.Holds.{low-of, high-of, items-of-rules, RulesOf}
 use Rattle.stage4_lexer.specs.Positions.{nullable, first, first-from, first-positions, empty-match, positions}
 use Rattle.stage4_lexer.specs.PositionBounds.{class-total, positions-length}
+use Rattle.stage4_lexer_columns.specs.declared.PositionColumns.{PositionColumns}
 use Rattle.stage4_lexer_columns.specs.Held.{held-from, held-positions}
 use Rattle.stage4_lexer_sets.specs.declared.Forest.{Forest}
 use Rattle.stage4_lexer_sets.specs.declared.RuleSets.{RuleSets}
 use Rattle.stage4_lexer_sets.specs.declared.EmptyRule.{EmptyRule}
-use Rattle.stage4_lexer_sets.specs.declared.RulePositions.{RulePositions}
-use Rattle.stage4_lexer_sets.specs.Forests.{all-first, first-nullable, RegexesHeld, ForestOf, RulesStacked, RuleSetsOf}
+use Rattle.stage4_lexer_sets.specs.Stacks.{TagsHeld, Stacked, first-up}
+use Rattle.stage4_lexer_sets.specs.Forests.{all-first, RegexesHeld, ForestOf, RulesStacked, RuleSetsOf}
 use Rattle.stage4_lexer_sets.specs.Answer.{empty-rule, PositionsOf}
 use Rattle.stage4_lexer_sets.proofs.Items.{classes-all}
 use Rattle.stage4_lexer_sets.proofs.Holding.{Starts, low-one, entries, rules-held}
@@ -45,8 +46,8 @@ unfolding all-first first-from
 first-same [] base = refl
 first-same (r ∷ rules) base = ap (bitOr (first (r .regex) base)) (first-same rules (base + class-count (r .regex)))
 
-empty-same : (rules : List Rule) (k : ℕ) → first-nullable (regexes-of rules) k ≡ empty-match rules k
-unfolding first-nullable empty-match
+empty-same : (rules : List Rule) (k : ℕ) → first-up (map nullable (regexes-of rules)) k ≡ empty-match rules k
+unfolding first-up empty-match
 empty-same [] k = refl
 empty-same (r ∷ rules) k = ap (λ (o : Option ℕ). cond (nullable (r .regex)) (some k) o) (empty-same rules (suc k))
 
@@ -56,11 +57,25 @@ module _ (c : RuleColumns) (rules : List Rule) (places : List ℕ) (held : Rules
       held .classes-counted ∙ entries low-of low-one (items-of-rules rules) ∙ ap (sum item-classes) (items-same rules)
       ∙ classes-all (regexes-of rules) ∙ classes-same rules
 
-  pub regexes-held : RegexesHeld (c .tag) (c .items) (c .classes) (regexes-of rules)
-  regexes-held = record {
+  pub tags-held : TagsHeld (c .tag) (c .items) (regexes-of rules)
+  tags-held = record {
     nodes = held .nodes ∙ ap length (items-same rules);
     nodes-fit = held .nodes-fit;
     tags-held = held .tags-held ∙ ap (map regex-tag) (items-same rules);
+  }
+
+  rules-counted : c .count ≡ length (regexes-of rules)
+  rules-counted = held .rules ∙ length-map rules (λ r. r .action) ∙ sym (length-map rules (λ r. r .regex))
+
+  -- Question 7, where the stack has the rules' flags.
+  pub empty-answered : (flags : List Bool) (e : EmptyRule) → Stacked false flags (map nullable (regexes-of rules))
+      → ((up : List Bool) → Stacked false flags up → c .count ≡ length up → empty-rule e ≡ first-up up 0) → empty-rule e ≡ empty-match rules 0
+  empty-answered flags e s f =
+      f (map nullable (regexes-of rules)) s (rules-counted ∙ sym (length-map (regexes-of rules) nullable)) ∙ empty-same rules 0
+
+  pub regexes-held : RegexesHeld (c .tag) (c .items) (c .classes) (regexes-of rules)
+  regexes-held = record {
+    held = tags-held;
     classes-counted = classes-are ∙ sym (classes-same rules);
     classes-fit = held .classes-fit;
   }
@@ -68,7 +83,7 @@ module _ (c : RuleColumns) (rules : List Rule) (places : List ℕ) (held : Rules
   pub rules-stacked : (f : Forest) → ForestOf (regexes-of rules) f → RulesStacked (f .stack) (c .count) (regexes-of rules)
   rules-stacked f h = record {
     stacked = h .stacked;
-    rules = held .rules ∙ length-map rules (λ r. r .action) ∙ sym (length-map rules (λ r. r .regex));
+    rules = rules-counted;
     classes-fit = omega (arith, regexes-held .classes-counted, held .classes-fit);
   }
 
@@ -78,24 +93,21 @@ module _ (c : RuleColumns) (rules : List Rule) (places : List ℕ) (held : Rules
   starts g l e = (drop (c .classes) l, sym (take-append-drop (c .classes) l) ∙ ap (λ (x : List ℕ). x ++ drop (c .classes) l) e)
 
   -- The columns that are handed back.
-  abbrev pub answer : Forest → RuleSets → EmptyRule → RulePositions
-  answer f s e = record {
-    columns = record {
-      count = c .classes;
-      low = c .low;
-      high = c .high;
-      rule = s .rule;
-      follow = f .follow;
-      last = s .last;
-      first = s .first;
-    };
-    empty = e;
+  abbrev pub answer : Forest → RuleSets → PositionColumns
+  answer f s = record {
+    count = c .classes;
+    low = c .low;
+    high = c .high;
+    rule = s .rule;
+    follow = f .follow;
+    last = s .last;
+    first = s .first;
   }
 
-  pub answered : (f : Forest) (s : RuleSets) (e : EmptyRule) → ForestOf (regexes-of rules) f → RuleSetsOf (regexes-of rules) s
-      → empty-rule e ≡ first-nullable (regexes-of rules) 0 → PositionsOf rules (answer f s e)
+  pub answered : (f : Forest) (s : RuleSets) → ForestOf (regexes-of rules) f → RuleSetsOf (regexes-of rules) s
+      → PositionsOf rules (answer f s)
   unfolding held-positions positions first-positions
-  answered f s e h t g = record {
+  answered f s h t = record {
     positions-held =
         ap (held-from (c .low) (c .high) (s .rule) (f .follow) (s .last) 0) classes-are
         ∙ rules-held (c .low) (c .high) (s .rule) (f .follow) (s .last) rules 0 0 (starts low-of (c .low) (held .lows-held))
@@ -105,5 +117,4 @@ module _ (c : RuleColumns) (rules : List Rule) (places : List ℕ) (held : Rules
         (t .owners j (omega arith), ap (λ (x : ℕ). bit x j) (t .lasts), h .follows j (omega (arith, classes-are, held .classes-fit))));
     count-held = classes-are ∙ sym (positions-length rules);
     first-held = t .firsts ∙ first-same rules 0;
-    empty-found = g ∙ empty-same rules 0;
   }

@@ -1,10 +1,10 @@
--- The loops over the rules on the stack: their sets together, the rule of each position, and the first rule with the empty word.
+-- The loop over the rules on the stack: their sets together, and the rule of each position. Which of them has the empty word is not
+-- asked here.
 use mathlib.Core.Path.{_≡_, refl, sym, ap, _∙_, subst}
-use mathlib.Core.Bool.{Bool, true, false, cond}
+use mathlib.Core.Bool.{Bool, cond}
 use mathlib.Core.List.{List, [], _∷_}
 use mathlib.Core.Logic.{⊎-elim}
-use mathlib.Core.Option.{none, some}
-use Prim.Native.Nat.{ℕ, zero, suc, _+_, _-_, _≤_, _<_}
+use Prim.Native.Nat.{ℕ, suc, _+_, _-_, _≤_, _<_}
 use native.Mathlib.Omega.{arith}
 use native.Mathlib.Numerals.{add-one}
 use lib.Bits.{bitOr, or-zero-r}
@@ -15,60 +15,18 @@ use Rattle.stage0_laws.specs.BitLaws.{or-assoc}
 use Rattle.stage0_laws.specs.Lists.{sum}
 use Rattle.stage0_laws.specs.Order.{lt-or-le}
 use Rattle.stage1_sheet.specs.Regex.{Regex, empty, class-count}
-use Rattle.stage4_lexer.specs.Positions.{nullable, first, last}
+use Rattle.stage4_lexer.specs.Positions.{first, last}
 use Rattle.stage4_lexer_sets.specs.declared.Sets.{Sets}
+use Rattle.stage4_lexer_sets.specs.Stacks.{Stacked}
 use Rattle.stage4_lexer_sets.specs.Nodes.{sets-of}
-use Rattle.stage4_lexer_sets.specs.Forests.{all-first, all-last, owner, first-nullable, filled, unused}
-use Rattle.stage4_lexer_sets.specs.Forests.{Stacked, RulesStacked, RuleSetsOf}
+use Rattle.stage4_lexer_sets.specs.Forests.{all-sets, all-first, all-last, owner, filled, unused, RulesStacked, RuleSetsOf}
 use Rattle.stage4_lexer_sets.proofs.Changes.{changed-length, changed-inside, changed-below}
-
--- ---- the first rule with the empty word
-
-stacked-nullable : (stack : List Sets) (rs : List Regex) (base k : ℕ) → Stacked stack rs base → k < length rs
-    → getD stack (length rs - k + 1) unused .nullable ≡ nullable (getD rs k empty)
-unfolding sets-of
-stacked-nullable stack [] base k s h = absurd (omega arith)
-stacked-nullable stack (r ∷ rs) base zero s h =
-    ap (λ (i : ℕ). getD stack i unused .nullable) (omega arith) ∙ ap (λ (x : Sets). x .nullable) (s .0)
-stacked-nullable stack (r ∷ rs) base (suc k) s h =
-    ap (λ (i : ℕ). getD stack i unused .nullable) (omega arith) ∙ stacked-nullable stack rs (base + class-count r) k (s .1) (omega arith)
-
-first-nullable-next : (rs : List Regex) (k : ℕ) → k < length rs
-    → first-nullable (drop k rs) k ≡ cond (nullable (getD rs k empty)) (some k) (first-nullable (drop (k + 1) rs) (k + 1))
-unfolding first-nullable
-first-nullable-next rs k h =
-    ap (λ (l : List Regex). first-nullable l k) (drop-cons rs k empty h)
-    ∙ ap (λ (n : ℕ). cond (nullable (getD rs k empty)) (some k) (first-nullable (drop n rs) n)) (sym (add-one k))
-
-module _ (stack : List Sets) (count : ℕ) (rs : List Regex) (k : ℕ) (held : RulesStacked stack count rs) where
-  at-empty : k < count
-      → first-nullable (drop k rs) k
-      ≡ cond (getD stack (count - k + 1) unused .nullable) (some k) (first-nullable (drop (k + 1) rs) (k + 1))
-  at-empty h =
-      let b : k < length rs = omega (arith, held .rules) in
-      first-nullable-next rs k b
-      ∙ ap (λ (t : Bool). cond t (some k) (first-nullable (drop (k + 1) rs) (k + 1)))
-      (sym (ap (λ (n : ℕ). getD stack (n - k + 1) unused .nullable) (held .rules) ∙ stacked-nullable stack rs 0 k (held .stacked) b))
-
-  pub empty-here : k < count → getD stack (count - k + 1) unused .nullable ≡ true → some k ≡ first-nullable (drop k rs) k
-  empty-here h e =
-      sym (at-empty h ∙ ap (λ (t : Bool). cond t (some k) (first-nullable (drop (k + 1) rs) (k + 1))) e)
-
-  pub empty-later : k < count → getD stack (count - k + 1) unused .nullable ≡ false
-      → first-nullable (drop (k + 1) rs) (k + 1) ≡ first-nullable (drop k rs) k
-  empty-later h e =
-      sym (at-empty h ∙ ap (λ (t : Bool). cond t (some k) (first-nullable (drop (k + 1) rs) (k + 1))) e)
-
-  pub empty-nowhere : count ≤ k → none ≡ first-nullable (drop k rs) k
-  unfolding first-nullable
-  empty-nowhere h = ap (λ (l : List Regex). first-nullable l k) (sym (drop-of-length-le rs {i = k} (omega (arith, held .rules))))
-
--- ---- the rules' sets together
+use Rattle.stage4_lexer_sets.proofs.Sweeping.{all-sets-length}
 
 -- The first k rules are done; their positions end at the base.
 pub record Gathering (rs rest : List Regex) (stack : List Sets) (k base first last : ℕ) (rule : List ℕ) : Type 0 where
   pub rule-size : length rule ≡ 64
-  pub stacked : Stacked stack rest base
+  pub stacked : Stacked unused stack (all-sets rest base)
   pub classes-left : base + sum class-count rest ≡ sum class-count rs
   pub firsts : bitOr first (all-first rest base) ≡ all-first rs 0
   pub lasts : bitOr last (all-last rest base) ≡ all-last rs 0
@@ -103,7 +61,7 @@ module _ (rs rest : List Regex) (r : Regex) (stack : List Sets) (k base fst lst 
 
   gathered-sets : Gathering rs rest stack (suc k) (base + class-count r) (bitOr fst (first r base)) (bitOr lst (last r base))
       (filled base (base + class-count r) k rule)
-  unfolding owner all-first all-last
+  unfolding owner all-first all-last all-sets
   gathered-sets = record {
     rule-size = changed-length base (base + class-count r) (λ i x. k) 0 rule ∙ g .rule-size;
     stacked = g .stacked .1;
@@ -120,11 +78,15 @@ module _ (rs rest : List Regex) (r : Regex) (stack : List Sets) (k base fst lst 
 pub rule-entry : (stack : List Sets) (count : ℕ) (rs : List Regex) (k base fst lst : ℕ) (rule : List ℕ)
     → RulesStacked stack count rs → k < count → Gathering rs (drop k rs) stack k base fst lst rule
     → (r : Regex) × Gathering rs (r ∷ drop (suc k) rs) stack k base fst lst rule × (getD stack (count - k + 1) unused ≡ sets-of r base)
+unfolding all-sets
 rule-entry stack count rs k base fst lst rule h l g =
     let b : k < length rs = omega (arith, h .rules) in
+    let r = getD rs k empty in
     let m = subst (λ (x : List Regex). Gathering rs x stack k base fst lst rule) (drop-cons rs k empty b) g in
-    let n : count - k + 1 ≡ 2 + length (drop (suc k) rs) = omega (arith, h .rules, length-drop (suc k) rs) in
-    (getD rs k empty, m, ap (λ (i : ℕ). getD stack i unused) n ∙ m .stacked .0)
+    let later = all-sets (drop (suc k) rs) (base + class-count r) in
+    let d = all-sets-length (drop (suc k) rs) (base + class-count r) in
+    let n : count - k + 1 ≡ 2 + length later = omega (arith, h .rules, length-drop (suc k) rs, d) in
+    (r, m, ap (λ (i : ℕ). getD stack i unused) n ∙ m .stacked .0)
 
 module _ (stack : List Sets) (count : ℕ) (rs : List Regex) (k base fst lst : ℕ) (rule : List ℕ) (h : RulesStacked stack count rs)
     (l : k < count) (g : Gathering rs (drop k rs) stack k base fst lst rule) where

@@ -3,19 +3,21 @@ use mathlib.Core.Path.{_≡_, refl, sym, ap, _∙_, subst}
 use mathlib.Core.List.{List, [], _∷_, flatMap}
 use Prim.Native.Nat.{ℕ, zero, suc, _+_, _-_, _≤_, _<_}
 use native.Mathlib.Omega.{arith}
-use lib.ListN.{length, take, drop, getD, set, replicate, length-replicate, getD-replicate, length-drop, drop-of-length-le}
+use lib.ListN.{length, take, drop, getD, set, replicate, length-replicate, getD-replicate, drop-of-length-le}
 use lib.Seq.{take-all}
 use Rattle.stage0_laws.specs.Lists.{sum}
 use Rattle.stage1_sheet.specs.Regex.{Regex}
 use Rattle.stage1_sheet.specs.Items.{RegexItem, empty-item, class-item, concat-item, union-item, star-item}
-use Rattle.stage1_sheet.specs.Items.{regex-parts, item-classes, regexes}
+use Rattle.stage1_sheet.specs.Items.{item-classes, regexes}
 use Rattle.stage1_sheet.specs.RegexItems.{regex-items-of, regex-tag}
 use Rattle.stage4_lexer_sets.specs.declared.Sets.{Sets}
 use Rattle.stage4_lexer_sets.specs.declared.Node.{Node}
+use Rattle.stage4_lexer_sets.specs.Stacks.{Stacked, parts-of}
 use Rattle.stage4_lexer_sets.specs.Nodes.{node-of}
-use Rattle.stage4_lexer_sets.specs.Forests.{all-follow, joined, unused, Stacked, RegexesHeld, ForestOf}
-use Rattle.stage4_lexer_sets.proofs.Items.{regexes-all, classes-all, regexes-short, item-before}
-use Rattle.stage4_lexer_sets.proofs.Sweeping.{Sweeping, After, swept-next}
+use Rattle.stage4_lexer_sets.specs.Forests.{all-sets, all-follow, joined, unused, RegexesHeld, ForestOf}
+use Rattle.stage4_lexer_sets.proofs.Items.{regexes-all, classes-all, item-before, Top, turn-top}
+use Rattle.stage4_lexer_sets.proofs.Stacks.{piled-none}
+use Rattle.stage4_lexer_sets.proofs.Sweeping.{Sweeping, After, sweep-height, swept-next}
 
 -- The items from place `at` on are done; as many classes as the base are left.
 pub record Swept (rs : List Regex) (at : ℕ) (stack : List Sets) (follow : List ℕ) (top base : ℕ) : Type 0 where
@@ -24,32 +26,22 @@ pub record Swept (rs : List Regex) (at : ℕ) (stack : List Sets) (follow : List
 
 pub swept-start : (tags : List ℕ) (items classes : ℕ) (rs : List Regex) → RegexesHeld tags items classes rs
     → Swept rs items (replicate 258 unused) (replicate 64 0) 1 classes
-unfolding regexes all-follow
+unfolding regexes all-follow all-sets
 swept-start tags items classes rs h =
     let is = flatMap regex-items-of rs in
-    let e : drop items is ≡ [] = drop-of-length-le is {i = items} (omega (arith, h .nodes)) in
+    let e : drop items is ≡ [] = drop-of-length-le is {i = items} (omega (arith, h .held .nodes)) in
     record {
       state = subst (λ (l : List RegexItem). Sweeping (regexes l) (replicate 258 unused) (replicate 64 0) 1 classes) (sym e)
           record {
-            stack-size = length-replicate {A = Sets} 258 unused;
+            piled = piled-none unused;
             follow-size = length-replicate {A = ℕ} 64 0;
-            height = refl;
-            stacked = tt;
             follows = λ p l. getD-replicate {A = ℕ} 64 p 0 0 l;
           };
       classes-left = h .classes-counted ∙ sym (classes-all rs)
-          ∙ ap (sum item-classes) (sym (ap (λ (n : ℕ). take n is) (h .nodes) ∙ take-all (length is) is (omega arith)));
+          ∙ ap (sum item-classes) (sym (ap (λ (n : ℕ). take n is) (h .held .nodes) ∙ take-all (length is) is (omega arith)));
     }
 
--- What an item's node takes from the stack, and from the classes left.
-made-parts : (i : RegexItem) (r s : Sets) (base : ℕ) → node-of (regex-tag i) r s base .parts ≡ regex-parts i
-unfolding node-of regex-tag regex-parts
-made-parts empty-item r s base = refl
-made-parts (class-item low high) r s base = refl
-made-parts concat-item r s base = refl
-made-parts union-item r s base = refl
-made-parts star-item r s base = refl
-
+-- What an item's node takes from the classes left.
 made-base : (i : RegexItem) (r s : Sets) (base : ℕ) → node-of (regex-tag i) r s base .base ≡ base - item-classes i
 unfolding node-of regex-tag item-classes
 made-base empty-item r s base = omega arith
@@ -77,11 +69,9 @@ turn-node tags at stack top base = node-of (getD tags (at - 1) 0) (getD stack to
 
 -- What a turn may ask of the numbers.
 pub record Turn (tags : List ℕ) (at : ℕ) (stack : List Sets) (follow : List ℕ) (top base : ℕ) : Type 0 where
-  pub top-least : 1 ≤ top
-  pub top-most : top ≤ 256
+  pub at-top : Top tags at top
   pub base-most : base ≤ 64
   pub base-least : getD tags (at - 1) 0 ≡ 1 → 0 < base
-  pub parts-most : turn-node tags at stack top base .parts ≤ top
   pub follow-size : length follow ≡ 64
 
 -- A turn: what it may ask, and where it leads.
@@ -90,36 +80,35 @@ module _ (tags : List ℕ) (items classes : ℕ) (rs : List Regex) (at : ℕ) (s
   pub turn : Turn tags at stack flow top base
   turn =
       let is = flatMap regex-items-of rs in
-      let i = item-before rs tags items classes at held least most in
-      let r = getD stack top unused in
-      let s = getD stack (top - 1) unused in
+      let i = item-before rs tags items at (held .held) least most in
       record {
-        top-least = omega (arith, w .state .height);
-        top-most = omega (arith, w .state .height, regexes-short (drop at is), length-drop at is, held .nodes, held .nodes-fit);
+        at-top = turn-top tags items rs at top (held .held) least most (sweep-height stack flow top base (regexes (drop at is)) (w .state));
         base-most = omega (arith, w .classes-left, sum-front is at, classes-all rs, held .classes-counted, held .classes-fit);
         base-least = λ e. omega (arith, class-tag (i .0) (sym (i .1 .tag) ∙ e), i .1 .classes, w .classes-left);
-        parts-most =
-            omega (arith, ap (λ (t : ℕ). node-of t r s base .parts) (i .1 .tag), made-parts (i .0) r s base, i .1 .parts, w .state .height);
         follow-size = w .state .follow-size;
       }
 
-  pub swept-more : (n : Node) (f : List ℕ) → n ≡ turn-node tags at stack top base → f ≡ joined (n .from) (n .next) flow
-      → Swept rs (at - 1) (set stack (top + 1 - n .parts) (n .sets)) f (top + 1 - n .parts) (n .base)
-  swept-more n f e g =
+  pub swept-more : (n : Node) (f : List ℕ) (m : ℕ) → n ≡ turn-node tags at stack top base → f ≡ joined (n .from) (n .next) flow
+      → m ≡ parts-of (getD tags (at - 1) 0) → Swept rs (at - 1) (set stack (top + 1 - m) (n .sets)) f (top + 1 - m) (n .base)
+  swept-more n f m e g h =
       let is = flatMap regex-items-of rs in
-      let i = item-before rs tags items classes at held least most in
+      let i = item-before rs tags items at (held .held) least most in
       let r = getD stack top unused in
       let s = getD stack (top - 1) unused in
       let c : item-classes (i .0) ≤ base = omega (arith, i .1 .classes, w .classes-left) in
-      let m : n ≡ node-of (regex-tag (i .0)) r s base = e ∙ ap (λ (t : ℕ). node-of t r s base) (i .1 .tag) in
-      subst (λ (f : List ℕ). Swept rs (at - 1) (set stack (top + 1 - n .parts) (n .sets)) f (top + 1 - n .parts) (n .base)) (sym g)
+      let k : n ≡ node-of (regex-tag (i .0)) r s base = e ∙ ap (λ (t : ℕ). node-of t r s base) (i .1 .tag) in
+      let p : m ≡ parts-of (regex-tag (i .0)) = h ∙ ap parts-of (i .1 .tag) in
+      subst (λ (f : List ℕ). Swept rs (at - 1) (set stack (top + 1 - m) (n .sets)) f (top + 1 - m) (n .base)) (sym g)
       (subst
       (λ (n : Node).
-      Swept rs (at - 1) (set stack (top + 1 - n .parts) (n .sets)) (joined (n .from) (n .next) flow) (top + 1 - n .parts) (n .base))
-      (sym m)
+      Swept rs (at - 1) (set stack (top + 1 - m) (n .sets)) (joined (n .from) (n .next) flow) (top + 1 - m) (n .base))
+      (sym k)
       record {
-        state = subst (λ (l : List Regex). After l stack flow top (node-of (regex-tag (i .0)) r s base)) (sym (i .1 .made))
-            (swept-next stack flow top base (i .0) (regexes (drop at is)) (i .1 .parts) c (turn .top-most) (w .state));
+        state = subst (λ (m : ℕ). After (regexes (drop (at - 1) is)) stack flow (top + 1 - m) (node-of (regex-tag (i .0)) r s base)) (sym p)
+            (subst
+            (λ (l : List Regex). After l stack flow (top + 1 - parts-of (regex-tag (i .0))) (node-of (regex-tag (i .0)) r s base))
+            (sym (i .1 .made))
+            (swept-next stack flow top base (i .0) (regexes (drop at is)) (i .1 .parts) c (turn .at-top .most) (w .state)));
         classes-left = made-base (i .0) r s base ∙ omega (arith, i .1 .classes, w .classes-left);
       })
 
@@ -129,8 +118,8 @@ swept-end rs stack flow top base w =
     let e = regexes-all rs in
     let b : base ≡ 0 = w .classes-left in
     record {
-      stacked = subst (λ (l : List Regex). Stacked stack l 0) e
-          (subst (Stacked stack (regexes (flatMap regex-items-of rs))) b (w .state .stacked));
+      stacked = subst (λ (l : List Regex). Stacked unused stack (all-sets l 0)) e
+          (subst (λ (b : ℕ). Stacked unused stack (all-sets (regexes (flatMap regex-items-of rs)) b)) b (w .state .piled .stacked));
       follows = λ p h. w .state .follows p h ∙ ap (λ (b : ℕ). all-follow (regexes (flatMap regex-items-of rs)) b p) b
           ∙ ap (λ (l : List Regex). all-follow l 0 p) e;
     }

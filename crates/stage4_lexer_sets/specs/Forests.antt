@@ -1,24 +1,27 @@
--- Regexes that stand one after the other, each with its positions after those before it: their sets together, the stack that holds
+-- Regexes that stand one after the other, each with its positions after those before it: their sets together, the arrays that hold
 -- them, and the arrays that are changed on the way.
 use mathlib.Core.Path.{_≡_}
 use mathlib.Core.Bool.{_&&_, cond, false}
-use mathlib.Core.List.{List, [], _∷_, map, flatMap}
-use mathlib.Core.Option.{Option, none, some}
+use mathlib.Core.List.{List, [], _∷_}
 use Prim.Native.Nat.{ℕ, suc, _+_, _≤_, _<_}
 use lib.Bits.{bitOr}
 use lib.Dec.{leb, ltb}
-use lib.ListN.{length, take, getD}
+use lib.ListN.{length, getD}
 use Rattle.stage0_laws.specs.Bits.{bit}
 use Rattle.stage0_laws.specs.Lists.{sum}
 use Rattle.stage1_sheet.specs.Regex.{Regex, class-count}
-use Rattle.stage1_sheet.specs.RegexItems.{regex-items-of, regex-tag}
-use Rattle.stage4_lexer.specs.Positions.{nullable, first, last, follow}
+use Rattle.stage4_lexer.specs.Positions.{first, last, follow}
 use Rattle.stage4_lexer_sets.specs.declared.Sets.{Sets}
 use Rattle.stage4_lexer_sets.specs.declared.Forest.{Forest}
 use Rattle.stage4_lexer_sets.specs.declared.RuleSets.{RuleSets}
+use Rattle.stage4_lexer_sets.specs.Stacks.{TagsHeld, Stacked}
 use Rattle.stage4_lexer_sets.specs.Nodes.{sets-of}
 
 -- ---- sets of several regexes
+
+unfoldable pub all-sets : List Regex → ℕ → List Sets
+all-sets [] base = []
+all-sets (r ∷ rs) base = sets-of r base ∷ all-sets rs (base + class-count r)
 
 unfoldable pub all-first : List Regex → ℕ → ℕ
 all-first [] base = 0
@@ -36,11 +39,6 @@ all-follow (r ∷ rs) base p = bitOr (follow r base p) (all-follow rs (base + cl
 unfoldable pub owner : List Regex → ℕ → ℕ → ℕ → ℕ
 owner [] k base p = k
 owner (r ∷ rs) k base p = cond (ltb p (base + class-count r)) k (owner rs (suc k) (base + class-count r) p)
-
--- The number of the first one that has the empty word.
-unfoldable pub first-nullable : List Regex → ℕ → Option ℕ
-first-nullable [] k = none
-first-nullable (r ∷ rs) k = cond (nullable r) (some k) (first-nullable rs (suc k))
 
 -- ---- a list changed in place
 
@@ -62,25 +60,18 @@ filled a e k l = changed a e (λ i x. k) 0 l
 abbrev pub unused : Sets
 unused = record { nullable = false; first = 0; last = 0; end = 0 }
 
--- The first regex is on top; two entries lie below the last.
-abbrev pub Stacked : List Sets → List Regex → ℕ → Type 0
-Stacked stack [] base = Unit
-Stacked stack (r ∷ rs) base = (getD stack (2 + length rs) unused ≡ sets-of r base) × Stacked stack rs (base + class-count r)
-
--- The tags are those of the regexes in prefix order.
+-- The tags are those of the regexes, which have so many classes.
 pub record RegexesHeld (tags : List ℕ) (items classes : ℕ) (rs : List Regex) : Type 0 where
-  pub nodes : items ≡ length (flatMap regex-items-of rs)
-  pub nodes-fit : items ≤ 256
-  pub tags-held : take items tags ≡ map regex-tag (flatMap regex-items-of rs)
+  pub held : TagsHeld tags items rs
   pub classes-counted : classes ≡ sum class-count rs
   pub classes-fit : classes ≤ 64
 
 pub record ForestOf (rs : List Regex) (f : Forest) : Type 0 where
-  pub stacked : Stacked (f .stack) rs 0
+  pub stacked : Stacked unused (f .stack) (all-sets rs 0)
   pub follows : (p : ℕ) → p < 64 → getD (f .follow) p 0 ≡ all-follow rs 0 p
 
 pub record RulesStacked (stack : List Sets) (count : ℕ) (rs : List Regex) : Type 0 where
-  pub stacked : Stacked stack rs 0
+  pub stacked : Stacked unused stack (all-sets rs 0)
   pub rules : count ≡ length rs
   pub classes-fit : sum class-count rs ≤ 64
 

@@ -1,8 +1,9 @@
--- What a caller learns from the answer to question 7: a rule that it names is one of the rules.
+-- What a caller learns from the answer to question 7: a rule that it names is one of the rules. What it is to have the empty word is
+-- the lexer's to say.
 use mathlib.Core.Path.{_≡_, sym, ap, _∙_}
 use mathlib.Core.Bool.{Bool, true, false, cond}
 use mathlib.Core.List.{List, [], _∷_}
-use mathlib.Core.Option.{Option, none, some}
+use mathlib.Core.Option.{none, some}
 use Prim.Native.Nat.{ℕ, suc, _+_, _≤_, _<_}
 use native.Mathlib.Omega.{arith}
 use lib.ListN.{length}
@@ -10,8 +11,7 @@ use Rattle.stage1_sheet.specs.Sheet.{Rule}
 use Rattle.stage4_lexer.specs.Positions.{nullable, empty-match}
 use Rattle.stage4_lexer_sets.specs.declared.EmptyRule.{EmptyRule}
 use Rattle.stage4_lexer_sets.specs.declared.EmptyRule.the-variants.{Nothing, Rule as Found}
-use Rattle.stage4_lexer_sets.specs.declared.RulePositions.{RulePositions}
-use Rattle.stage4_lexer_sets.specs.Answer.{empty-rule, PositionsOf}
+use Rattle.stage4_lexer_sets.specs.Answer.{empty-rule}
 
 -- The first rule with the empty word, from number k on, is one of them.
 pub empty-match-below : (rules : List Rule) (k j : ℕ) → empty-match rules k ≡ some j → (k ≤ j) × (j < k + length rules)
@@ -24,11 +24,11 @@ empty-match-below (r ∷ rules) k j e = go (nullable (r .regex)) (λ d. empty-ma
     go true f d = let z : k ≡ j = cc in (omega arith, omega arith)
     go false f d = let h = f d in (omega arith, omega arith)
 
-pub found-below : (rules : List Rule) (r : RulePositions) (k : ℕ) → PositionsOf rules r → r .empty ≡ Found k
+pub found-below : (rules : List Rule) (r : EmptyRule) (k : ℕ) → empty-rule r ≡ empty-match rules 0 → r ≡ Found k
     → (empty-match rules 0 ≡ some k) × (k < length rules)
 found-below rules r k h e =
-    let m : empty-match rules 0 ≡ some k = sym (h .empty-found) ∙ ap empty-rule e in
+    let m : empty-match rules 0 ≡ some k = sym h ∙ ap empty-rule e in
     (m, omega (arith, empty-match-below rules 0 k m .1))
 
-pub nothing-found : (rules : List Rule) (r : RulePositions) → PositionsOf rules r → r .empty ≡ Nothing → empty-match rules 0 ≡ none
-nothing-found rules r h e = sym (h .empty-found) ∙ ap empty-rule e
+pub nothing-found : (rules : List Rule) (r : EmptyRule) → empty-rule r ≡ empty-match rules 0 → r ≡ Nothing → empty-match rules 0 ≡ none
+nothing-found rules r h e = sym h ∙ ap empty-rule e

@@ -16,7 +16,6 @@ sets-of r base = record { nullable = nullable r; first = first r base; last = la
 abbrev pub empty-node : ℕ → Node
 empty-node base = record {
   sets = record { nullable = true; first = 0; last = 0; end = base };
-  parts = 0;
   from = 0;
   next = 0;
   base = base;
@@ -25,7 +24,6 @@ empty-node base = record {
 abbrev pub class-node : ℕ → Node
 class-node base = record {
   sets = record { nullable = false; first = 2 ^ (base - 1); last = 2 ^ (base - 1); end = base };
-  parts = 0;
   from = 0;
   next = 0;
   base = base - 1;
@@ -39,7 +37,6 @@ concat-node r s base = record {
     last = bitOr (cond (s .nullable) (r .last) 0) (s .last);
     end = s .end;
   };
-  parts = 2;
   from = r .last;
   next = s .first;
   base = base;
@@ -53,7 +50,6 @@ union-node r s base = record {
     last = bitOr (r .last) (s .last);
     end = s .end;
   };
-  parts = 2;
   from = 0;
   next = 0;
   base = base;
@@ -62,7 +58,6 @@ union-node r s base = record {
 abbrev pub star-node : Sets → ℕ → Node
 star-node r base = record {
   sets = record { nullable = true; first = r .first; last = r .last; end = r .end };
-  parts = 1;
   from = r .last;
   next = r .first;
   base = base;

@@ -1,10 +1,10 @@
-// From the rules of a sheet that was read: the positions with their first, last and follow sets, and question 7.
-// A set of positions is one number. Which texts match is not asked here.
+// From the rules of a sheet that was read: question 7 by `empty_rule`, and apart from it, by `positions_of`, the positions with their
+// first, last and follow sets. A set of positions is one number. Which texts match is not asked here.
 use stage1_sheet_columns::RuleColumns;
 use stage4_lexer_columns::PositionColumns;
 ghost use mathlib.Core.Path.{_≡_};
-ghost use mathlib.Core.Bool.{cond};
-ghost use mathlib.Core.List.{List};
+ghost use mathlib.Core.Bool.{Bool, false, cond};
+ghost use mathlib.Core.List.{List, map};
 ghost use Prim.Native.Nat.{ℕ, _+_, _≤_, _<_};
 ghost use lib.Bits.{bitOr};
 ghost use lib.ListN.{length};
@@ -12,8 +12,10 @@ ghost use Rattle.stage0_laws.specs.Bits.{bit};
 ghost use Rattle.stage1_sheet.specs.Regex.{Regex};
 ghost use Rattle.stage1_sheet.specs.Sheet.{Rule};
 ghost use Rattle.stage1_sheet_columns.specs.Holds.{RulesOf};
+ghost use Rattle.stage4_lexer.specs.Positions.{nullable, empty-match};
+ghost use Rattle.stage4_lexer_sets.specs.Stacks.{TagsHeld, parts-of, flag-of, Stacked, first-up};
 ghost use Rattle.stage4_lexer_sets.specs.Nodes.{empty-node, class-node, concat-node, union-node, star-node, node-of};
-ghost use Rattle.stage4_lexer_sets.specs.Forests.{RegexesHeld, joined, filled, ForestOf, RulesStacked, RuleSetsOf, first-nullable};
+ghost use Rattle.stage4_lexer_sets.specs.Forests.{RegexesHeld, joined, filled, ForestOf, RulesStacked, RuleSetsOf};
 ghost use Rattle.stage4_lexer_sets.specs.Answer.{empty-rule, PositionsOf};
 
 // The sets of a regex, and where its positions end.
@@ -24,11 +26,10 @@ struct Sets {
     end: usize,
 }
 
-// What a node makes of the regexes after it: its own sets, how many of them are its parts, which positions (`from`) it lets others
-// (`next`) follow, and where its positions start.
+// What a node makes of the regexes after it: its own sets, which positions (`from`) it lets others (`next`) follow, and where its
+// positions start.
 struct Node {
     sets: Sets,
-    parts: usize,
     from: u64,
     next: u64,
     base: usize,
@@ -54,9 +55,75 @@ pub enum EmptyRule {
     Rule(u8),
 }
 
-pub struct RulePositions {
-    pub columns: PositionColumns,
-    pub empty: EmptyRule,
+// How many of the regexes after an item are its parts.
+fn parts_of(tag: u8) -> usize
+    ensures { λ n. ⌜ n ≡ parts-of tag ⌝ }
+{
+    if tag < 2 {
+        return 0;
+    }
+    if tag < 4 {
+        return 2;
+    }
+    1
+}
+
+// Whether the regex of an item matches the empty word, if the next two regexes match it or do not. The empty one and a star do in any
+// case, and a class does not.
+fn flag_of(tag: u8, r: bool, s: bool) -> bool
+    ensures { λ b. ⌜ b ≡ flag-of tag r s ⌝ }
+{
+    if tag == 2 {
+        return r & s;
+    }
+    if tag == 3 {
+        return r | s;
+    }
+    tag != 1
+}
+
+// Of regexes that stand one after the other in prefix order, which ones match the empty word: a stack with the first regex's flag on
+// top. From the last item to the first, each one finds its parts there. The two lowest entries are no regexes: they are there so that
+// two entries can be read at any time.
+fn flags_of(tag: &[u8; 256], items: usize) -> [bool; 258]
+    requires { ⌜ ((rs : List Regex) × TagsHeld (now tag) items rs) ⌝ }
+    ensures { λ f. ⌜ ((rs : List Regex) → TagsHeld (now (tag .entry)) items rs → Stacked false f (map nullable rs)) ⌝ }
+{
+    let mut flags = [false; 258];
+    let mut top: usize = 1;
+    let mut at = items;
+    while 0 < at {
+        at -= 1;
+        let flag = flag_of(tag[at], flags[top], flags[top - 1]);
+        top = top + 1 - parts_of(tag[at]);
+        flags[top] = flag;
+    }
+    flags
+}
+
+// The number of the first flag that is up, from the top of the stack down.
+fn first_up(flags: &[bool; 258], count: u8) -> EmptyRule
+    ensures { λ r. ⌜ ((up : List Bool) → Stacked false (now (flags .entry)) up → count ≡ length up → empty-rule r ≡ first-up up 0) ⌝ }
+{
+    let mut k: u8 = 0;
+    while k < count {
+        let top = (count - k) as usize + 1;
+        if flags[top] {
+            return EmptyRule::Rule(k);
+        }
+        k += 1;
+    }
+    EmptyRule::Nothing
+}
+
+// Question 7: the first rule that matches the empty word. No position is made.
+pub fn empty_rule(rules: RuleColumns) -> EmptyRule
+    requires { ⌜ ((held : List Rule) × (places : List ℕ) × RulesOf rules held places) ⌝ }
+    ensures { λ r. ⌜ ((held : List Rule) (places : List ℕ) → RulesOf rules held places → empty-rule r ≡ empty-match held 0) ⌝ }
+{
+    let count = rules.count as u8;
+    let flags = flags_of(&rules.tag, rules.items);
+    first_up(&flags, count)
 }
 
 // A set if a flag is up, else the empty set.
@@ -80,7 +147,6 @@ fn empty_node(base: usize) -> Node
     };
     Node {
         sets,
-        parts: 0,
         from: 0,
         next: 0,
         base,
@@ -101,7 +167,6 @@ fn class_node(base: usize) -> Node
     };
     Node {
         sets,
-        parts: 0,
         from: 0,
         next: 0,
         base: position,
@@ -119,7 +184,6 @@ fn concat_node(r: Sets, s: Sets, base: usize) -> Node
     };
     Node {
         sets,
-        parts: 2,
         from: r.last,
         next: s.first,
         base,
@@ -137,7 +201,6 @@ fn union_node(r: Sets, s: Sets, base: usize) -> Node
     };
     Node {
         sets,
-        parts: 2,
         from: 0,
         next: 0,
         base,
@@ -155,7 +218,6 @@ fn star_node(r: Sets, base: usize) -> Node
     };
     Node {
         sets,
-        parts: 1,
         from: r.last,
         next: r.first,
         base,
@@ -229,8 +291,8 @@ fn sweep(tag: &[u8; 256], items: usize, classes: usize) -> Forest
         at -= 1;
         let node = node_of(tag[at], stack[top], stack[top - 1], base);
         join_follow(&mut follow, node.from, node.next);
+        top = top + 1 - parts_of(tag[at]);
         let sets = node.sets;
-        top = top + 1 - node.parts;
         stack[top] = sets;
         base = node.base;
     }
@@ -271,40 +333,21 @@ fn rule_sets(stack: [Sets; 258], count: u8) -> RuleSets
     RuleSets { rule, first, last }
 }
 
-// The first rule that matches the empty word.
-fn empty_of(stack: [Sets; 258], count: u8) -> EmptyRule
-    ensures { λ r. ⌜ ((rs : List Regex) → RulesStacked stack count rs → empty-rule r ≡ first-nullable rs 0) ⌝ }
-{
-    let mut k: u8 = 0;
-    while k < count {
-        let top = (count - k) as usize + 1;
-        let sets = stack[top];
-        if sets.nullable {
-            return EmptyRule::Rule(k);
-        }
-        k += 1;
-    }
-    EmptyRule::Nothing
-}
-
-// The positions of a sheet's rules, and the answer to question 7.
-pub fn positions_of(rules: RuleColumns) -> RulePositions
+// The positions of a sheet's rules.
+pub fn positions_of(rules: RuleColumns) -> PositionColumns
     requires { ⌜ ((held : List Rule) × (places : List ℕ) × RulesOf rules held places) ⌝ }
     ensures { λ r. ⌜ ((held : List Rule) (places : List ℕ) → RulesOf rules held places → PositionsOf held r) ⌝ }
 {
-    let tag = rules.tag;
-    let items = rules.items;
     let classes = rules.classes;
     let count = rules.count as u8;
-    let forest = sweep(&tag, items, classes);
+    let forest = sweep(&rules.tag, rules.items, classes);
     let stack = forest.stack;
     let sets = rule_sets(stack, count);
-    let empty = empty_of(stack, count);
     let low = rules.low;
     let high = rules.high;
     let rule = sets.rule;
     let follow = forest.follow;
-    let columns = PositionColumns {
+    PositionColumns {
         count: classes,
         low,
         high,
@@ -312,6 +355,5 @@ pub fn positions_of(rules: RuleColumns) -> RulePositions
         follow,
         last: sets.last,
         first: sets.first,
-    };
-    RulePositions { columns, empty }
+    }
 }

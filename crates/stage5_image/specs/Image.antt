@@ -1,4 +1,4 @@
--- An image: what compiling makes of a sheet, as values, as numbers and as bytes ("The image").
+-- An image: what is written for a sheet, as values, as numbers and as bytes ("The image").
 use mathlib.Core.Bool.{Bool, true, false, cond}
 use mathlib.Core.List.{List, [], _∷_, _++_, map}
 use Prim.Native.Nat.{ℕ, zero, suc}

@@ -227,7 +227,7 @@ nonterminals-at-most s w d =
 abbrev pub most-image-bytes : ℕ
 most-image-bytes = 1070 + 32 * most-row-bytes
 
--- The image of a sheet that compiling accepts is no longer.
+-- The image of a sheet that passes has at most so many.
 pub image-fits : (s : Sheet) {a : LanguageType} → WithinLimits s → empty-match (s .rules) 0 ≡ none → [] ⊢ s .expression ∶ a
     → length (image-bytes (image-of s)) ≤ most-image-bytes
 image-fits s w m d =

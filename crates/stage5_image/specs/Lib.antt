@@ -1,5 +1,5 @@
 -- Fusion with the lexer rules, the numbering of nonterminals, the image and its bytes, how an image is read back, what it
--- unfolds to, and compiling as a whole.
+-- unfolds to, and checking and writing as a whole.
 pub mod Fusion
 pub mod Numbering
 pub mod Image
@@ -7,8 +7,10 @@ pub mod ImageRanges
 pub mod ImageFields
 pub mod ImageReading
 pub mod Unfolding
-pub mod Compile
-pub mod Compiles
+pub mod Check
+pub mod Checks
+pub mod Write
+pub mod Writes
 pub mod Computing
 pub mod FusionLaws
 pub mod MetNodes
@@ -25,6 +27,7 @@ pub mod RowRanges
 pub mod ImageLaws
 pub mod ImageLength
 pub mod BufferLaws
-pub mod CompileLaws
-pub mod CompileQuestions
-pub mod CompileNumbers
+pub mod CheckQuestions
+pub mod CheckNumbers
+pub mod WriteLaws
+pub mod WriteQuestions

@@ -5,23 +5,23 @@ use Prim.Native.Nat.{ℕ, _≤_}
 use native.Mathlib.Omega.{arith}
 use lib.ListN.{length, take, drop, length-append}
 use lib.Seq.{take-append-seam}
-use Rattle.stage5_image.specs.Compile as page
-use Rattle.stage5_image.specs.Compile.{compile-answer, answer-numbers, image-after, written-part}
+use Rattle.stage5_image.specs.Write as page
+use Rattle.stage5_image.specs.Write.{write-answer, write-numbers, image-after, written-part}
 use Rattle.stage5_image_compiler.specs.Answer.{case-of, case-done, case-too-long, case-refused}
-use Rattle.stage5_image_compiler.specs.declared.Compiled.the-variants.{Done, TooLong, Refused}
+use Rattle.stage5_image_compiler.specs.declared.Written.the-variants.{Done, TooLong, Refused}
 
-module _ (m : page.Compiled) where
+module _ (m : page.Written) where
   -- What was written stands at the front of the buffer.
   pub part-done : {written : ℕ} (entry exit : List ℕ) → case-of m ≡ Done written → exit ≡ image-after m entry
-      → (written ≤ length exit) × (take written exit ≡ written-part m) × (0 ∷ 0 ∷ written ∷ [] ≡ answer-numbers (compile-answer m))
-  unfolding image-after written-part compile-answer answer-numbers
+      → (written ≤ length exit) × (take written exit ≡ written-part m) × (0 ∷ 0 ∷ written ∷ [] ≡ write-numbers (write-answer m))
+  unfolding image-after written-part write-answer write-numbers
   part-done {written} entry exit e f = let d = case-done m e in made (d .0) (d .1) (d .2)
     where
-      made : (image : List ℕ) → m ≡ page.compiled image → written ≡ length image
-          → (written ≤ length exit) × (take written exit ≡ written-part m) × (0 ∷ 0 ∷ written ∷ [] ≡ answer-numbers (compile-answer m))
+      made : (image : List ℕ) → m ≡ page.written image → written ≡ length image
+          → (written ≤ length exit) × (take written exit ≡ written-part m) × (0 ∷ 0 ∷ written ∷ [] ≡ write-numbers (write-answer m))
       made image way n =
           let rest = drop (length image) entry in
-          let x : exit ≡ image ++ rest = f ∙ ap (λ (w : page.Compiled). image-after w entry) way in (
+          let x : exit ≡ image ++ rest = f ∙ ap (λ (w : page.Written). image-after w entry) way in (
             rw (n, x) (omega (arith, length-append image rest)),
             rw (n, x, way) (take-append-seam image rest),
             rw (n, way),
@@ -29,11 +29,11 @@ module _ (m : page.Compiled) where
 
   -- Otherwise nothing is handed back.
   pub part-too-long : {needed : ℕ} → case-of m ≡ TooLong needed
-      → ([] ≡ written-part m) × (11 ∷ 0 ∷ needed ∷ [] ≡ answer-numbers (compile-answer m))
-  unfolding written-part compile-answer answer-numbers
+      → ([] ≡ written-part m) × (11 ∷ 0 ∷ needed ∷ [] ≡ write-numbers (write-answer m))
+  unfolding written-part write-answer write-numbers
   part-too-long e = rw (case-too-long m e) (refl, refl)
 
   pub part-refused : {number place : ℕ} → case-of m ≡ Refused number place
-      → ([] ≡ written-part m) × (number ∷ place ∷ 0 ∷ [] ≡ answer-numbers (compile-answer m))
-  unfolding written-part compile-answer answer-numbers
+      → ([] ≡ written-part m) × (number ∷ place ∷ 0 ∷ [] ≡ write-numbers (write-answer m))
+  unfolding written-part write-answer write-numbers
   part-refused e = rw (case-refused m e) (refl, refl)

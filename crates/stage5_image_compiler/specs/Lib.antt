@@ -1,3 +1,2 @@
--- What compiling answers, and what its steps hold of a sheet that was read.
+-- What writing answers.
 pub mod Answer
-pub mod Steps

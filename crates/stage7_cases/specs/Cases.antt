@@ -7,31 +7,38 @@ use Rattle.stage1_sheet.specs.Sheet.{Sheet}
 use Rattle.stage1_sheet.specs.WellFormed.{Spells}
 use Rattle.stage1_sheet.specs.SheetD.{with-expression, bytes-of-D}
 use Rattle.stage2_types.specs.Denotation.{Denotes}
-use Rattle.stage5_image.specs.Compile.{work-bytes, Compiled, refused, compiled, compile, written-part}
+use Rattle.stage5_image.specs.Check.{work-bytes, CheckAnswer, check, check-answer}
+use Rattle.stage5_image.specs.Write.{Written, refused, written, write, written-part}
 use Rattle.stage6_machine.specs.Answer.{Answer, answer}
 use Rattle.stage6_machine.specs.Run.{run, long-enough}
 use Rattle.stage6_machine.specs.OwnAnswer.{OwnAnswer}
 use Rattle.stage7_cases.specs.ImageD.{rules-of-image-D, image-D}
 
 pub data Case : Type 0 where
-  -- a sheet, and how compiling it ends
-  compiles : List ℕ → Compiled → Case
+  -- a sheet, and how writing its image ends
+  writes : List ℕ → Written → Case
+  -- the same, with a work area and an image buffer of so many bytes
+  writes-with : ℕ → ℕ → List ℕ → Written → Case
+  -- a sheet, a work area of so many bytes, and what checking answers
+  checks : List ℕ → ℕ → CheckAnswer → Case
   -- a sheet, a text, and the answer of the sheet's image
   reads : List ℕ → List ℕ → Answer → Case
   -- a sheet whose expression denotes no token sequence
   denotes-nothing : List ℕ → Case
 
--- Compiling with the work area that document 01 names and room for any image.
-unfoldable pub compiled-sheet : List ℕ → Compiled
-compiled-sheet sheet = compile sheet work-bytes 65536
+-- Writing with the work area that document 01 names, and room for any image.
+unfoldable pub written-sheet : List ℕ → Written
+written-sheet sheet = write sheet work-bytes 65536
 
 -- Running a sheet's image with a long enough stack.
 unfoldable pub run-of-sheet : List ℕ → List ℕ → Answer
-run-of-sheet sheet text = run (written-part (compiled-sheet sheet)) text (long-enough text)
+run-of-sheet sheet text = run (written-part (written-sheet sheet)) text (long-enough text)
 
 -- A reading holds as what the machine answers and as the own answer of the sheet that the bytes spell.
 abbrev pub Holds : Case → Type 0
-Holds (compiles sheet c) = compiled-sheet sheet ≡ c
+Holds (writes sheet c) = written-sheet sheet ≡ c
+Holds (writes-with work room sheet c) = write sheet work room ≡ c
+Holds (checks sheet work a) = check-answer (check sheet work) ≡ a
 Holds (reads sheet text a) = (run-of-sheet sheet text ≡ a) × (s : Sheet) × Spells sheet s × OwnAnswer s text a
 Holds (denotes-nothing sheet) = (s : Sheet) × Spells sheet s × ((tokens : List ℕ) → Denotes (s .expression) tokens → ⊥)
 
@@ -42,25 +49,25 @@ endless = with-expression (5 ∷ 3 ∷ 2 ∷ 0 ∷ 6 ∷ 0 ∷ [])
 unfoldable pub cases : List Case
 cases =
     -- sheet D: its image, and `12 /7`, the empty text, `12/`, `12//7`, `12h`
-    compiles bytes-of-D (compiled image-D)
+    writes bytes-of-D (written image-D)
     ∷ reads bytes-of-D (49 ∷ 50 ∷ 32 ∷ 47 ∷ 55 ∷ []) (answer 0 5 3)
     ∷ reads bytes-of-D [] (answer 16 0 0)
     ∷ reads bytes-of-D (49 ∷ 50 ∷ 47 ∷ []) (answer 16 3 2)
     ∷ reads bytes-of-D (49 ∷ 50 ∷ 47 ∷ 47 ∷ 55 ∷ []) (answer 15 3 2)
     ∷ reads bytes-of-D (49 ∷ 50 ∷ 104 ∷ []) (answer 14 2 1)
     -- N ∨ N
-    ∷ compiles (with-expression (4 ∷ 2 ∷ 0 ∷ 2 ∷ 0 ∷ [])) (refused 10 20)
+    ∷ writes (with-expression (4 ∷ 2 ∷ 0 ∷ 2 ∷ 0 ∷ [])) (refused 10 20)
     -- (ε ∨ N)·S
-    ∷ compiles (with-expression (3 ∷ 4 ∷ 0 ∷ 2 ∷ 0 ∷ 2 ∷ 1 ∷ [])) (refused 9 20)
+    ∷ writes (with-expression (3 ∷ 4 ∷ 0 ∷ 2 ∷ 0 ∷ 2 ∷ 1 ∷ [])) (refused 9 20)
     -- μα.α
-    ∷ compiles (with-expression (5 ∷ 6 ∷ 0 ∷ [])) (refused 8 21)
+    ∷ writes (with-expression (5 ∷ 6 ∷ 0 ∷ [])) (refused 8 21)
     -- μα.(α ∨ (N ∨ N))
-    ∷ compiles (with-expression (5 ∷ 4 ∷ 6 ∷ 0 ∷ 4 ∷ 2 ∷ 0 ∷ 2 ∷ 0 ∷ [])) (refused 10 21)
+    ∷ writes (with-expression (5 ∷ 4 ∷ 6 ∷ 0 ∷ 4 ∷ 2 ∷ 0 ∷ 2 ∷ 0 ∷ [])) (refused 10 21)
     -- μα.N·α: one bare nonterminal, and it denotes nothing
-    ∷ compiles endless (compiled (rules-of-image-D ++ (1 ∷ 0 ∷ 0 ∷ [])))
+    ∷ writes endless (written (rules-of-image-D ++ (1 ∷ 0 ∷ 0 ∷ [])))
     ∷ denotes-nothing endless
     -- (S·μβ.(ε ∨ N·β))·N, and with S last
-    ∷ compiles (with-expression (3 ∷ 3 ∷ 2 ∷ 1 ∷ 5 ∷ 4 ∷ 0 ∷ 3 ∷ 2 ∷ 0 ∷ 6 ∷ 0 ∷ 2 ∷ 0 ∷ [])) (refused 9 20)
-    ∷ compiles (with-expression (3 ∷ 3 ∷ 2 ∷ 1 ∷ 5 ∷ 4 ∷ 0 ∷ 3 ∷ 2 ∷ 0 ∷ 6 ∷ 0 ∷ 2 ∷ 1 ∷ []))
-    (compiled (rules-of-image-D ++ (4 ∷ 0 ∷ 1 ∷ 1 ∷ 2 ∷ 1 ∷ 2 ∷ 1 ∷ 1 ∷ 0 ∷ 1 ∷ 3 ∷ 0 ∷ 1 ∷ 1 ∷ 0 ∷ 1 ∷ 1 ∷ 0 ∷ 1 ∷ 3 ∷ [])))
+    ∷ writes (with-expression (3 ∷ 3 ∷ 2 ∷ 1 ∷ 5 ∷ 4 ∷ 0 ∷ 3 ∷ 2 ∷ 0 ∷ 6 ∷ 0 ∷ 2 ∷ 0 ∷ [])) (refused 9 20)
+    ∷ writes (with-expression (3 ∷ 3 ∷ 2 ∷ 1 ∷ 5 ∷ 4 ∷ 0 ∷ 3 ∷ 2 ∷ 0 ∷ 6 ∷ 0 ∷ 2 ∷ 1 ∷ []))
+    (written (rules-of-image-D ++ (4 ∷ 0 ∷ 1 ∷ 1 ∷ 2 ∷ 1 ∷ 2 ∷ 1 ∷ 1 ∷ 0 ∷ 1 ∷ 3 ∷ 0 ∷ 1 ∷ 1 ∷ 0 ∷ 1 ∷ 1 ∷ 0 ∷ 1 ∷ 3 ∷ [])))
     ∷ []

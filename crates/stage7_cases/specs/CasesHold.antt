@@ -1,5 +1,5 @@
--- Every row of the two tables of worked cases holds: what is computed of a row, and, by the demands, what follows for the sheet that
--- its bytes spell. The rows themselves stand in `Cases` and `RepetitionCases`.
+-- Every row of the three tables of worked cases holds: what is computed of a row, and, by the demands, what follows for the sheet that
+-- its bytes spell. The rows themselves stand in `Cases`, `RepetitionCases` and `CheckCases`.
 use mathlib.Core.Path.{_≡_, refl, sym, ap, subst, _∙_}
 use mathlib.Core.List.{List, [], _∷_, _++_}
 use Prim.Native.Nat.{ℕ, zero, suc, _+_, _*_, _≤_}
@@ -18,37 +18,43 @@ use Rattle.stage1_sheet.specs.ReadingLaws.{SheetAccepted, read-accepted}
 use Rattle.stage1_sheet.specs.Expression.{token, sequence, fixed-point, variable}
 use Rattle.stage1_sheet.specs.SheetD.{sheet-D, bytes-of-D}
 use Rattle.stage2_types.specs.Denotation.{Denotes, denotation, iterate}
-use Rattle.stage5_image.specs.Compile.{work-bytes, Compiled, compiled, compile, written-part}
-use Rattle.stage5_image.specs.Compiles.{Acceptable}
+use Rattle.stage5_image.specs.Check.{work-bytes, check, check-answer}
+use Rattle.stage5_image.specs.Write.{Written, written, write, written-part}
+use Rattle.stage5_image.specs.Writes.{Acceptable}
 use Rattle.stage6_machine.specs.Answer.{Answer, answer}
 use Rattle.stage6_machine.specs.Run.{most-text-bytes, run, long-enough}
 use Rattle.stage6_machine.specs.OwnAnswer.{OwnAnswer}
 use Rattle.stage6_machine.specs.Computing.{computing-machine}
 use Rattle.stage7_demands.specs.Demands.{Demand2, Demand3}
 use Rattle.stage7_demands.specs.Proofs.{demand-2, demand-3}
-use Rattle.stage7_cases.specs.ImageD.{image-D, D-compiles}
-use Rattle.stage7_cases.specs.Cases.{Case, compiles, reads, denotes-nothing, compiled-sheet, run-of-sheet, Holds, endless, cases}
+use Rattle.stage7_cases.specs.ImageD.{image-D, D-written}
+use Rattle.stage7_cases.specs.Cases.{Case, writes, writes-with, checks, reads, denotes-nothing, written-sheet, run-of-sheet, Holds, endless, cases}
 use Rattle.stage7_cases.specs.RepetitionCases.{image-of-counts, image-of-numbers, repetition-cases}
+use Rattle.stage7_cases.specs.CheckCases.{check-cases}
 
 -- What is computed of a case: for a reading, the sheet's image and what the machine answers over it.
 abbrev Computes : Case → Type 0
-Computes (compiles sheet c) = compiled-sheet sheet ≡ c
+Computes (writes sheet c) = written-sheet sheet ≡ c
+Computes (writes-with work room sheet c) = write sheet work room ≡ c
+Computes (checks sheet work a) = check-answer (check sheet work) ≡ a
 Computes (reads sheet text a) =
-    (image : List ℕ) × (compiled-sheet sheet ≡ compiled image) × (run image text (long-enough text) ≡ a)
+    (image : List ℕ) × (written-sheet sheet ≡ written image) × (run image text (long-enough text) ≡ a)
     × T (all-bytes sheet) × T (leb (length text) most-text-bytes)
 Computes (denotes-nothing sheet) =
     (c : Contents) × (read-sheet sheet ≡ got c (length sheet)) × T (all-bytes sheet) × T (leb (length sheet) most-sheet-bytes)
     × ((tokens : List ℕ) → Denotes ((c .sheet) .expression) tokens → ⊥)
 
--- By demand 2 a sheet that was compiled is one that the bytes spell, and by demand 3 what the machine answers is its own answer.
+-- By demand 2 a sheet whose image was written is one that the bytes spell, and by demand 3 what the machine answers is its own answer.
 holds : (c : Case) → Computes c → Holds c
-unfolding compiled-sheet run-of-sheet written-part
-holds (compiles sheet c) h = h
+unfolding written-sheet run-of-sheet written-part
+holds (writes sheet c) h = h
+holds (writes-with work room sheet c) h = h
+holds (checks sheet work a) h = h
 holds (reads sheet text a) h =
     let bytes = tested-bytes sheet (h .3) in
     let s = demand-2 .accepted-exactly sheet bytes work-bytes 65536 (omega arith) .0 (h .0, h .1) in
-    let spells : Spells sheet (s .0) = (s .1) .well-formed in (
-      ap (λ (c : Compiled). run (written-part c) text (long-enough text)) (h .1) ∙ h .2,
+    let spells : Spells sheet (s .0) = (s .1) .passable .well-formed in (
+      ap (λ (c : Written). run (written-part c) text (long-enough text)) (h .1) ∙ h .2,
       s .0,
       spells,
       subst (OwnAnswer (s .0) text) (h .2)
@@ -79,14 +85,14 @@ endless-iterate zero w h = h
 endless-iterate (suc i) w h = endless-iterate i (h .1) (h .4)
 
 all-computed : All Computes cases
-unfolding cases compiled-sheet computing-machine
+unfolding cases written-sheet computing-machine
 all-computed =
-    D-compiles
-    & (image-D, D-compiles, refl, tt, tt)
-    & (image-D, D-compiles, refl, tt, tt)
-    & (image-D, D-compiles, refl, tt, tt)
-    & (image-D, D-compiles, refl, tt, tt)
-    & (image-D, D-compiles, refl, tt, tt)
+    D-written
+    & (image-D, D-written, refl, tt, tt)
+    & (image-D, D-written, refl, tt, tt)
+    & (image-D, D-written, refl, tt, tt)
+    & (image-D, D-written, refl, tt, tt)
+    & (image-D, D-written, refl, tt, tt)
     & refl
     & refl
     & refl
@@ -98,7 +104,7 @@ all-computed =
     & tt
 
 repetition-computed : All Computes repetition-cases
-unfolding repetition-cases compiled-sheet computing-machine
+unfolding repetition-cases written-sheet computing-machine
 repetition-computed =
     refl
     & (image-of-counts, refl, refl, tt, tt)
@@ -119,9 +125,17 @@ repetition-computed =
     & refl
     & tt
 
+check-computed : All Computes check-cases
+unfolding check-cases computing-machine
+check-computed =
+    refl & refl & refl & refl & refl & refl & refl & refl & refl & refl & refl & refl & refl & refl & tt
+
 -- Every row holds.
 pub cases-hold : All Holds cases
 cases-hold = all-hold cases all-computed
 
 pub repetition-cases-hold : All Holds repetition-cases
 repetition-cases-hold = all-hold repetition-cases repetition-computed
+
+pub check-cases-hold : All Holds check-cases
+check-cases-hold = all-hold check-cases check-computed

@@ -1,9 +1,10 @@
--- Sheet D's image, byte for byte as document 01 lists it, and that sheet D compiles to it.
+-- Sheet D's image, byte for byte as document 01 lists it, and that it is what is written for sheet D.
 use mathlib.Core.Path.{_≡_, refl}
 use mathlib.Core.List.{List, [], _∷_, _++_}
 use Prim.Native.Nat.{ℕ}
 use Rattle.stage1_sheet.specs.SheetD.{bytes-of-D}
-use Rattle.stage5_image.specs.Compile.{work-bytes, compiled, compile}
+use Rattle.stage5_image.specs.Check.{work-bytes}
+use Rattle.stage5_image.specs.Write.{written, write}
 use Rattle.stage5_image.specs.Computing.{computing-image}
 
 -- The part of the image that D's rules alone make: version, skips, positions and first set.
@@ -21,7 +22,7 @@ image-D =
     rules-of-image-D
     ++ (4 ∷ 0 ∷ 1 ∷ 0 ∷ 1 ∷ 1 ∷ 1 ∷ 1 ∷ 1 ∷ 1 ∷ 2 ∷ 0 ∷ 1 ∷ 0 ∷ 1 ∷ 3 ∷ 1 ∷ 1 ∷ 1 ∷ 1 ∷ 2 ∷ [])
 
--- Sheet D compiles to this image, with the work area that document 01 names and room for any image.
-pub D-compiles : compile bytes-of-D work-bytes 65536 ≡ compiled image-D
+-- This image is written for sheet D, with the work area that document 01 names and room for any image.
+pub D-written : write bytes-of-D work-bytes 65536 ≡ written image-D
 unfolding computing-image
-D-compiles = refl
+D-written = refl

@@ -1,6 +1,7 @@
 -- The worked cases that are proved from the definitions: sheet D's image (`ImageD`), document 01's cases (`Cases`), those of repetition
--- (`RepetitionCases`), and that every row holds (`CasesHold`).
+-- (`RepetitionCases`), those of checking and writing (`CheckCases`), and that every row holds (`CasesHold`).
 pub mod ImageD
 pub mod Cases
 pub mod RepetitionCases
+pub mod CheckCases
 pub mod CasesHold

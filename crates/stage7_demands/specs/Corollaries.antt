@@ -1,10 +1,12 @@
 -- What follows from the demands and is asked often: when a text is accepted, where it is refused, that a sheet which denotes nothing
--- accepts no text, and that a long enough stack never runs out; and demands 2 and 3 with every repetition spelled out: typing and
--- denotation are then the published ones alone, while the sheet's bytes and its image stay those with tag 7.
-use mathlib.Core.Path.{_≡_}
+-- accepts no text, that a long enough stack never runs out, and that 65,536 bytes are room for the image of every sheet that passes; and
+-- demands 2 and 3 with every repetition spelled out: typing and denotation are then the published ones alone, while the sheet's bytes and
+-- its image stay those with tag 7.
+use mathlib.Core.Path.{_≡_, ap, subst}
 use mathlib.Core.List.{List}
 use mathlib.Core.Logic.{_↔_}
 use Prim.Native.Nat.{ℕ, _≤_}
+use native.Mathlib.Omega.{arith}
 use lib.ListN.{length}
 use Rattle.stage1_sheet.specs.Sheet.{Sheet}
 use Rattle.stage1_sheet.specs.WellFormed.{Spells}
@@ -14,23 +16,29 @@ use Rattle.stage2_types.specs.Types.{HasType}
 use Rattle.stage2_types.specs.SpelledOut.{spelled-out, spelled-out-sheet}
 use Rattle.stage2_types.specs.SpelledOutDenotation.{spelled-out-denotes}
 use Rattle.stage2_types.specs.SpelledOutTyping.{spelled-out-has-type}
+use Rattle.stage4_lexer.specs.EmptyWord.{none-empty}
 use Rattle.stage4_lexer.specs.Words.{NoEmptyRule}
 use Rattle.stage5_image.specs.Image.{image-of}
 use Rattle.stage5_image.specs.ImageFields.{ReadableAs}
+use Rattle.stage5_image.specs.ImageLength.{image-fits}
+use Rattle.stage5_image.specs.FieldsLaws.{readable-written}
 use Rattle.stage5_image.specs.Unfolding.{StartUnfolds, DenotedRules}
-use Rattle.stage5_image.specs.Compile.{work-bytes, compiled}
-use Rattle.stage5_image.specs.Compiles.{Acceptable}
+use Rattle.stage5_image.specs.Check.{work-bytes, passed}
+use Rattle.stage5_image.specs.Checks.{Passable, Checks}
+use Rattle.stage5_image.specs.CheckQuestions.{checks-only, passed-passable}
+use Rattle.stage5_image.specs.Write.{written}
+use Rattle.stage5_image.specs.Writes.{Acceptable}
 use Rattle.stage6_machine.specs.Answer.{Answer, answer}
 use Rattle.stage6_machine.specs.Run.{most-text-bytes, long-enough}
 use Rattle.stage6_machine.specs.OwnAnswer.{OwnAnswer}
 use Rattle.stage6_machine.specs.Lexes.{Lexes, LexesTo, GoesNoFurther}
 use Rattle.stage6_machine.specs.AcceptanceLaws.{accepted-iff, accepted-answer, refused-place, own-answer-not-17}
 use Rattle.stage6_machine.specs.SpelledOutAnswers.{spelled-out-own-answer}
-use Rattle.stage7_demands.specs.Demands.{Functions, Demand2, Demand3}
+use Rattle.stage7_demands.specs.Demands.{Functions, Demand1, Demand2, Demand3}
 
--- Of any functions that meet demand 3: a sheet that compiling accepted, its image, a text within the limit, and a long enough stack.
+-- Of any functions that meet demand 3: a sheet that writing accepted, its image, a text within the limit, and a long enough stack.
 module _ (f : Functions) (demand : Demand3 f) (sheet : List ℕ) (bytes : Bytes sheet) (work room : ℕ) (image : List ℕ)
-    (accepted : f .compile sheet work room ≡ compiled image) (s : Sheet) (spells : Spells sheet s) (text : List ℕ) (entries : ℕ)
+    (accepted : f .write sheet work room ≡ written image) (s : Sheet) (spells : Spells sheet s) (text : List ℕ) (entries : ℕ)
     (short : length text ≤ most-text-bytes) (long : long-enough text ≤ entries) where
   -- What running the image answers.
   abbrev a : Answer
@@ -65,25 +73,53 @@ module _ (f : Functions) (demand : Demand3 f) (sheet : List ℕ) (bytes : Bytes 
   pub spelled-out-answered : OwnAnswer (spelled-out-sheet s) text a
   spelled-out-answered = spelled-out-own-answer s text a .0 own
 
+-- Of any functions that meet demands 1 and 2: 65,536 bytes are a buffer that is long enough for every sheet that passes.
+module _ (f : Functions) (first : Demand1 f) (second : Demand2 f) (sheet : List ℕ) (bytes : Bytes sheet) (work : ℕ) (s : Sheet)
+    (passes : f .check sheet work ≡ passed s) where
+  passable : Passable sheet s
+  passable =
+      passed-passable sheet bytes work s (checks-only bytes (subst (Checks sheet work) passes (first .checking sheet bytes work))) .1
+
+  pub written-in-65536 : (room : ℕ) → 65536 ≤ room → (image : List ℕ) × (f .write sheet work room ≡ written image)
+  written-in-65536 room enough =
+      let w = second .some-buffer sheet work .0 (s, passes) in
+      let readable = second .normal-form sheet bytes work (w .0) (w .1) (w .2) s (passable .well-formed) in
+      let few = image-fits s ((passable .well-formed) .limits) (none-empty (s .rules) .1 (passable .no-empty-text)) ((passable .has-type) .1) in
+      let short : length (w .1) ≤ room = omega (arith, few, ap length (readable-written (w .1) (image-of s) readable), enough) in
+      (w .1, second .long-buffers sheet work (w .0) (w .1) (w .2) room .1 short)
+
 -- "its expression has a type under the published typing rules", which know no repetition: spelled out it has the published forms alone
 -- (`spelled-out-published`). Of any functions that meet demand 2.
 module _ (f : Functions) (demand : Demand2 f) (sheet : List ℕ) (bytes : Bytes sheet) (work room : ℕ) where
+  pub spelled-out-passes : work-bytes ≤ work → (s : Sheet)
+      → (f .check sheet work ≡ passed s) ↔ (Spells sheet s × NoEmptyRule (s .rules) × HasType (spelled-out (s .expression)))
+  spelled-out-passes enough s =
+      let exactly = demand .passed-exactly sheet bytes work enough s in
+      let typed = spelled-out-has-type (s .expression) in (
+        λ h. let p = exactly .0 h in (p .well-formed, p .no-empty-text, typed .0 (p .has-type)),
+        λ x. exactly .1 (record { well-formed = x .0; no-empty-text = x .1; has-type = typed .1 (x .2) }),
+      )
+
   pub spelled-out-accepted : work-bytes ≤ work
-      → ((image : List ℕ) × (f .compile sheet work room ≡ compiled image))
+      → ((image : List ℕ) × (f .write sheet work room ≡ written image))
       ↔ ((s : Sheet) × Spells sheet s × NoEmptyRule (s .rules) × HasType (spelled-out (s .expression))
       × ((image : List ℕ) × ReadableAs image (image-of s) × (length image ≤ room)))
   spelled-out-accepted enough =
       let exactly = demand .accepted-exactly sheet bytes work room enough in (
         λ h. let x = exactly .0 h in
-            (x .0, x .1 .well-formed, x .1 .no-empty-text, spelled-out-has-type (x .0 .expression) .0 (x .1 .has-type), x .1 .fits),
+            let p = x .1 .passable in
+            (x .0, p .well-formed, p .no-empty-text, spelled-out-has-type (x .0 .expression) .0 (p .has-type), x .1 .fits),
         λ x. exactly .1 (
           x .0,
-          record { well-formed = x .1; no-empty-text = x .2; has-type = spelled-out-has-type (x .0 .expression) .1 (x .3); fits = x .4 },
+          record {
+            passable = record { well-formed = x .1; no-empty-text = x .2; has-type = spelled-out-has-type (x .0 .expression) .1 (x .3) };
+            fits = x .4;
+          },
         ),
       )
 
   -- Its start unfolds to exactly the rule sequences that spell what the spelled-out expression denotes.
-  pub spelled-out-unfolds : (image : List ℕ) → f .compile sheet work room ≡ compiled image → (s : Sheet) → Spells sheet s → (rules : List ℕ)
+  pub spelled-out-unfolds : (image : List ℕ) → f .write sheet work room ≡ written image → (s : Sheet) → Spells sheet s → (rules : List ℕ)
       → StartUnfolds ((image-of s) .rows) rules ↔ DenotedRules (spelled-out-sheet s) rules
   spelled-out-unfolds image h s spells rules =
       let exactly = demand .unfolds-exactly sheet bytes work room image h s spells rules in

@@ -1,9 +1,10 @@
 -- The three demands, each as one statement to be held against the page. They are said of any functions with these types, and proved
 -- of those that the code's contracts cite (`Proofs`): so the definitions of these functions need not be read. The contracts:
---   `stage5_image_compiler`: `compile` answers `compile`, and leaves `image-after` and `work-after`;
+--   `stage5_image_checker`: `check` answers `check`, and leaves `work-after`;
+--   `stage5_image_compiler`: `write` answers `write`, and leaves `image-after` and `work-after`;
 --   `stage6_machine_runner`: `run` answers `run`, and leaves `stack-after`;
 --   `stage7_engine`: `read_text` has `OwnAnswer` itself in its contract, and all three buffers; so has `program_line`, with its own buffers;
---   `vinzagew`: `sheet_compile` and `image_run` hand on the first two.
+--   `vinzagew`: `sheet_check`, `sheet_write` and `image_run` hand on the first three.
 use mathlib.Core.Path.{_≡_}
 use mathlib.Core.List.{List, [], _++_}
 use mathlib.Core.Logic.{_↔_, _⊎_}
@@ -15,48 +16,60 @@ use Rattle.stage1_sheet.specs.Spelling.{Bytes}
 use Rattle.stage5_image.specs.Image.{image-of}
 use Rattle.stage5_image.specs.ImageFields.{ReadableAs}
 use Rattle.stage5_image.specs.Unfolding.{StartUnfolds, DenotedRules}
-use Rattle.stage5_image.specs.Compile.{work-bytes, Compiled, refused, too-long, compiled, CompileAnswer}
-use Rattle.stage5_image.specs.Compiles.{Acceptable, Compiles}
+use Rattle.stage5_image.specs.Check.{work-bytes, Verdict, failed, passed, CheckAnswer}
+use Rattle.stage5_image.specs.Checks.{Passable, Checks}
+use Rattle.stage5_image.specs.Write.{Written, refused, too-long, written, WriteAnswer}
+use Rattle.stage5_image.specs.Writes.{Acceptable, Writes}
 use Rattle.stage6_machine.specs.Answer.{Answer}
 use Rattle.stage6_machine.specs.Run.{most-text-bytes, long-enough}
 use Rattle.stage6_machine.specs.OwnAnswer.{OwnAnswer}
 use Rattle.stage6_machine.specs.Runs.{Runs}
 
--- What compiling and running answer, and what the lent buffers hold at the end, as functions of all that is handed over.
+-- What checking, writing and running answer, and what the lent buffers hold at the end, as functions of all that is handed over. Checking
+-- and writing leave the work area alike, whatever they answer: by the one `work-after`.
 pub record Functions : Type 0 where
-  pub compile : List ℕ → ℕ → ℕ → Compiled
-  pub compile-answer : Compiled → CompileAnswer
-  pub written-part : Compiled → List ℕ
-  pub image-after : Compiled → List ℕ → List ℕ
+  pub check : List ℕ → ℕ → Verdict
+  pub check-answer : Verdict → CheckAnswer
+  pub write : List ℕ → ℕ → ℕ → Written
+  pub write-answer : Written → WriteAnswer
+  pub written-part : Written → List ℕ
+  pub image-after : Written → List ℕ → List ℕ
   pub work-after : List ℕ → List ℕ
   pub run : List ℕ → List ℕ → ℕ → Answer
   pub stack-after : Answer → List ℕ → List ℕ
 
 -- Demand 1. "A caller may hand over any sheet, image, text and buffers, of any length and content, and always gets an answer that
 -- document 01 fixes: a result, or the number and place of the first question that fails, and what every lent buffer then holds."
--- The answers are those of two relations in the page's terms, which have one answer each.
+-- The answers are those of three relations in the page's terms, which have one answer each.
 pub record Demand1 (f : Functions) : Type 0 where
-  pub compiling : (sheet : List ℕ) → Bytes sheet → (work room : ℕ) → Compiles sheet work room (f .compile sheet work room)
-  pub one-ending : (sheet : List ℕ) → Bytes sheet → (work room : ℕ) (c d : Compiled) → Compiles sheet work room c → Compiles sheet work room d
+  pub checking : (sheet : List ℕ) → Bytes sheet → (work : ℕ) → Checks sheet work (f .check sheet work)
+  pub one-verdict : (sheet : List ℕ) → Bytes sheet → (work : ℕ) (u v : Verdict) → Checks sheet work u → Checks sheet work v → u ≡ v
+  pub writing : (sheet : List ℕ) → Bytes sheet → (work room : ℕ) → Writes sheet work room (f .write sheet work room)
+  pub one-ending : (sheet : List ℕ) → Bytes sheet → (work room : ℕ) (c d : Written) → Writes sheet work room c → Writes sheet work room d
       → c ≡ d
   pub running : (image text : List ℕ) → Bytes image → (entries : ℕ) → Runs image text entries (f .run image text entries)
   pub one-answer : (image text : List ℕ) → Bytes image → (entries : ℕ) (a b : Answer) → Runs image text entries a → Runs image text entries b
       → a ≡ b
+  -- Checking is "answered by number and place": 0 and 0 where the sheet passes.
+  pub verdict-returned : (question place : ℕ) (s : Sheet)
+      → (f .check-answer (failed question place) ≡ record { number = question; place = place })
+      × (f .check-answer (passed s) ≡ record { number = 0; place = 0 })
   -- "Compiling returns number, place and length: 0, 0 and bytes written on success; after 11 the bytes needed, otherwise length 0."
   pub returned : (question place needed : ℕ) (image : List ℕ)
-      → (f .compile-answer (refused question place) ≡ record { number = question; place = place; length = 0 })
-      × (f .compile-answer (too-long needed) ≡ record { number = 11; place = 0; length = needed })
-      × (f .compile-answer (compiled image) ≡ record { number = 0; place = 0; length = length image })
+      → (f .write-answer (refused question place) ≡ record { number = question; place = place; length = 0 })
+      × (f .write-answer (too-long needed) ≡ record { number = 11; place = 0; length = needed })
+      × (f .write-answer (written image) ≡ record { number = 0; place = 0; length = length image })
   -- "Success also hands back the written part of the image buffer, empty on refusal."
   pub handed-back : (question place needed : ℕ) (image : List ℕ)
-      → (f .written-part (refused question place) ≡ []) × (f .written-part (too-long needed) ≡ []) × (f .written-part (compiled image) ≡ image)
+      → (f .written-part (refused question place) ≡ []) × (f .written-part (too-long needed) ≡ []) × (f .written-part (written image) ≡ image)
   -- "A refused compile leaves the image buffer untouched; success leaves the bytes past the image."
   pub image-buffer : (question place needed : ℕ) (image buffer : List ℕ)
       → (f .image-after (refused question place) buffer ≡ buffer) × (f .image-after (too-long needed) buffer ≡ buffer)
-      × (f .image-after (compiled image) buffer ≡ image ++ drop (length image) buffer)
+      × (f .image-after (written image) buffer ≡ image ++ drop (length image) buffer)
   pub image-kept : (sheet : List ℕ) (work : ℕ) (buffer : List ℕ)
-      → length (f .image-after (f .compile sheet work (length buffer)) buffer) ≡ length buffer
-  -- "The first 65,536 work bytes end as zero, except after 1, when none changes; the rest never change."
+      → length (f .image-after (f .write sheet work (length buffer)) buffer) ≡ length buffer
+  -- "The first 65,536 work bytes end as zero, except after 1, when none changes; the rest never change."; of both: "Both leave the work
+  -- area as compiling did."
   pub work-short : (work : List ℕ) → length work < work-bytes → f .work-after work ≡ work
   pub work-cleared : (work : List ℕ) → work-bytes ≤ length work → f .work-after work ≡ replicate work-bytes 0 ++ drop work-bytes work
   -- "The stack ends all zero, untouched after 12 and 13."
@@ -68,21 +81,33 @@ pub record Demand1 (f : Functions) : Type 0 where
 -- empty text, its expression has a type under the published typing rules, and the image fits. The image is then the one normal
 -- form that document 01 sets out, and its start unfolds to exactly the rule sequences that spell a token sequence which the
 -- expression denotes, each token spelled by any rule that returns it." In `Corollaries`, with repetitions spelled out as the published
--- rules have it: `spelled-out-accepted`, `spelled-out-unfolds`.
+-- rules have it: `spelled-out-passes`, `spelled-out-accepted`, `spelled-out-unfolds`.
+-- Accepted means accepted by writing. Checking asks all of it but that the image fits, and the last three fields hold of every work area.
 pub record Demand2 (f : Functions) : Type 0 where
+  pub passed-exactly : (sheet : List ℕ) → Bytes sheet → (work : ℕ) → work-bytes ≤ work → (s : Sheet)
+      → (f .check sheet work ≡ passed s) ↔ Passable sheet s
   pub accepted-exactly : (sheet : List ℕ) → Bytes sheet → (work room : ℕ) → work-bytes ≤ work
-      → ((image : List ℕ) × (f .compile sheet work room ≡ compiled image)) ↔ ((s : Sheet) × Acceptable sheet room s)
-  pub normal-form : (sheet : List ℕ) → Bytes sheet → (work room : ℕ) (image : List ℕ) → f .compile sheet work room ≡ compiled image
+      → ((image : List ℕ) × (f .write sheet work room ≡ written image)) ↔ ((s : Sheet) × Acceptable sheet room s)
+  pub normal-form : (sheet : List ℕ) → Bytes sheet → (work room : ℕ) (image : List ℕ) → f .write sheet work room ≡ written image
       → (s : Sheet) → Spells sheet s → ReadableAs image (image-of s)
-  pub unfolds-exactly : (sheet : List ℕ) → Bytes sheet → (work room : ℕ) (image : List ℕ) → f .compile sheet work room ≡ compiled image
+  pub unfolds-exactly : (sheet : List ℕ) → Bytes sheet → (work room : ℕ) (image : List ℕ) → f .write sheet work room ≡ written image
       → (s : Sheet) → Spells sheet s → (rules : List ℕ) → StartUnfolds ((image-of s) .rows) rules ↔ DenotedRules s rules
+  -- "A sheet passes checking exactly if some image buffer is long enough for writing it."
+  pub some-buffer : (sheet : List ℕ) (work : ℕ)
+      → ((s : Sheet) × (f .check sheet work ≡ passed s)) ↔ ((room : ℕ) × (image : List ℕ) × (f .write sheet work room ≡ written image))
+  -- Long enough are those from the image's own length on, and no others.
+  pub long-buffers : (sheet : List ℕ) (work room : ℕ) (image : List ℕ) → f .write sheet work room ≡ written image
+      → (other : ℕ) → (f .write sheet work other ≡ written image) ↔ (length image ≤ other)
+  -- "writing, which checks again": it refuses by the question that checking names, whatever the image buffer.
+  pub checks-again : (sheet : List ℕ) (work room question place : ℕ)
+      → (f .write sheet work room ≡ refused question place) ↔ (f .check sheet work ≡ failed question place)
 
 -- Demand 3. "Whatever bytes a text holds, for every sheet that demand 2 accepts, running the image fixed there over the text gives
 -- exactly the sheet's own answer .. Only, the text must be within the limit and the stack have at least 1 + 31 × its length entries."
 -- What follows from it by name is in `Corollaries`: `text-accepted-iff`, `text-accepted-answer`, `text-refused-place`, `nothing-accepted`,
 -- `stack-never-short`, `spelled-out-answered`.
 pub record Demand3 (f : Functions) : Type 0 where
-  pub own-answer : (sheet : List ℕ) → Bytes sheet → (work room : ℕ) (image : List ℕ) → f .compile sheet work room ≡ compiled image
+  pub own-answer : (sheet : List ℕ) → Bytes sheet → (work room : ℕ) (image : List ℕ) → f .write sheet work room ≡ written image
       → (s : Sheet) → Spells sheet s
       → (text : List ℕ) (entries : ℕ) → length text ≤ most-text-bytes → long-enough text ≤ entries
       → OwnAnswer s text (f .run image text entries)

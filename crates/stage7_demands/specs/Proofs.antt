@@ -21,11 +21,14 @@ use Rattle.stage5_image.specs.ImageRoundTrip.{image-are-bytes}
 use Rattle.stage5_image.specs.FieldsLaws.{readable-one}
 use Rattle.stage5_image.specs.Unfolding.{StartUnfolds, DenotedRules}
 use Rattle.stage5_image.specs.ImageLaws.{image-denotes}
-use Rattle.stage5_image.specs.Compile.{work-bytes, Compiled, refused, too-long, compiled, compile, compile-answer, written-part, image-after, work-after}
-use Rattle.stage5_image.specs.Compiles.{Acceptable}
-use Rattle.stage5_image.specs.CompileLaws.{acceptable-compiles, compiled-acceptable, compiled-fits}
-use Rattle.stage5_image.specs.CompileQuestions.{written-readable, compile-answers, compiles-one}
-use Rattle.stage5_image.specs.BufferLaws.{answers, handed-back, image-buffer, work-short, work-cleared}
+use Rattle.stage5_image.specs.Check.{work-bytes, passed, check, check-answer, work-after}
+use Rattle.stage5_image.specs.Checks.{Passable}
+use Rattle.stage5_image.specs.CheckQuestions.{check-answers, checks-one, passable-passes, passed-passable}
+use Rattle.stage5_image.specs.Write.{Written, refused, too-long, written, write, write-answer, written-part, image-after}
+use Rattle.stage5_image.specs.Writes.{Acceptable}
+use Rattle.stage5_image.specs.WriteLaws.{written-passed, passes-exactly, written-from, refused-exactly}
+use Rattle.stage5_image.specs.WriteQuestions.{passable-readable, write-answers, writes-one, acceptable-written, written-acceptable}
+use Rattle.stage5_image.specs.BufferLaws.{checked-answers, written-answers, handed-back, image-buffer, work-short, work-cleared}
 use Rattle.stage6_machine.specs.Answer.{Answer}
 use Rattle.stage6_machine.specs.Run.{most-text-bytes, run, long-enough, stack-after}
 use Rattle.stage6_machine.specs.Runs.{Runs, long-text, unreadable, no-entry, started}
@@ -40,8 +43,10 @@ use Rattle.stage7_demands.specs.Demands.{Functions, Demand1, Demand2, De
 -- The functions that the code's contracts cite.
 abbrev pub cited : Functions
 cited = record {
-  compile = compile;
-  compile-answer = compile-answer;
+  check = check;
+  check-answer = check-answer;
+  write = write;
+  write-answer = write-answer;
   written-part = written-part;
   image-after = image-after;
   work-after = work-after;
@@ -51,15 +56,15 @@ cited = record {
 
 -- ---- demand 1
 
-image-kept : (sheet : List ℕ) (work : ℕ) (buffer : List ℕ) → length (image-after (compile sheet work (length buffer)) buffer) ≡ length buffer
+image-kept : (sheet : List ℕ) (work : ℕ) (buffer : List ℕ) → length (image-after (write sheet work (length buffer)) buffer) ≡ length buffer
 unfolding image-after
-image-kept sheet work buffer = go (compile sheet work (length buffer)) refl
+image-kept sheet work buffer = go (write sheet work (length buffer)) refl
   where
-    go : (c : Compiled) → compile sheet work (length buffer) ≡ c → length (image-after c buffer) ≡ length buffer
+    go : (c : Written) → write sheet work (length buffer) ≡ c → length (image-after c buffer) ≡ length buffer
     go (refused question place) e = refl
     go (too-long needed) e = refl
-    go (compiled image) e =
-        let fits = compiled-fits sheet work (length buffer) image e in
+    go (written image) e =
+        let fits = written-passed sheet work (length buffer) image e .3 in
         omega (arith, length-append image (drop (length image) buffer), length-drop (length image) buffer)
 
 stack-untouched : (a : Answer) (stack : List ℕ) → (a .number ≡ 12) ⊎ (a .number ≡ 13) → stack-after a stack ≡ stack
@@ -67,11 +72,14 @@ stack-untouched a stack h = ⊎-elim (stack-untouched-12 a stack) (stack-untouch
 
 pub demand-1 : Demand1 cited
 demand-1 = record {
-  compiling = λ sheet bytes work room. compile-answers sheet work room bytes;
-  one-ending = λ sheet bytes work room c d. compiles-one bytes;
+  checking = λ sheet bytes work. check-answers sheet work bytes;
+  one-verdict = λ sheet bytes work u v. checks-one bytes;
+  writing = λ sheet bytes work room. write-answers sheet work room bytes;
+  one-ending = λ sheet bytes work room c d. writes-one bytes;
   running = λ image text bytes entries. run-runs image text entries bytes;
   one-answer = λ image text bytes entries a b. runs-one image text entries bytes;
-  returned = answers;
+  verdict-returned = checked-answers;
+  returned = written-answers;
   handed-back = handed-back;
   image-buffer = image-buffer;
   image-kept = image-kept;
@@ -83,43 +91,53 @@ demand-1 = record {
 
 -- ---- demand 2
 
+passed-exactly : (sheet : List ℕ) → Bytes sheet → (work : ℕ) → work-bytes ≤ work → (s : Sheet) → (check sheet work ≡ passed s) ↔ Passable sheet s
+passed-exactly sheet bytes work w s = ((λ e. passed-passable sheet bytes work s e .1), passable-passes sheet work w s)
+
 accepted-exactly : (sheet : List ℕ) → Bytes sheet → (work room : ℕ) → work-bytes ≤ work
-    → ((image : List ℕ) × (compile sheet work room ≡ compiled image)) ↔ ((s : Sheet) × Acceptable sheet room s)
+    → ((image : List ℕ) × (write sheet work room ≡ written image)) ↔ ((s : Sheet) × Acceptable sheet room s)
 accepted-exactly sheet bytes work room w = (
-  (λ h. let a = compiled-acceptable sheet bytes work room (h .0) (h .1) in (a .1 .0, a .1 .1)),
-  λ a. (image-bytes (image-of (a .0)), acceptable-compiles sheet work room (a .0) w (a .1)),
+  (λ h. let a = written-acceptable sheet bytes work room (h .0) (h .1) in (a .1 .0, a .1 .1)),
+  λ a. (image-bytes (image-of (a .0)), acceptable-written sheet work room (a .0) w (a .1)),
 )
 
 -- The sheet that was accepted is the sheet that the bytes spell.
-accepted-sheet : (sheet : List ℕ) → Bytes sheet → (work room : ℕ) (image : List ℕ) → compile sheet work room ≡ compiled image
+accepted-sheet : (sheet : List ℕ) → Bytes sheet → (work room : ℕ) (image : List ℕ) → write sheet work room ≡ written image
     → (s : Sheet) → Spells sheet s → Acceptable sheet room s × (image ≡ image-bytes (image-of s))
 accepted-sheet sheet bytes work room image e s spells =
-    let a = compiled-acceptable sheet bytes work room image e in
-    let same : a .1 .0 ≡ s = spelled-once sheet (a .1 .0) s ((a .1 .1) .well-formed) spells in
+    let a = written-acceptable sheet bytes work room image e in
+    let same : a .1 .0 ≡ s = spelled-once sheet (a .1 .0) s ((a .1 .1) .passable .well-formed) spells in
     (subst (Acceptable sheet room) same (a .1 .1), subst (λ t. image ≡ image-bytes (image-of t)) same (a .1 .2))
 
 no-empty : (s : Sheet) (sheet : List ℕ) (room : ℕ) → Acceptable sheet room s → empty-match (s .rules) 0 ≡ none
-no-empty s sheet room a = none-empty (s .rules) .1 (a .no-empty-text)
+no-empty s sheet room a = none-empty (s .rules) .1 (a .passable .no-empty-text)
 
-accepted-normal-form : (sheet : List ℕ) → Bytes sheet → (work room : ℕ) (image : List ℕ) → compile sheet work room ≡ compiled image
+accepted-normal-form : (sheet : List ℕ) → Bytes sheet → (work room : ℕ) (image : List ℕ) → write sheet work room ≡ written image
     → (s : Sheet) → Spells sheet s → ReadableAs image (image-of s)
 accepted-normal-form sheet bytes work room image e s spells =
     let a = accepted-sheet sheet bytes work room image e s spells in
-    let r = written-readable s (spells .limits) ((a .0) .no-empty-text) ((a .0) .has-type) in
-    subst (λ (l : List ℕ). ReadableAs l (image-of s)) (sym (a .1)) r
+    subst (λ (l : List ℕ). ReadableAs l (image-of s)) (sym (a .1)) (passable-readable ((a .0) .passable))
 
-unfolds-exactly : (sheet : List ℕ) → Bytes sheet → (work room : ℕ) (image : List ℕ) → compile sheet work room ≡ compiled image
+unfolds-exactly : (sheet : List ℕ) → Bytes sheet → (work room : ℕ) (image : List ℕ) → write sheet work room ≡ written image
     → (s : Sheet) → Spells sheet s → (rules : List ℕ) → StartUnfolds ((image-of s) .rows) rules ↔ DenotedRules s rules
 unfolds-exactly sheet bytes work room image e s spells =
     let a = accepted-sheet sheet bytes work room image e s spells in
-    image-denotes s ((spells .limits) .closed) (((a .0) .has-type) .1)
+    image-denotes s ((spells .limits) .closed) (((a .0) .passable .has-type) .1)
 
 pub demand-2 : Demand2 cited
-demand-2 = record { accepted-exactly = accepted-exactly; normal-form = accepted-normal-form; unfolds-exactly = unfolds-exactly }
+demand-2 = record {
+  passed-exactly = passed-exactly;
+  accepted-exactly = accepted-exactly;
+  normal-form = accepted-normal-form;
+  unfolds-exactly = unfolds-exactly;
+  some-buffer = passes-exactly;
+  long-buffers = written-from;
+  checks-again = refused-exactly;
+}
 
 -- ---- demand 3
 
-runs-own : (sheet : List ℕ) → Bytes sheet → (work room : ℕ) (image : List ℕ) → compile sheet work room ≡ compiled image
+runs-own : (sheet : List ℕ) → Bytes sheet → (work room : ℕ) (image : List ℕ) → write sheet work room ≡ written image
     → (s : Sheet) → Spells sheet s
     → (text : List ℕ) (entries : ℕ) → length text ≤ most-text-bytes → long-enough text ≤ entries
     → (a : Answer) → Runs image text entries a → OwnAnswer s text a
@@ -133,14 +151,14 @@ runs-own sheet bytes work room image e s spells text entries short long a runs =
     by-question (unreadable p h n o) = absurd (n (image-of s, accepted-normal-form sheet bytes work room image e s spells))
     by-question (no-entry h r l) = absurd (omega arith)
     by-question (started i h r l x) =
-        let typed = (acceptable .has-type) .1 in
+        let typed = (acceptable .passable .has-type) .1 in
         let same = readable-one image (image-of s) i (accepted-normal-form sheet bytes work room image e s spells) r in
         let faithful = image-faithful s (spells .limits) typed (no-empty s sheet room acceptable) in
         runs-own-answer s text i entries (StandsFor s (spells .limits) typed)
         (subst (λ (j : Image). Faithful s j (StandsFor s (spells .limits) typed)) same faithful) long (start-stands s (spells .limits) typed) x
 
 -- What `run` answers is an answer of `Runs`.
-run-own-answer : (sheet : List ℕ) → Bytes sheet → (work room : ℕ) (image : List ℕ) → compile sheet work room ≡ compiled image
+run-own-answer : (sheet : List ℕ) → Bytes sheet → (work room : ℕ) (image : List ℕ) → write sheet work room ≡ written image
     → (s : Sheet) → Spells sheet s
     → (text : List ℕ) (entries : ℕ) → length text ≤ most-text-bytes → long-enough text ≤ entries
     → OwnAnswer s text (run image text entries)

@@ -8,18 +8,19 @@ use lib.ListN.{length, take, drop}
 use borrow.Author.Tests.{lt-ltb, le-ltb, eq-eqb, ne-eqb}
 use Rattle.stage1_sheet.specs.Sheet.{Sheet}
 use Rattle.stage1_sheet.specs.FieldLaws.{Bytes}
-use Rattle.stage5_image.specs.Compile.{refused, too-long, compiled, compile, image-after}
-use Rattle.stage5_image.specs.Compile as page
-use Rattle.stage5_image.specs.Compiles.{Acceptable}
-use Rattle.stage5_image.specs.CompileLaws.{acceptable-compiles, compiled-fits}
+use Rattle.stage5_image.specs.Check.{work-bytes}
+use Rattle.stage5_image.specs.Write.{refused, too-long, written, write, image-after}
+use Rattle.stage5_image.specs.Write as page
+use Rattle.stage5_image.specs.Writes.{Acceptable}
+use Rattle.stage5_image.specs.WriteQuestions.{acceptable-written}
 use Rattle.stage5_image.specs.BufferLaws.{image-written}
 use Rattle.stage5_image.specs.Image.{image-of}
 use Rattle.stage5_image.specs.FieldsLaws.{readable-written}
 use Rattle.stage5_image.specs.ImageLength.{image-fits}
 use Rattle.stage4_lexer.specs.EmptyWord.{none-empty}
 use Rattle.stage5_image_compiler.specs.Answer.{case-of}
-use Rattle.stage5_image_compiler.specs.declared.Compiled.{Compiled}
-use Rattle.stage5_image_compiler.specs.declared.Compiled.the-variants.{Done, TooLong, Refused}
+use Rattle.stage5_image_compiler.specs.declared.Written.{Written}
+use Rattle.stage5_image_compiler.specs.declared.Written.the-variants.{Done, TooLong, Refused}
 use Rattle.stage6_machine.specs.Answer.{Answer, answer}
 use Rattle.stage6_machine.specs.Run.{run, stack-after}
 use Rattle.stage7_demands.specs.Demands.{Demand3}
@@ -35,19 +36,19 @@ use Rattle.stage7_engine.specs.Reading.{Told, sheet-refused, text-answer
 
 module _ (limit : ℕ) (sheet text : List ℕ) (work room : ℕ) where
   -- A sheet that was refused is not acceptable.
-  not-compiled : {X : Type 0} (s : Sheet) → Acceptable sheet room s → page.work-bytes ≤ work → (m : page.Compiled) → compile sheet work room ≡ m
-      → ((image : List ℕ) → m ≡ compiled image → ⊥) → X
-  not-compiled s a w m e f = absurd (f _ (sym e ∙ acceptable-compiles sheet work room s w a))
+  not-written : {X : Type 0} (s : Sheet) → Acceptable sheet room s → work-bytes ≤ work → (m : page.Written) → write sheet work room ≡ m
+      → ((image : List ℕ) → m ≡ written image → ⊥) → X
+  not-written s a w m e f = absurd (f _ (sym e ∙ acceptable-written sheet work room s w a))
 
-  pub own-refused : (entries number place : ℕ) → compile sheet work room ≡ refused number place
+  pub own-refused : (entries number place : ℕ) → write sheet work room ≡ refused number place
       → OwnReading limit sheet text work room entries (sheet-refused number place)
   own-refused entries number place e = record {
-    own-answer = λ s a w l m k. not-compiled s a w (refused number place) e (λ image f. let z : _≡_ {A = ℕ} 0 1 = cc in omega arith);
+    own-answer = λ s a w l m k. not-written s a w (refused number place) e (λ image f. let z : _≡_ {A = ℕ} 0 1 = cc in omega arith);
   }
 
-  pub own-long : (entries needed : ℕ) → compile sheet work room ≡ too-long needed → OwnReading limit sheet text work room entries (sheet-refused 11 0)
+  pub own-long : (entries needed : ℕ) → write sheet work room ≡ too-long needed → OwnReading limit sheet text work room entries (sheet-refused 11 0)
   own-long entries needed e = record {
-    own-answer = λ s a w l m k. not-compiled s a w (too-long needed) e (λ image f. let z : _≡_ {A = ℕ} 0 1 = cc in omega arith);
+    own-answer = λ s a w l m k. not-written s a w (too-long needed) e (λ image f. let z : _≡_ {A = ℕ} 0 1 = cc in omega arith);
   }
 
   -- A text over the limit is not spoken of.
@@ -55,14 +56,14 @@ module _ (limit : ℕ) (sheet text : List ℕ) (work room : ℕ) where
   own-over entries t h = record { own-answer = λ s a w l m k. absurd (omega arith) }
 
   -- The image was run: demand 3.
-  pub own-run : (entries : ℕ) (image : List ℕ) → Bytes sheet → compile sheet work room ≡ compiled image
+  pub own-run : (entries : ℕ) (image : List ℕ) → Bytes sheet → write sheet work room ≡ written image
       → OwnReading limit sheet text work room entries (text-answered (run image text entries))
   own-run entries image bytes e = record {
-    own-answer = λ s a w l m k. (run image text entries, demand-3 .own-answer sheet bytes work room image e s (a .well-formed) text entries m k, refl);
+    own-answer = λ s a w l m k. (run image text entries, demand-3 .own-answer sheet bytes work room image e s (a .passable .well-formed) text entries m k, refl);
   }
 
 -- What is told and what the stack holds, by cases.
-module _ (limit : ℕ) (text stack : List ℕ) {m : page.Compiled} where
+module _ (limit : ℕ) (text stack : List ℕ) {m : page.Written} where
   pub told-refused : (entries number place : ℕ) → m ≡ refused number place
       → (sheet-refused number place ≡ reading limit m text entries) × (stack ≡ stack-after-reading limit m text stack)
   unfolding reading stack-after-reading
@@ -73,12 +74,12 @@ module _ (limit : ℕ) (text stack : List ℕ) {m : page.Compiled} where
   unfolding reading stack-after-reading
   told-long entries needed e = rw e (refl, refl)
 
-  pub told-over : (entries : ℕ) (image : List ℕ) → m ≡ compiled image → limit < length text
+  pub told-over : (entries : ℕ) (image : List ℕ) → m ≡ written image → limit < length text
       → (text-answered (answer 12 0 0) ≡ reading limit m text entries) × (stack ≡ stack-after-reading limit m text stack)
   unfolding reading stack-after-reading answer-within
   told-over entries image e h = rw (e, lt-ltb limit (length text) h) (refl, refl)
 
-  pub told-run : (image : List ℕ) (a : Answer) (exit : List ℕ) → m ≡ compiled image → length text ≤ limit → a ≡ run image text (length stack)
+  pub told-run : (image : List ℕ) (a : Answer) (exit : List ℕ) → m ≡ written image → length text ≤ limit → a ≡ run image text (length stack)
       → exit ≡ stack-after a stack
       → (text-answered a ≡ reading limit m text (length stack)) × (exit ≡ stack-after-reading limit m text stack)
   unfolding reading stack-after-reading answer-within
@@ -86,8 +87,8 @@ module _ (limit : ℕ) (text stack : List ℕ) {m : page.Compiled} where
       rw (e, le-ltb limit (length text) h) (ap text-answered f, g ∙ ap (λ (x : Answer). stack-after x stack) f)
 
 -- The part of the image buffer that was written is the image.
-pub written-image : (m : page.Compiled) (image buffer exit : List ℕ) → m ≡ compiled image → exit ≡ image-after m buffer → take (length image) exit ≡ image
-written-image m image buffer exit e f = ap (take (length image)) (f ∙ ap (λ (x : page.Compiled). image-after x buffer) e) ∙ image-written image buffer
+pub written-image : (m : page.Written) (image buffer exit : List ℕ) → m ≡ written image → exit ≡ image-after m buffer → take (length image) exit ≡ image
+written-image m image buffer exit e f = ap (take (length image)) (f ∙ ap (λ (x : page.Written). image-after x buffer) e) ∙ image-written image buffer
 
 -- The program's line.
 pub line-sheet : (r : TextRead) (number place : ℕ) → r ≡ read.Sheet number place → printed.Sheet number place ≡ line-of (told r)
@@ -106,15 +107,14 @@ module _ (r : TextRead) (a : RunAnswer) (e : r ≡ read.Text a) where
 -- ---- the program's line
 
 -- No condition on buffers is left: 65,536 bytes are room for every image, and the stack is long enough for 2,048 bytes.
-pub own-line : (sheet text : List ℕ) (t : Told) → OwnReading most-program-text sheet text page.work-bytes program-room program-entries t
+pub own-line : (sheet text : List ℕ) (t : Told) → OwnReading most-program-text sheet text work-bytes program-room program-entries t
     → OwnLine sheet text (line-of t)
 own-line sheet text t o = record {
   own-answer = λ s room a short.
-      let few = image-fits s ((a .well-formed) .limits) (none-empty (s .rules) .1 (a .no-empty-text)) ((a .has-type) .1) in
+      let p = a .passable in
+      let few = image-fits s ((p .well-formed) .limits) (none-empty (s .rules) .1 (p .no-empty-text)) ((p .has-type) .1) in
       let fitting : Acceptable sheet program-room s = record {
-        well-formed = a .well-formed;
-        no-empty-text = a .no-empty-text;
-        has-type = a .has-type;
+        passable = p;
         fits = ((a .fits) .0, (a .fits) .1, omega (arith, few, ap length (readable-written ((a .fits) .0) (image-of s) ((a .fits) .1))));
       } in
       let x = o .own-answer s fitting (omega arith) short (omega (arith, short)) (omega (arith, short)) in
@@ -122,12 +122,12 @@ own-line sheet text t o = record {
 }
 
 -- What the engine told, and the line made of it, with buffers of the program's lengths.
-pub program-prints : (sheet text : List ℕ) (work image stack : ℕ) → work ≡ page.work-bytes → image ≡ program-room → stack ≡ program-entries
-    → (t : Told) → t ≡ reading most-program-text (compile sheet work image) text stack
+pub program-prints : (sheet text : List ℕ) (work image stack : ℕ) → work ≡ work-bytes → image ≡ program-room → stack ≡ program-entries
+    → (t : Told) → t ≡ reading most-program-text (write sheet work image) text stack
     → OwnReading most-program-text sheet text work image stack t
     → (line-of t ≡ program-line sheet text) × OwnLine sheet text (line-of t)
 unfolding program-line
 program-prints sheet text work image stack w i s t e o =
-    let f : t ≡ reading most-program-text (compile sheet page.work-bytes program-room) text program-entries = rw (w, i, s) at e in
-    let p : OwnReading most-program-text sheet text page.work-bytes program-room program-entries t = rw (w, i, s) at o in
+    let f : t ≡ reading most-program-text (write sheet work-bytes program-room) text program-entries = rw (w, i, s) at e in
+    let p : OwnReading most-program-text sheet text work-bytes program-room program-entries t = rw (w, i, s) at o in
     (ap line-of f, own-line sheet text t p)

@@ -6,8 +6,9 @@ use Prim.Native.Nat.{ℕ, _≤_, _+_, _*_}
 use lib.ListN.{length}
 use Rattle.stage1_sheet.specs.Sheet.{Sheet}
 use Rattle.stage3_normal_form.specs.Productions.{most-growth}
-use Rattle.stage5_image.specs.Compile.{work-bytes, compile}
-use Rattle.stage5_image.specs.Compiles.{Acceptable}
+use Rattle.stage5_image.specs.Check.{work-bytes}
+use Rattle.stage5_image.specs.Write.{write}
+use Rattle.stage5_image.specs.Writes.{Acceptable}
 use Rattle.stage6_machine.specs.Answer.{Answer}
 use Rattle.stage6_machine.specs.OwnAnswer.{OwnAnswer}
 use Rattle.stage7_engine.specs.declared.Line.{Line}
@@ -27,7 +28,7 @@ program-entries = 1 + most-growth * most-program-text
 
 -- "compiles before it looks at the text, and takes texts up to 2,048 bytes (longer: `text 12 0`)"
 unfoldable pub program-line : List ℕ → List ℕ → Line
-program-line sheet text = line-of (reading most-program-text (compile sheet work-bytes program-room) text program-entries)
+program-line sheet text = line-of (reading most-program-text (write sheet work-bytes program-room) text program-entries)
 
 -- For every sheet that demand 2 accepts, with whatever image buffer, and a text within the limit: the line of the sheet's own answer.
 pub record OwnLine (sheet text : List ℕ) (l : Line) : Type 0 where

@@ -10,7 +10,8 @@ use lib.Seq.{take-all, length-take-le}
 use borrow.Author.Tests.{lt-ltb}
 use Rattle.stage0_laws.specs.Order.{lt-or-le}
 use Rattle.stage1_sheet.specs.Limits.{most-sheet-bytes}
-use Rattle.stage5_image.specs.Compile.{work-bytes, Compiled, refused, too-long, compiled, compile}
+use Rattle.stage5_image.specs.Check.{work-bytes, failed, after-work, check}
+use Rattle.stage5_image.specs.Write.{Written, refused, too-long, written, after-checking, write}
 use Rattle.stage7_engine.specs.Reading.{answer-within, reading, line-of}
 use Rattle.stage7_engine.specs.Program.{most-program-text, program-room, program-entries, program-line}
 
@@ -22,23 +23,23 @@ module _ (limit : ℕ) (l : List ℕ) where
   cut-short : length l < suc limit → take (suc limit) l ≡ l
   cut-short h = take-all (suc limit) l (omega arith)
 
-loaded-sheet : (sheet : List ℕ) (room : ℕ) → compile (take (suc most-sheet-bytes) sheet) work-bytes room ≡ compile sheet work-bytes room
-unfolding compile
+loaded-sheet : (sheet : List ℕ) (room : ℕ) → write (take (suc most-sheet-bytes) sheet) work-bytes room ≡ write sheet work-bytes room
+unfolding write after-checking check after-work
 loaded-sheet sheet room = ⊎-elim
-    (λ h. ap (λ (l : List ℕ). compile l work-bytes room) (cut-short most-sheet-bytes sheet h))
+    (λ h. ap (λ (l : List ℕ). write l work-bytes room) (cut-short most-sheet-bytes sheet h))
     (λ h. long (take (suc most-sheet-bytes) sheet) (cut-long most-sheet-bytes sheet h) ∙ sym (long sheet (omega arith)))
     (lt-or-le (length sheet) (suc most-sheet-bytes))
   where
-    long : (l : List ℕ) → most-sheet-bytes < length l → compile l work-bytes room ≡ refused 2 0
+    long : (l : List ℕ) → most-sheet-bytes < length l → write l work-bytes room ≡ refused 2 0
     long l h = rw (lt-ltb most-sheet-bytes (length l) h)
 
-loaded-text : (c : Compiled) (text : List ℕ) (entries : ℕ)
+loaded-text : (c : Written) (text : List ℕ) (entries : ℕ)
     → reading most-program-text c (take (suc most-program-text) text) entries ≡ reading most-program-text c text entries
 unfolding reading answer-within
 loaded-text (refused number place) text entries = refl
 loaded-text (too-long needed) text entries = refl
-loaded-text (compiled image) text entries = ⊎-elim
-    (λ h. ap (λ (l : List ℕ). reading most-program-text (compiled image) l entries) (cut-short most-program-text text h))
+loaded-text (written image) text entries = ⊎-elim
+    (λ h. ap (λ (l : List ℕ). reading most-program-text (written image) l entries) (cut-short most-program-text text h))
     (λ h. rw (
       lt-ltb most-program-text (length (take (suc most-program-text) text)) (cut-long most-program-text text h),
       lt-ltb most-program-text (length text) (omega arith),
@@ -50,5 +51,5 @@ pub loaded-enough : (sheet text : List ℕ)
     → program-line (take (suc most-sheet-bytes) sheet) (take (suc most-program-text) text) ≡ program-line sheet text
 unfolding program-line
 loaded-enough sheet text = ap line-of
-    (ap (λ (c : Compiled). reading most-program-text c (take (suc most-program-text) text) program-entries) (loaded-sheet sheet program-room)
-    ∙ loaded-text (compile sheet work-bytes program-room) text program-entries)
+    (ap (λ (c : Written). reading most-program-text c (take (suc most-program-text) text) program-entries) (loaded-sheet sheet program-room)
+    ∙ loaded-text (write sheet work-bytes program-room) text program-entries)

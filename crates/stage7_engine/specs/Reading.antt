@@ -1,4 +1,4 @@
--- Reading a text by a sheet: compiling the sheet, then running its image over the text; and the line that the program prints.
+-- Reading a text by a sheet: writing the sheet's image, then running it over the text; and the line that the program prints.
 -- Demand 3 is stated of it: it gives the sheet's own answer.
 use mathlib.Core.Path.{_≡_}
 use mathlib.Core.Bool.{Bool, true, false, cond}
@@ -7,8 +7,9 @@ use Prim.Native.Nat.{ℕ, _≤_}
 use lib.Dec.{ltb, eqb}
 use lib.ListN.{length}
 use Rattle.stage1_sheet.specs.Sheet.{Sheet}
-use Rattle.stage5_image.specs.Compile.{work-bytes, Compiled, refused, too-long, compiled}
-use Rattle.stage5_image.specs.Compiles.{Acceptable}
+use Rattle.stage5_image.specs.Check.{work-bytes}
+use Rattle.stage5_image.specs.Write.{Written, refused, too-long, written}
+use Rattle.stage5_image.specs.Writes.{Acceptable}
 use Rattle.stage6_machine.specs.Answer.{Answer, answer}
 use Rattle.stage6_machine.specs.Run.{most-text-bytes, run, stack-after, long-enough}
 use Rattle.stage6_machine.specs.OwnAnswer.{OwnAnswer}
@@ -32,17 +33,17 @@ told (read.Text a) = text-answered (answer-held a)
 unfoldable pub answer-within : ℕ → List ℕ → List ℕ → ℕ → Answer
 answer-within limit image text entries = cond (ltb limit (length text)) (answer 12 0 0) (run image text entries)
 
--- After compiling, with a stack of so many entries.
-unfoldable pub reading : ℕ → Compiled → List ℕ → ℕ → Told
+-- After writing, with a stack of so many entries.
+unfoldable pub reading : ℕ → Written → List ℕ → ℕ → Told
 reading limit (refused number place) text entries = sheet-refused number place
 reading limit (too-long needed) text entries = sheet-refused 11 0
-reading limit (compiled image) text entries = text-answered (answer-within limit image text entries)
+reading limit (written image) text entries = text-answered (answer-within limit image text entries)
 
 -- The stack is untouched unless the image is run.
-unfoldable pub stack-after-reading : ℕ → Compiled → List ℕ → List ℕ → List ℕ
+unfoldable pub stack-after-reading : ℕ → Written → List ℕ → List ℕ → List ℕ
 stack-after-reading limit (refused number place) text stack = stack
 stack-after-reading limit (too-long needed) text stack = stack
-stack-after-reading limit (compiled image) text stack =
+stack-after-reading limit (written image) text stack =
     cond (ltb limit (length text)) stack (stack-after (run image text (length stack)) stack)
 
 -- "running the image fixed there over the text gives exactly the sheet's own answer": for every sheet that demand 2 accepts, a text

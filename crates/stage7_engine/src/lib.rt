@@ -1,9 +1,11 @@
-// The engine as one call: compiles a sheet and runs its image over a text. Its promise is the sheet's own answer.
-use stage5_image_compiler::Compiled;
+// The engine as one call: writes a sheet's image, which checks the sheet, and runs it over a text. Its promise is the sheet's own answer;
+// how an image is written and run is other crates' business.
+use stage5_image_compiler::Written;
 use stage6_machine_turn::RunAnswer;
 ghost use mathlib.Core.Path.{_≡_};
 ghost use lib.ListN.{length};
-ghost use Rattle.stage5_image.specs.Compile.{compile, image-after, work-after};
+ghost use Rattle.stage5_image.specs.Check.{work-after};
+ghost use Rattle.stage5_image.specs.Write.{write, image-after};
 ghost use Rattle.stage7_engine.specs.Reading.{told, reading, stack-after-reading, OwnReading, line-of};
 ghost use Rattle.stage7_engine.specs.Program.{program-line, OwnLine};
 
@@ -20,7 +22,7 @@ pub enum Line {
     Accepted(usize),
 }
 
-// Compiles a sheet and runs its image over a text of at most `limit` bytes. A longer text is 12, once the sheet has passed.
+// Writes a sheet's image and runs it over a text of at most `limit` bytes. A longer text is 12, once the sheet has passed.
 pub fn read_text(
     sheet: &[u8],
     text: &[u8],
@@ -30,21 +32,21 @@ pub fn read_text(
     stack: &mut [u8],
 ) -> TextRead
     ensures { λ r.
-        ⌜ (told r ≡ reading limit (compile (now (sheet .entry)) (length (now (work .entry))) (length (now (image .entry))))
+        ⌜ (told r ≡ reading limit (write (now (sheet .entry)) (length (now (work .entry))) (length (now (image .entry))))
         (now (text .entry)) (length (now (stack .entry))))
         × (now (image .exit) ≡ image-after
-        (compile (now (sheet .entry)) (length (now (work .entry))) (length (now (image .entry)))) (now (image .entry)))
+        (write (now (sheet .entry)) (length (now (work .entry))) (length (now (image .entry)))) (now (image .entry)))
         × (now (work .exit) ≡ work-after (now (work .entry)))
         × (now (stack .exit) ≡ stack-after-reading limit
-        (compile (now (sheet .entry)) (length (now (work .entry))) (length (now (image .entry)))) (now (text .entry)) (now (stack .entry)))
+        (write (now (sheet .entry)) (length (now (work .entry))) (length (now (image .entry)))) (now (text .entry)) (now (stack .entry)))
         × OwnReading limit (now (sheet .entry)) (now (text .entry)) (length (now (work .entry))) (length (now (image .entry)))
         (length (now (stack .entry))) (told r) ⌝ }
 {
-    let made = stage5_image_compiler::compile(sheet, work, image);
+    let made = stage5_image_compiler::write(sheet, work, image);
     match made {
-        Compiled::Refused(number, place) => TextRead::Sheet(number, place),
-        Compiled::TooLong(_) => TextRead::Sheet(11, 0),
-        Compiled::Done(size) => {
+        Written::Refused(number, place) => TextRead::Sheet(number, place),
+        Written::TooLong(_) => TextRead::Sheet(11, 0),
+        Written::Done(size) => {
             if limit < text.len() {
                 return TextRead::Text(RunAnswer {
                     number: 12,
@@ -82,7 +84,7 @@ const PROGRAM_WORK: usize = 65536;
 const PROGRAM_ROOM: usize = 65536;
 
 // What the program loads of each file: one byte more than is allowed tells that it is too long (`loaded-enough`).
-pub const LOADED_SHEET: usize = stage5_image_compiler::MOST_SHEET_BYTES + 1;
+pub const LOADED_SHEET: usize = stage5_image_checker::MOST_SHEET_BYTES + 1;
 
 pub const LOADED_TEXT: usize = MOST_PROGRAM_TEXT + 1;
 

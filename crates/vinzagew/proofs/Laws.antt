@@ -1,14 +1,19 @@
 -- What is left in `out` and in a buffer: where `out` is short, all as it was; else three stores, and what the engine leaves.
-use mathlib.Core.Path.{_≡_, refl, sym, ap, _∙_}
-use mathlib.Core.List.{List, [], _∷_, _++_}
+use mathlib.Core.Path.{_≡_, refl}
+use mathlib.Core.List.{List, [], _∷_}
 use Prim.Native.Nat.{ℕ, _≤_, _<_}
 use native.Mathlib.Omega.{arith}
 use lib.ListN.{length, drop, set}
 use borrow.Author.Tests.{lt-ltb, le-ltb}
-use Rattle.stage5_image_compiler.specs.Answer.{answer-of}
-use Rattle.stage5_image_compiler.specs.declared.Compiled.{Compiled}
-use Rattle.stage5_image_compiler.specs.declared.Compiled.the-variants.{Done, TooLong, Refused}
-use Rattle.vinzagew.specs.Out.{numbers-held, out-after, if-room}
+use Rattle.stage5_image.specs.Check.{check-numbers}
+use Rattle.stage5_image.specs.Write.{write-numbers}
+use Rattle.stage5_image_checker.specs.Answer as checker
+use Rattle.stage5_image_checker.specs.declared.Verdict.{Verdict}
+use Rattle.stage5_image_checker.specs.declared.Verdict.the-variants.{Passed, Failed}
+use Rattle.stage5_image_compiler.specs.Answer as compiler
+use Rattle.stage5_image_compiler.specs.declared.Written.{Written}
+use Rattle.stage5_image_compiler.specs.declared.Written.the-variants.{Done, TooLong, Refused}
+use Rattle.vinzagew.specs.Out.{out-after, if-room}
 
 three-stored : (l : List ℕ) (a b c : ℕ) → 3 ≤ length l → set (set (set l 0 a) 1 b) 2 c ≡ a ∷ b ∷ c ∷ drop 3 l
 three-stored [] a b c h = absurd (omega arith)
@@ -21,10 +26,9 @@ module _ (out : List ℕ) where
   unfolding out-after
   out-short numbers h = rw (lt-ltb (length out) 3 h)
 
-  pub out-long : (a b c : ℕ) {numbers : List ℕ} → a ∷ b ∷ c ∷ [] ≡ numbers → 3 ≤ length out
-      → set (set (set out 0 a) 1 b) 2 c ≡ out-after numbers out
+  pub out-long : (a b c : ℕ) → 3 ≤ length out → set (set (set out 0 a) 1 b) 2 c ≡ out-after (a ∷ b ∷ c ∷ []) out
   unfolding out-after
-  out-long a b c {numbers} e h = rw (le-ltb (length out) 3 h) (three-stored out a b c h ∙ ap (λ (l : List ℕ). l ++ drop 3 out) e)
+  out-long a b c h = rw (le-ltb (length out) 3 h) (three-stored out a b c h)
 
   pub same-short : (after buffer : List ℕ) → length out < 3 → buffer ≡ if-room out after buffer
   unfolding if-room
@@ -35,15 +39,23 @@ module _ (out : List ℕ) where
   after-long after buffer h = rw (le-ltb (length out) 3 h)
 
 -- The numbers of each case.
-pub held-done : (made : Compiled) (written : ℕ) → made ≡ Done written → numbers-held (record { number = 0; place = 0; length = written }) ≡ answer-of made
-unfolding numbers-held answer-of
-held-done made written e = rw e
+pub told-passed : (v : Verdict) → v ≡ Passed → 0 ∷ 0 ∷ 0 ∷ [] ≡ check-numbers (checker.answer-of v)
+unfolding check-numbers checker.answer-of
+told-passed v e = rw e
 
-pub held-long : (made : Compiled) (needed : ℕ) → made ≡ TooLong needed → numbers-held (record { number = 11; place = 0; length = needed }) ≡ answer-of made
-unfolding numbers-held answer-of
-held-long made needed e = rw e
+pub told-failed : (v : Verdict) (number place : ℕ) → v ≡ Failed number place → number ∷ place ∷ 0 ∷ [] ≡ check-numbers (checker.answer-of v)
+unfolding check-numbers checker.answer-of
+told-failed v number place e = rw e
 
-pub held-refused : (made : Compiled) (number place : ℕ) → made ≡ Refused number place
-    → numbers-held (record { number = number; place = place; length = 0 }) ≡ answer-of made
-unfolding numbers-held answer-of
-held-refused made number place e = rw e
+module _ (w : Written) where
+  pub told-done : (length : ℕ) → w ≡ Done length → 0 ∷ 0 ∷ length ∷ [] ≡ write-numbers (compiler.answer-of w)
+  unfolding write-numbers compiler.answer-of
+  told-done length e = rw e
+
+  pub told-long : (needed : ℕ) → w ≡ TooLong needed → 11 ∷ 0 ∷ needed ∷ [] ≡ write-numbers (compiler.answer-of w)
+  unfolding write-numbers compiler.answer-of
+  told-long needed e = rw e
+
+  pub told-refused : (number place : ℕ) → w ≡ Refused number place → number ∷ place ∷ 0 ∷ [] ≡ write-numbers (compiler.answer-of w)
+  unfolding write-numbers compiler.answer-of
+  told-refused number place e = rw e

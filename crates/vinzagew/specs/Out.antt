@@ -4,13 +4,12 @@ use mathlib.Core.List.{List, [], _∷_, _++_}
 use Prim.Native.Nat.{ℕ}
 use lib.Dec.{ltb}
 use lib.ListN.{length, drop}
-use Rattle.stage5_image.specs.Compile.{CompileAnswer}
 use Rattle.stage6_machine.specs.Answer.{Answer}
 use Rattle.vinzagew.specs.declared.Numbers.{Numbers}
 
--- The answer that three numbers hold.
-unfoldable pub numbers-held : Numbers → CompileAnswer
-numbers-held n = record { number = n .number; place = n .place; length = n .length }
+-- The three numbers, one after the other.
+unfoldable pub numbers-held : Numbers → List ℕ
+numbers-held n = n .number ∷ n .place ∷ n .amount ∷ []
 
 -- "Running returns number, place, tokens taken"
 unfoldable pub run-numbers : Answer → List ℕ

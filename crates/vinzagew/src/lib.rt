@@ -1,63 +1,103 @@
-// The library for other languages: the two functions of the engine with plain parameters. A buffer passes as a pointer and a
-// length. Nothing is worked out here.
-use stage5_image_compiler::Compiled;
+// The library for other languages: checking, writing and running with plain parameters. A buffer passes as a pointer and a length.
+// Nothing is worked out here.
+use stage5_image_checker::Verdict;
+use stage5_image_compiler::Written;
 ghost use mathlib.Core.Path.{_≡_};
+ghost use mathlib.Core.List.{[], _∷_};
+ghost use Prim.Native.Nat.{_≤_};
 ghost use lib.ListN.{length};
-ghost use Rattle.stage5_image.specs.Compile.{compile, compile-answer, answer-numbers, image-after, work-after};
+ghost use Rattle.stage5_image.specs.Check.{check, check-answer, check-numbers, work-after};
+ghost use Rattle.stage5_image.specs.Write.{write, write-answer, write-numbers, image-after};
+ghost use Rattle.stage5_image_checker.specs.Answer as checker;
+ghost use Rattle.stage5_image_compiler.specs.Answer as compiler;
 ghost use Rattle.stage6_machine.specs.Run.{run, stack-after};
-ghost use Rattle.stage5_image_compiler.specs.Answer.{answer-of};
 ghost use Rattle.vinzagew.specs.Out.{numbers-held, run-numbers, out-after, if-room};
 
-// Document 01's number, place and length for each way in which compiling ends.
+// The three numbers of an answer. The third is a length, a count of tokens, or 0 where there is neither.
 struct Numbers {
     number: u64,
     place: u64,
-    length: u64,
+    amount: u64,
 }
 
-fn numbers_of(made: Compiled) -> Numbers
-    ensures { λ r. ⌜ numbers-held r ≡ answer-of made ⌝ }
+fn three(number: u64, place: u64, amount: u64) -> Numbers
+    ensures { λ r. ⌜ numbers-held r ≡ number ∷ place ∷ amount ∷ [] ⌝ }
 {
-    match made {
-        Compiled::Done(written) => Numbers {
-            number: 0,
-            place: 0,
-            length: written as u64,
-        },
-        Compiled::TooLong(needed) => Numbers {
-            number: 11,
-            place: 0,
-            length: needed as u64,
-        },
-        Compiled::Refused(number, place) => Numbers {
-            number: number as u64,
-            place: place as u64,
-            length: 0,
-        },
+    Numbers {
+        number,
+        place,
+        amount,
     }
 }
 
-// Compiles a sheet into the image buffer, with a lent work area, and puts number, place and length into `out`. Where `out` has fewer
-// than three entries, nothing happens.
+// A verdict has no length.
+fn verdict_numbers(verdict: Verdict) -> Numbers
+    ensures { λ r. ⌜ numbers-held r ≡ check-numbers (checker.answer-of verdict) ⌝ }
+{
+    match verdict {
+        Verdict::Passed => three(0, 0, 0),
+        Verdict::Failed(number, place) => three(number as u64, place as u64, 0),
+    }
+}
+
+// Document 01's number, place and length for each way in which writing ends.
+fn written_numbers(written: Written) -> Numbers
+    ensures { λ r. ⌜ numbers-held r ≡ write-numbers (compiler.answer-of written) ⌝ }
+{
+    match written {
+        Written::Done(length) => three(0, 0, length as u64),
+        Written::TooLong(needed) => three(11, 0, needed as u64),
+        Written::Refused(number, place) => three(number as u64, place as u64, 0),
+    }
+}
+
+// Puts three numbers at the front of `out`, which has room for them.
+fn put(out: &mut [u64], told: Numbers)
+    requires { ⌜ 3 ≤ length (now out) ⌝ }
+    ensures { λ r. ⌜ now (out .exit) ≡ out-after (numbers-held told) (now (out .entry)) ⌝ }
+{
+    out[0] = told.number;
+    out[1] = told.place;
+    out[2] = told.amount;
+}
+
+// Checks a sheet, with a lent work area, and puts number, place and 0 into `out`. Where `out` has fewer than three entries, nothing
+// happens.
 #[no_mangle]
-pub extern "C" fn sheet_compile(sheet: &[u8], work: &mut [u8], image: &mut [u8], out: &mut [u64])
+pub extern "C" fn sheet_check(sheet: &[u8], work: &mut [u8], out: &mut [u64])
     ensures { λ r.
         ⌜ (now (out .exit) ≡ out-after
-        (answer-numbers (compile-answer (compile (now (sheet .entry)) (length (now (work .entry))) (length (now (image .entry))))))
+        (check-numbers (check-answer (check (now (sheet .entry)) (length (now (work .entry))))))
+        (now (out .entry)))
+        × (now (work .exit) ≡ if-room (now (out .entry)) (work-after (now (work .entry))) (now (work .entry))) ⌝ }
+{
+    if out.len() < 3 {
+        return;
+    }
+    let verdict = stage5_image_checker::check(sheet, work);
+    let told = verdict_numbers(verdict);
+    put(out, told);
+}
+
+// Checks a sheet and writes its image into the image buffer, with a lent work area, and puts number, place and length into `out`. Where
+// `out` has fewer than three entries, nothing happens.
+#[no_mangle]
+pub extern "C" fn sheet_write(sheet: &[u8], work: &mut [u8], image: &mut [u8], out: &mut [u64])
+    ensures { λ r.
+        ⌜ (now (out .exit) ≡ out-after
+        (write-numbers (write-answer (write (now (sheet .entry)) (length (now (work .entry))) (length (now (image .entry))))))
         (now (out .entry)))
         × (now (image .exit) ≡ if-room (now (out .entry))
-        (image-after (compile (now (sheet .entry)) (length (now (work .entry))) (length (now (image .entry)))) (now (image .entry)))
+        (image-after (write (now (sheet .entry)) (length (now (work .entry))) (length (now (image .entry)))) (now (image .entry)))
         (now (image .entry)))
         × (now (work .exit) ≡ if-room (now (out .entry)) (work-after (now (work .entry))) (now (work .entry))) ⌝ }
 {
     if out.len() < 3 {
         return;
     }
-    let made = stage5_image_compiler::compile(sheet, work, image);
-    let told = numbers_of(made);
-    out[0] = told.number;
-    out[1] = told.place;
-    out[2] = told.length;
+    let written = stage5_image_compiler::write(sheet, work, image);
+    let told = written_numbers(written);
+    put(out, told);
 }
 
 // Runs an image over a text with a lent stack, and puts number, place and count into `out`. Where `out` has fewer than three
@@ -76,7 +116,6 @@ pub extern "C" fn image_run(image: &[u8], text: &[u8], stack: &mut [u8], out: &m
         return;
     }
     let ran = stage6_machine_runner::run(image, text, stack);
-    out[0] = ran.number as u64;
-    out[1] = ran.place as u64;
-    out[2] = ran.count as u64;
+    let told = three(ran.number as u64, ran.place as u64, ran.count as u64);
+    put(out, told);
 }

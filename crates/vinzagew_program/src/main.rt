@@ -17,7 +17,7 @@ fn load(name: &[u8], buffer: &mut [u8]) -> usize
     count
 }
 
-// A word and a number, and another number where the line has one.
+// A word and two numbers, as a line.
 fn print_two(word: &[u8], number: u64, place: u64) {
     io::write_all(STDOUT_FILENO, word);
     io::print_decimal(STDOUT_FILENO, number);

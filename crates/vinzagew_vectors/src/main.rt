@@ -1,8 +1,9 @@
-// Outside vectors through the engine: reads the files `compile`, `read`, `run` and `program`, a case a line, and prints a line for each.
-// The lent buffers are filled with a pattern first, and each line also says whether they ended as they must. Nothing is promised
-// here: what compiling and running do is in the contracts of the crates that are called.
+// Outside vectors through the engine: reads the files `sheets` (checked, and then written), `read`, `run` and `program`, a case a line, and
+// prints a line for each. Lent buffers are filled with a pattern first, and a line also says whether they ended as they must. Nothing is
+// promised here: what checking, writing and running do is in the contracts of the crates that are called.
 use libc::STDOUT_FILENO;
-use stage5_image_compiler::Compiled;
+use stage5_image_checker::Verdict;
+use stage5_image_compiler::Written;
 use stage7_engine::Line;
 use stage7_engine::TextRead;
 ghost use Prim.Native.Nat.{_+_, _≤_, _<_};
@@ -14,7 +15,7 @@ const PATTERN: u8 = 165;
 // The most bytes that a field may have.
 const FIELD: usize = 8192;
 
-// The buffers, of which a case may lend a part; and how much of the work area compiling clears.
+// The buffers, of which a case may lend a part; and how much of the work area is cleared.
 const WORK: usize = 70000;
 
 const CLEARED: usize = 65536;
@@ -142,21 +143,24 @@ fn show_word(bytes: &[u8]) {
     io::write_all(STDOUT_FILENO, bytes);
 }
 
-// Three numbers with a blank between them.
-fn show_numbers(first: u64, second: u64, third: u64) {
+// Two numbers with a blank between them.
+fn show_pair(first: u64, second: u64) {
     io::print_decimal(STDOUT_FILENO, first);
     io::write_all(STDOUT_FILENO, b" ");
     io::print_decimal(STDOUT_FILENO, second);
+}
+
+// And three.
+fn show_numbers(first: u64, second: u64, third: u64) {
+    show_pair(first, second);
     io::write_all(STDOUT_FILENO, b" ");
     io::print_decimal(STDOUT_FILENO, third);
 }
 
 // A word and two numbers, as a line.
-fn show_pair(bytes: &[u8], first: u64, second: u64) {
+fn show_place(bytes: &[u8], first: u64, second: u64) {
     io::write_all(STDOUT_FILENO, bytes);
-    io::print_decimal(STDOUT_FILENO, first);
-    io::write_all(STDOUT_FILENO, b" ");
-    io::print_decimal(STDOUT_FILENO, second);
+    show_pair(first, second);
     io::write_all(STDOUT_FILENO, b"\n");
 }
 
@@ -231,18 +235,55 @@ fn buffers_right(number: u8, written: usize, work: &[u8], image: &[u8]) -> bool 
     false
 }
 
-// What compiling answered: number, place and length, and on success the image.
-fn show_compiled(made: Compiled, work: &[u8], image: &[u8]) {
-    match made {
-        Compiled::Refused(number, place) => {
+// What checking answered: number and place, and whether the work area ended as it must.
+fn show_verdict(verdict: Verdict, work: &[u8]) {
+    match verdict {
+        Verdict::Failed(number, place) => {
+            show_pair(number as u64, place as u64);
+            show_judgement(work_right(number, work));
+        }
+        Verdict::Passed => {
+            show_pair(0, 0);
+            show_judgement(work_right(0, work));
+        }
+    }
+}
+
+// Checks a sheet with the front of the work area. The buffer is an array here, so that its length is known from its type.
+fn check_with(sheet: &[u8], work_size: usize, work: &mut [u8; WORK]) {
+    let work: &mut [u8] = work;
+    if work.len() < work_size {
+        return;
+    }
+    let verdict = stage5_image_checker::check(sheet, &mut work[..work_size]);
+    show_verdict(verdict, work);
+}
+
+// A case: the length of the work area, that of the image buffer, and the sheet. Checking has no image buffer.
+fn check_case(text: &[u8], at: usize)
+    requires { ⌜ length (now text) ≤ 65536 ⌝ }
+{
+    let mut sheet = [0u8; FIELD];
+    let mut work = [PATTERN; WORK];
+    let image_at = after_blank(text, at);
+    let sheet_at = after_blank(text, image_at);
+    let work_size = decimal_field(text, at);
+    let sheet_size = bytes_field(text, sheet_at, &mut sheet);
+    check_with(&sheet[..sheet_size], work_size, &mut work);
+}
+
+// What writing answered: number, place and length, and on success the image.
+fn show_written(written: Written, work: &[u8], image: &[u8]) {
+    match written {
+        Written::Refused(number, place) => {
             show_numbers(number as u64, place as u64, 0);
             show_judgement(buffers_right(number, 0, work, image));
         }
-        Compiled::TooLong(needed) => {
+        Written::TooLong(needed) => {
             show_numbers(11, 0, needed as u64);
             show_judgement(buffers_right(11, 0, work, image));
         }
-        Compiled::Done(size) => {
+        Written::Done(size) => {
             show_numbers(0, 0, size as u64);
             show_front(image, size);
             show_judgement(buffers_right(0, size, work, image));
@@ -250,8 +291,8 @@ fn show_compiled(made: Compiled, work: &[u8], image: &[u8]) {
     }
 }
 
-// Compiles a sheet with the front of each buffer. As arrays the buffers have known lengths here, and nothing counts their bytes.
-fn compile_with(
+// Writes a sheet's image with the front of each buffer, which are arrays as above.
+fn write_with(
     sheet: &[u8],
     work_size: usize,
     image_size: usize,
@@ -266,16 +307,16 @@ fn compile_with(
     if image.len() < image_size {
         return;
     }
-    let made = stage5_image_compiler::compile(
+    let written = stage5_image_compiler::write(
         sheet,
         &mut work[..work_size],
         &mut image[..image_size],
     );
-    show_compiled(made, work, image);
+    show_written(written, work, image);
 }
 
-// A case: the length of the work area, that of the image buffer, and the sheet.
-fn compile_case(text: &[u8], at: usize)
+// A case, with the image buffer.
+fn write_case(text: &[u8], at: usize)
     requires { ⌜ length (now text) ≤ 65536 ⌝ }
 {
     let mut sheet = [0u8; FIELD];
@@ -286,7 +327,7 @@ fn compile_case(text: &[u8], at: usize)
     let work_size = decimal_field(text, at);
     let image_size = decimal_field(text, image_at);
     let sheet_size = bytes_field(text, sheet_at, &mut sheet);
-    compile_with(
+    write_with(
         &sheet[..sheet_size],
         work_size,
         image_size,
@@ -351,7 +392,7 @@ fn run_longest(input: &[u8; 1048576]) {
     run_with(b"", input, STACK, &mut stack);
 }
 
-// Has the engine read a text by a sheet. The buffers are arrays for the same reason.
+// Has the engine read a text by a sheet. The buffers are arrays, so that their lengths are known from their types.
 fn read_with(
     sheet: &[u8],
     input: &[u8],
@@ -413,8 +454,8 @@ fn program_case(text: &[u8], at: usize) -> Line
 
 fn show_line(line: Line) {
     match line {
-        Line::Sheet(number, place) => show_pair(b"sheet ", number as u64, place as u64),
-        Line::Text(number, place) => show_pair(b"text ", number as u64, place as u64),
+        Line::Sheet(number, place) => show_place(b"sheet ", number as u64, place as u64),
+        Line::Text(number, place) => show_place(b"text ", number as u64, place as u64),
         Line::Accepted(count) => {
             show_word(b"accepted ");
             io::print_decimal(STDOUT_FILENO, count as u64);
@@ -425,7 +466,8 @@ fn show_line(line: Line) {
 
 // The files, and what a line of each asks for.
 enum Kind {
-    Compile,
+    Check,
+    Write,
     Read,
     Run,
     Program,
@@ -435,7 +477,8 @@ fn show_case(kind: Kind, text: &[u8], at: usize)
     requires { ⌜ length (now text) ≤ 65536 ⌝ }
 {
     match kind {
-        Kind::Compile => compile_case(text, at),
+        Kind::Check => check_case(text, at),
+        Kind::Write => write_case(text, at),
         Kind::Read => show_read(read_case(text, at)),
         Kind::Run => run_case(text, at),
         Kind::Program => show_line(program_case(text, at)),
@@ -466,7 +509,8 @@ fn show_file(kind: Kind, name: &[u8]) {
 }
 
 fn main() {
-    show_file(Kind::Compile, b"compile");
+    show_file(Kind::Check, b"sheets");
+    show_file(Kind::Write, b"sheets");
     show_file(Kind::Read, b"read");
     show_file(Kind::Run, b"run");
     run_too_long(&[0u8; 1048577]);

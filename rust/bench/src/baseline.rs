@@ -161,22 +161,16 @@ fn walk(tables: &Tables, text: &[u8], stack: &mut [u8]) -> ([usize; 3], usize) {
 #[cfg(test)]
 mod tests {
     use super::*;
-    use crate::grammars;
-    use vinzagew_reference::{image_of, stack_length};
+    use crate::{grammars, image_bytes};
+    use vinzagew_reference::stack_length;
 
-    /// The grammars are accepted, and the baseline and the reference agree on their texts, whole, cut
+    /// The grammars' sheets pass, and the baseline and the reference agree on their texts, whole, cut
     /// off and damaged, on stacks long and short.
     #[test]
     fn baseline_and_reference_agree() {
         let pairs = grammars::pairs().into_iter().flatten();
         for grammar in grammars::all().into_iter().chain(pairs) {
-            let image = match image_of(grammar.sheet.as_bytes()) {
-                Ok(image) => image.to_bytes(),
-                Err(refusal) => {
-                    let part = grammar.sheet.locate(refusal.place);
-                    panic!("{}: {refusal:?}: {part}", grammar.name)
-                }
-            };
+            let image = image_bytes(&grammar);
             let agree = |text: &[u8], room: usize| {
                 let mut stack = vec![0xa5; room];
                 let found = run(&image, text, &mut stack);

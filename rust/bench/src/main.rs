@@ -1,18 +1,27 @@
-//! Measures compiling and running beside plain Rust code, in the same process, and prints Markdown.
+//! Measures checking, writing and running beside plain Rust code, in the same process, and prints
+//! Markdown.
 //!
 //! `cargo run --release --bin bench`. Running is measured on texts of up to 1 MiB that are accepted, and
-//! compared with [`baseline`]. Compiling is compared with the reference implementation, which works on
-//! vectors. All buffers are lent and stay the same from round to round; both sides clear them as the
-//! contract says, and this time counts. Each figure is the median of several rounds, in which the two
-//! sides take turns; so do the two spellings of a grammar, with fixed points and with repetitions.
+//! compared with [`baseline`]. Checking is compared with [`plain_check`], and writing with the reference
+//! implementation, which works on vectors. All buffers are lent and stay the same from round to round;
+//! both sides clear them as the contract says, and this time counts. Each figure is the median of several
+//! rounds, in which the two sides take turns; so do the two spellings of a grammar, with fixed points and
+//! with repetitions.
 
 mod baseline;
+#[cfg(test)]
+#[path = "../../tests/common/mod.rs"]
+mod common;
 mod grammars;
+mod plain_check;
+mod sheets;
 
 use grammars::Grammar;
+use sheets::Case;
 use std::time::{Duration, Instant};
 use vinzagew::{
-    compile_into, run_with, stack_length, IMAGE_BYTES, LIBRARY_LINKED, TEXT_LIMIT, WORK_BYTES,
+    check_with, run_with, stack_length, write_into, IMAGE_BYTES, LIBRARY_LINKED, TEXT_LIMIT,
+    WORK_BYTES,
 };
 use vinzagew_reference::image::Image;
 
@@ -26,12 +35,10 @@ fn black_box<T: Copy>(value: T) -> T {
 }
 
 fn main() {
-    let mut work = vec![0; WORK_BYTES];
-    let mut image = vec![0; IMAGE_BYTES];
     let mut stack = vec![0; stack_length(TEXT_LIMIT)];
     let grammars = grammars::all();
     if !LIBRARY_LINKED {
-        println!("The library was not linked: only the baseline is measured.\n");
+        println!("The library was not linked: only the other side is measured.\n");
     }
 
     println!("Running, {ROUNDS} rounds, median:\n");
@@ -48,13 +55,14 @@ fn main() {
         pair_row(pair, &mut stack);
     }
 
-    println!("\nCompiling, {ROUNDS} rounds, median:\n");
-    println!(
-        "| Grammar | Sheet bytes | Library, µs | Reference, µs | Library time / reference time |"
-    );
-    println!("|---|---|---|---|---|");
-    for grammar in &grammars {
-        compile_row(grammar, &mut work, &mut image);
+    println!("\nChecking and writing, {ROUNDS} rounds, median:\n");
+    println!("| Grammar | Sheet bytes | Check: library, µs | Check: plain Rust, µs | Library time / plain time | Write: library, µs | Write: reference, µs | Library time / reference time |");
+    println!("|---|---|---|---|---|---|---|---|");
+    let mut work = vec![0; WORK_BYTES];
+    let mut image = vec![0; IMAGE_BYTES];
+    for case in &sheets::all() {
+        same_verdicts(case, &mut work);
+        sheet_row(case, &mut work, &mut image);
     }
 }
 
@@ -94,7 +102,7 @@ fn run_figures(grammars: &[Grammar], stack: &mut [u8]) -> Vec<Figures> {
         .map(|index| Figures {
             image_bytes: images[index].len(),
             positions: Image::read(&images[index])
-                .expect("compiled")
+                .expect("written")
                 .positions
                 .len(),
             tokens: tokens[index],
@@ -104,11 +112,15 @@ fn run_figures(grammars: &[Grammar], stack: &mut [u8]) -> Vec<Figures> {
         .collect()
 }
 
+/// The image of a grammar, by the reference.
 fn image_bytes(grammar: &Grammar) -> Vec<u8> {
-    match vinzagew_reference::image_of(grammar.sheet.as_bytes()) {
-        Ok(image) => image.to_bytes(),
-        Err(refusal) => panic!("{}: {refusal:?}", grammar.name),
-    }
+    let mut work = vec![0; WORK_BYTES];
+    let mut image = vec![0; IMAGE_BYTES];
+    let written = vinzagew_reference::write(grammar.sheet.as_bytes(), &mut work, &mut image);
+    let part = grammar.sheet.locate(written.place);
+    assert_eq!(written.number, 0, "{}: {part}", grammar.name);
+    image.truncate(written.length);
+    image
 }
 
 /// The tokens of the grammar's text, which both sides must accept.
@@ -161,30 +173,64 @@ fn pair_row(pair: &[Grammar; 2], stack: &mut [u8]) {
     );
 }
 
-fn compile_row(grammar: &Grammar, work: &mut [u8], image: &mut [u8]) {
+/// All sides say of a sheet what is expected of it.
+fn same_verdicts(case: &Case, work: &mut [u8]) {
+    let sheet = case.sheet.as_bytes();
+    let expected = match vinzagew_reference::check(sheet, work) {
+        Ok(_) => [0, 0],
+        Err(refusal) => [refusal.number as usize, refusal.place],
+    };
+    assert_eq!(expected[0], case.number, "{}", case.name);
+    assert_eq!(plain_check::check(sheet, work), expected, "{}", case.name);
+    if LIBRARY_LINKED {
+        let found = match check_with(sheet, work) {
+            Ok(()) => [0, 0],
+            Err(refusal) => [refusal.number as usize, refusal.place],
+        };
+        assert_eq!(found, expected, "{}", case.name);
+    }
+}
+
+/// The times of checking by the library and in plain Rust, and of writing by the library and the
+/// reference; in each round they take turns.
+fn sheet_times(sheet: &[u8], work: &mut [u8], image: &mut [u8]) -> [Option<Duration>; 4] {
     const REPEATS: u32 = 200;
-    let sheet = grammar.sheet.as_bytes();
-    let mut own = Vec::new();
-    let mut other = Vec::new();
+    let mut times = [(); 4].map(|()| Vec::new());
     for _ in 0..ROUNDS {
         if LIBRARY_LINKED {
-            own.push(time(REPEATS, || {
-                black_box(compile_into(black_box(sheet), work, image)).ok();
+            times[0].push(time(REPEATS, || {
+                black_box(check_with(black_box(sheet), work)).ok();
             }));
         }
-        other.push(time(REPEATS, || {
-            black_box(vinzagew_reference::compile(black_box(sheet), work, image));
+        times[1].push(time(REPEATS, || {
+            black_box(plain_check::check(black_box(sheet), work));
+        }));
+        if LIBRARY_LINKED {
+            times[2].push(time(REPEATS, || {
+                black_box(write_into(black_box(sheet), work, image)).ok();
+            }));
+        }
+        times[3].push(time(REPEATS, || {
+            black_box(vinzagew_reference::write(black_box(sheet), work, image));
         }));
     }
-    let (own, other) = (median(&mut own), median(&mut other));
-    let microseconds = |time: Duration| time.as_secs_f64() * 1e6;
+    times.map(|mut times| median(&mut times))
+}
+
+fn sheet_row(case: &Case, work: &mut [u8], image: &mut [u8]) {
+    let sheet = case.sheet.as_bytes();
+    let [check, plain, write, reference] = sheet_times(sheet, work, image);
+    let microseconds = |time: Option<Duration>| shown(time.map(|time| time.as_secs_f64() * 1e6));
     println!(
-        "| {} | {} | {} | {} | {} |",
-        grammar.name,
+        "| {} | {} | {} | {} | {} | {} | {} | {} |",
+        case.name,
         sheet.len(),
-        shown(own.map(microseconds)),
-        shown(other.map(microseconds)),
-        shown(ratio(own, other)),
+        microseconds(check),
+        microseconds(plain),
+        shown(ratio(check, plain)),
+        microseconds(write),
+        microseconds(reference),
+        shown(ratio(write, reference)),
     );
 }
 

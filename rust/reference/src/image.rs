@@ -28,7 +28,7 @@ pub struct Row {
     pub productions: Vec<(usize, Vec<usize>)>,
 }
 
-/// The image of a sheet that passed questions 3 to 10.
+/// The image of a sheet that passed checking.
 pub fn fuse(sheet: &Sheet) -> Image {
     let (positions, first) = positions(sheet);
     let grammar = normal_form(&sheet.nodes);

@@ -1,24 +1,26 @@
-//! A plain implementation of compiling sheets and running images.
+//! A plain implementation of checking sheets, writing their images and running images.
 //!
-//! It was written from the contract (document 01 with request 1 of document 02) alone, without a look at
-//! the proved code, and it is made to be read, not to be fast. Its two main functions, [`sheet_compile`]
-//! and [`image_run`], have the same results and the same effects on every buffer as the functions of the
-//! static library, so that the two can be compared to the last byte.
+//! It was written from the contract (document 01 with requests 1 and 2 of document 02) alone, without a
+//! look at the proved code, and it is made to be read, not to be fast. Its three main functions,
+//! [`sheet_check`], [`sheet_write`] and [`image_run`], have the same results and the same effects on
+//! every buffer as the functions of the static library, so that the two can be compared to the last byte.
 //!
 //! [`answer()`] works out the sheet's own answer in another way: from the words of the regexes and from
 //! what the expression denotes, with no image and no machine.
 //!
 //! ```
-//! use vinzagew_reference::{compile, run, stack_length};
+//! use vinzagew_reference::{check, run, stack_length, write};
 //!
 //! let sheet = [
 //!     1, 2, 3, 1, 2, 1, 48, 57, 4, 1, 48, 57, 2, 1, 47, 47, 0, 1, 32, 32, 3, 2, 0, 5, 4, 0, 3, 2, 1,
 //!     3, 2, 0, 6, 0,
 //! ];
 //! let mut work = vec![0; 65_536];
+//! assert!(check(&sheet, &mut work).is_ok());
+//!
 //! let mut image = vec![0; 65_536];
-//! let compiled = compile(&sheet, &mut work, &mut image);
-//! assert_eq!((compiled.number, compiled.place, compiled.length), (0, 0, 48));
+//! let written = write(&sheet, &mut work, &mut image);
+//! assert_eq!((written.number, written.place, written.length), (0, 0, 48));
 //!
 //! let text = b"12 /7";
 //! let mut stack = vec![0; stack_length(text.len())];
@@ -41,7 +43,6 @@ pub mod types;
 pub use answer::answer;
 pub use machine::{image_run, run, Ran};
 
-use image::Image;
 use sheet::Sheet;
 
 /// The bytes that the work area must have at least, and that end as zero.
@@ -71,9 +72,9 @@ pub struct Refusal {
     pub place: usize,
 }
 
-/// What compiling returns.
+/// What writing returns.
 #[derive(Clone, Copy, Debug, PartialEq, Eq)]
-pub struct Compiled {
+pub struct Written {
     /// 0 for success, otherwise the number of the question.
     pub number: u64,
     /// The place that the refusal names, otherwise 0.
@@ -82,41 +83,39 @@ pub struct Compiled {
     pub length: usize,
 }
 
-/// Questions 3 to 10: reads and checks a sheet, and gives the image that it compiles to.
+/// Checks a sheet: questions 1 to 10, with all effects on the work area. Nothing is made that only an
+/// image has. A sheet that passes is given in parts, of which [`image::fuse`] makes the image.
 ///
 /// # Errors
 ///
 /// The first question that is answered with no.
-pub fn image_of(bytes: &[u8]) -> Result<Image, Refusal> {
-    let sheet = Sheet::read(bytes)?;
+pub fn check(sheet: &[u8], work: &mut [u8]) -> Result<Sheet, Refusal> {
+    let refused = |number| Err(Refusal { number, place: 0 });
+    match work.get_mut(..WORK_BYTES) {
+        Some(front) => front.fill(0),
+        None => return refused(1),
+    }
+    if sheet.len() > SHEET_LIMIT {
+        return refused(2);
+    }
+    let sheet = Sheet::read(sheet)?;
     lexer::check(&sheet)?;
     types::check(&sheet.nodes)?;
-    Ok(image::fuse(&sheet))
+    Ok(sheet)
 }
 
-/// Compiles a sheet: questions 1 to 11, with all effects on the work area and the image buffer.
-pub fn compile(sheet: &[u8], work: &mut [u8], image: &mut [u8]) -> Compiled {
-    let refused = |refusal: Refusal| Compiled {
-        number: refusal.number,
-        place: refusal.place,
-        length: 0,
-    };
-    if work.len() < WORK_BYTES {
-        return refused(Refusal {
-            number: 1,
-            place: 0,
-        });
-    }
-    work[..WORK_BYTES].fill(0);
-    if sheet.len() > SHEET_LIMIT {
-        return refused(Refusal {
-            number: 2,
-            place: 0,
-        });
-    }
-    let bytes = match image_of(sheet) {
-        Ok(image) => image.to_bytes(),
-        Err(refusal) => return refused(refusal),
+/// Writes a sheet's image: checks the sheet, whatever was checked before, then puts question 11, with all
+/// effects on the work area and the image buffer.
+pub fn write(sheet: &[u8], work: &mut [u8], image: &mut [u8]) -> Written {
+    let bytes = match check(sheet, work) {
+        Ok(sheet) => image::fuse(&sheet).to_bytes(),
+        Err(Refusal { number, place }) => {
+            return Written {
+                number,
+                place,
+                length: 0,
+            }
+        }
     };
     let number = match image.get_mut(..bytes.len()) {
         Some(front) => {
@@ -125,21 +124,32 @@ pub fn compile(sheet: &[u8], work: &mut [u8], image: &mut [u8]) -> Compiled {
         }
         None => 11,
     };
-    Compiled {
+    Written {
         number,
         place: 0,
         length: bytes.len(),
     }
 }
 
-/// [`compile`] with the results of the C interface: number, place and length in `out[0..3]`.
+/// [`check`] with the results of the C interface: number, place and 0 in `out[0..3]`.
 ///
 /// An `out` shorter than 3 is left untouched, and nothing else happens.
-pub fn sheet_compile(sheet: &[u8], work: &mut [u8], image: &mut [u8], out: &mut [u64]) {
+pub fn sheet_check(sheet: &[u8], work: &mut [u8], out: &mut [u64]) {
     if let Some(out) = out.get_mut(..3) {
-        let compiled = compile(sheet, work, image);
-        out[0] = compiled.number;
-        out[1] = compiled.place as u64;
-        out[2] = compiled.length as u64;
+        let (number, place) = match check(sheet, work) {
+            Ok(_) => (0, 0),
+            Err(refusal) => (refusal.number, refusal.place),
+        };
+        out.copy_from_slice(&[number, place as u64, 0]);
+    }
+}
+
+/// [`write`](write()) with the results of the C interface: number, place and length in `out[0..3]`.
+///
+/// An `out` shorter than 3 is left untouched, and nothing else happens.
+pub fn sheet_write(sheet: &[u8], work: &mut [u8], image: &mut [u8], out: &mut [u64]) {
+    if let Some(out) = out.get_mut(..3) {
+        let written = write(sheet, work, image);
+        out.copy_from_slice(&[written.number, written.place as u64, written.length as u64]);
     }
 }

@@ -1,7 +1,7 @@
-//! The contract's worked cases, and those of request 1 of document 02: no random ones.
+//! The contract's worked cases, and those of requests 1 and 2 of document 02: no random ones.
 
 use vinzagew_reference::sheet::Sheet;
-use vinzagew_reference::{answer, compile, run, stack_length, Compiled, Ran};
+use vinzagew_reference::{answer, check, run, stack_length, write, Ran, Refusal, Written};
 
 /// Sheet D's bytes before its expression.
 const RULES: [u8; 20] = [
@@ -19,15 +19,25 @@ fn with_rules(expression: &[u8]) -> Vec<u8> {
     [&RULES[..], expression].concat()
 }
 
-fn compiled(sheet: &[u8]) -> (Compiled, Vec<u8>) {
+/// The verdict of checking: number and place, both 0 if the sheet passes.
+fn verdict(sheet: &[u8]) -> (u64, usize) {
+    match check(sheet, &mut vec![0xa5; 65_536]) {
+        Ok(_) => (0, 0),
+        Err(Refusal { number, place }) => (number, place),
+    }
+}
+
+/// What writing returns into a long buffer, which is what checking says, and the image.
+fn written(sheet: &[u8]) -> (Written, Vec<u8>) {
     let mut image = vec![0xa5; 65_536];
-    let result = compile(sheet, &mut vec![0xa5; 65_536], &mut image);
+    let result = write(sheet, &mut vec![0xa5; 65_536], &mut image);
+    assert_eq!(verdict(sheet), (result.number, result.place));
     image.truncate(if result.number == 0 { result.length } else { 0 });
     (result, image)
 }
 
 fn read(sheet: &[u8], text: &[u8]) -> (u64, usize, usize) {
-    let (result, image) = compiled(sheet);
+    let (result, image) = written(sheet);
     assert_eq!(result.number, 0);
     let ran = run(&image, text, &mut vec![0xa5; stack_length(text.len())]);
     assert_eq!(answer(&Sheet::read(sheet).unwrap(), text), ran);
@@ -35,7 +45,7 @@ fn read(sheet: &[u8], text: &[u8]) -> (u64, usize, usize) {
 }
 
 fn refusal(expression: &[u8]) -> (u64, usize) {
-    let (result, _) = compiled(&with_rules(expression));
+    let (result, _) = written(&with_rules(expression));
     assert_eq!(result.length, 0);
     (result.number, result.place)
 }
@@ -43,7 +53,7 @@ fn refusal(expression: &[u8]) -> (u64, usize) {
 #[test]
 fn sheet_d_and_its_readings() {
     let sheet = with_rules(&EXPRESSION);
-    assert_eq!(compiled(&sheet).1, IMAGE);
+    assert_eq!(written(&sheet).1, IMAGE);
     assert_eq!(read(&sheet, b"12 /7"), (0, 5, 3));
     assert_eq!(read(&sheet, b"12/7"), (0, 4, 3));
     assert_eq!(read(&sheet, b""), (16, 0, 0));
@@ -63,7 +73,7 @@ fn other_expressions() {
     assert_eq!(refusal(&[4, 3, 2, 0, 1, 2, 0]), (10, 20));
     let ends_in = |token| [3, 3, 2, 1, 5, 4, 0, 3, 2, 0, 6, 0, 2, token];
     assert_eq!(refusal(&ends_in(0)), (9, 20));
-    assert_eq!(compiled(&with_rules(&ends_in(1))).0.number, 0);
+    assert_eq!(written(&with_rules(&ends_in(1))).0.number, 0);
 }
 
 /// Request 1 of document 02: tag 7.
@@ -72,7 +82,7 @@ fn repetitions_and_their_readings() {
     // N·(S·N)*
     let sheet = with_rules(&[3, 2, 0, 7, 3, 2, 1, 2, 0]);
     let rows = [3, 0, 1, 0, 1, 1, 1, 1, 1, 2, 2, 1, 0, 1, 0, 0];
-    assert_eq!(compiled(&sheet).1, [&IMAGE[..27], &rows].concat());
+    assert_eq!(written(&sheet).1, [&IMAGE[..27], &rows].concat());
     assert_eq!(read(&sheet, b"12/7"), (0, 4, 3));
     assert_eq!(read(&sheet, b"12//7"), (15, 3, 2));
     assert_eq!(read(&sheet, b"12/"), (16, 3, 2));
@@ -80,21 +90,21 @@ fn repetitions_and_their_readings() {
     // (N)*, whose tail is the start
     let sheet = with_rules(&[7, 2, 0]);
     let rows = [1, 1, 1, 0, 1, 0];
-    assert_eq!(compiled(&sheet).1, [&IMAGE[..27], &rows].concat());
+    assert_eq!(written(&sheet).1, [&IMAGE[..27], &rows].concat());
     assert_eq!(read(&sheet, b""), (0, 0, 0));
     assert_eq!(read(&sheet, b"1 2 3"), (0, 5, 3));
     assert_eq!(read(&sheet, b"1 2/"), (15, 3, 2));
 
     // (⊥)*
     let sheet = with_rules(&[7, 1]);
-    assert_eq!(compiled(&sheet).1, [&IMAGE[..27], &[1, 1, 0]].concat());
+    assert_eq!(written(&sheet).1, [&IMAGE[..27], &[1, 1, 0]].concat());
     assert_eq!(read(&sheet, b" "), (0, 1, 0));
     assert_eq!(read(&sheet, b"1"), (15, 0, 0));
 
     // N·(⊥)*: the repetition derives the empty sequence, so the production of N stays
     let sheet = with_rules(&[3, 2, 0, 7, 1]);
     let rows = [2, 0, 1, 0, 1, 1, 1, 0];
-    assert_eq!(compiled(&sheet).1, [&IMAGE[..27], &rows].concat());
+    assert_eq!(written(&sheet).1, [&IMAGE[..27], &rows].concat());
     assert_eq!(read(&sheet, b"1"), (0, 1, 1));
 }
 
@@ -128,7 +138,7 @@ fn a_repetition_is_no_fixed_point_in_the_count() {
 
 #[test]
 fn an_expression_that_denotes_nothing() {
-    let (result, image) = compiled(&with_rules(&[5, 3, 2, 0, 6, 0]));
+    let (result, image) = written(&with_rules(&[5, 3, 2, 0, 6, 0]));
     assert_eq!(result.number, 0);
     assert_eq!(image[27..], [1, 0, 0]);
 }
@@ -141,24 +151,55 @@ fn limits() {
         expression
     };
     // Each pair is two nodes, and the end two more.
-    assert_eq!(compiled(&with_rules(&sequence(31))).0.number, 0);
+    assert_eq!(written(&with_rules(&sequence(31))).0.number, 0);
     assert_eq!(refusal(&sequence(32)), (5, 20 + 32 * 3));
     let repetition = |pairs: usize| [&[7], &[3, 2, 0].repeat(pairs)[..], &[2, 0]].concat();
-    assert_eq!(compiled(&with_rules(&repetition(31))).0.number, 0);
+    assert_eq!(written(&with_rules(&repetition(31))).0.number, 0);
     assert_eq!(refusal(&repetition(32)), (5, 20 + 1 + 31 * 3 + 1));
 
     let sheet = with_rules(&EXPRESSION);
     let mut image = [0xa5; 47];
-    let result = compile(&sheet, &mut [0xa5; 65_536], &mut image);
+    let result = write(&sheet, &mut [0xa5; 65_536], &mut image);
     assert_eq!((result.number, result.place, result.length), (11, 0, 48));
     assert_eq!(image, [0xa5; 47]);
+    assert_eq!(verdict(&sheet), (0, 0));
     let refused = Ran {
         number: 17,
         place: 0,
         tokens: 0,
     };
     assert_eq!(run(&IMAGE, b"12/7", &mut []), refused);
-    assert_eq!(compiled(&[0x80, 0x00]).0.number, 3);
+    assert_eq!(written(&[0x80, 0x00]).0.number, 3);
+}
+
+/// Both leave the work area alike, on every outcome; neither trusts what was done before.
+#[test]
+fn checking_and_writing_share_a_work_area() {
+    let good = with_rules(&EXPRESSION);
+    let bad = with_rules(&[4, 2, 0, 2, 0]);
+    let mut work = vec![0xa5; 65_540];
+    let left = |work: &[u8]| {
+        assert!(work[..65_536].iter().all(|&byte| byte == 0));
+        assert_eq!(work[65_536..], [0xa5; 4]);
+    };
+    assert!(check(&good, &mut work).is_ok());
+    left(&work);
+    let mut image = [0xa5; 48];
+    let result = write(&bad, &mut work, &mut image);
+    assert_eq!((result.number, result.place, result.length), (10, 20, 0));
+    assert_eq!(image, [0xa5; 48]);
+    left(&work);
+    assert!(check(&bad, &mut work).is_err());
+    left(&work);
+    assert_eq!(write(&good, &mut work, &mut image).number, 0);
+    assert_eq!(image, IMAGE);
+    left(&work);
+
+    let mut short = vec![0xa5; 65_535];
+    let refusal = check(&good, &mut short).unwrap_err();
+    assert_eq!((refusal.number, refusal.place), (1, 0));
+    assert_eq!(write(&good, &mut short, &mut image).number, 1);
+    assert_eq!(short, [0xa5; 65_535]);
 }
 
 #[test]
@@ -183,8 +224,8 @@ fn follow_last_of_the_left_part_counts() {
         1, 3, 3, 1, 1, 97, 97, 2, 1, 98, 98, 3, 1, 99, 99, 3, 3, 3, 2, 0, 4, 0, 2, 1, 4, 0, 2, 2, 2,
     ];
     let sheet = |last| [&rules[..], &[last]].concat();
-    let (result, _) = compiled(&sheet(1));
+    let (result, _) = written(&sheet(1));
     assert_eq!((result.number, result.place), (9, 15));
-    assert_eq!(compiled(&sheet(0)).0.number, 0);
+    assert_eq!(written(&sheet(0)).0.number, 0);
     assert_eq!(read(&sheet(0), b"abca"), (0, 4, 4));
 }

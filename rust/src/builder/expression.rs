@@ -179,7 +179,7 @@ impl Expression {
     /// variables count past it.
     ///
     /// This must be separable from itself: it must not be nullable, and no token that may follow its last
-    /// token may begin it. Compiling refuses any other with 9 at the repetition.
+    /// token may begin it. Checking refuses any other with 9 at the repetition.
     ///
     /// ```
     /// # use vinzagew::builder::{Regex, SheetBuilder};

@@ -1,11 +1,12 @@
 //! Writes sheets as Rust code.
 //!
 //! A [`SheetBuilder`] takes tokens and rules and, at the end, one expression; a [`Sheet`] then has the
-//! bytes for [`compile`](crate::compile). The builder computes the numbers of variables, and it leads
-//! from the place of a refusal back to the part that was written there: see [`Sheet::locate`].
+//! bytes for [`check`](crate::check) and [`write`](crate::write()). The builder computes the numbers of
+//! variables, and it leads from the place of a refusal back to the part that was written there: see
+//! [`Sheet::locate`].
 //!
 //! The builder refuses only what cannot be written down, a variable outside its fixed point. Limits,
-//! value ranges and types are the compiler's business.
+//! value ranges and types are the business of checking.
 //!
 //! ```
 //! use vinzagew::builder::{Regex, SheetBuilder};

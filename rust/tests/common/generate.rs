@@ -1,4 +1,7 @@
 //! Random sheets, images and texts, valid and damaged.
+//!
+//! Nothing is called and nothing is compared here. What a sheet is made to be, such as one that passes
+//! checking, is only a promise of its function: the tests see whether it is kept.
 
 use super::random::Random;
 use vinzagew::builder::{Expression, Regex, Sheet, SheetBuilder, Token};
@@ -6,6 +9,7 @@ use vinzagew::TAIL_LIMIT;
 use vinzagew_reference::image::{Image, Row};
 use vinzagew_reference::lexer::Position;
 use vinzagew_reference::number;
+use vinzagew_reference::sheet::{CLASS_LIMIT, NODE_LIMIT, REGEX_NODE_LIMIT};
 
 /// The bytes that most classes are made of: few, so that rules compete.
 const ALPHABET: &[u8] = b"abc01/ ";
@@ -335,13 +339,13 @@ impl Typed<'_> {
     }
 }
 
-/// A sheet that compiling accepts.
-pub fn accepted_sheet(random: &mut Random) -> Sheet {
+/// A sheet that passes checking.
+pub fn passing_sheet(random: &mut Random) -> Sheet {
     typed_sheet(random, false)
 }
 
-/// A sheet that compiling would accept but for few nodes, if any.
-pub fn nearly_accepted_sheet(random: &mut Random) -> Sheet {
+/// A sheet that would pass checking but for few nodes, if any.
+pub fn nearly_passing_sheet(random: &mut Random) -> Sheet {
     typed_sheet(random, true)
 }
 
@@ -349,9 +353,20 @@ fn typed_sheet(random: &mut Random, slips: bool) -> Sheet {
     let (builder, tokens) = rules(random);
     let size = match random.below(4) {
         0 => random.range(1, 8),
-        1 => 64,
+        1 => NODE_LIMIT,
         _ => random.range(4, 40),
     };
+    let expression = typed_expression(random, tokens, size, slips);
+    builder.finish(expression).expect("every variable is open")
+}
+
+/// An expression of at most `size` nodes over the tokens; without slips it has a type.
+fn typed_expression(
+    random: &mut Random,
+    tokens: Vec<Token>,
+    size: usize,
+    slips: bool,
+) -> Expression {
     let bounds = Bounds {
         first: tokens
             .iter()
@@ -364,7 +379,143 @@ fn typed_sheet(random: &mut Random, slips: bool) -> Sheet {
         tokens,
         slips,
     };
-    let expression = typed.expression(size, bounds, &[]);
+    typed.expression(size, bounds, &[])
+}
+
+/// Both in a row or as alternatives, either of them first.
+fn beside(random: &mut Random, one: Regex, other: Regex) -> Regex {
+    match random.below(4) {
+        0 => one.then(other),
+        1 => other.then(one),
+        2 => one.or(other),
+        _ => other.or(one),
+    }
+}
+
+/// A regex of this many nodes, 3 at least, and this many classes or few less, 2 at least, without the
+/// empty word. Each step puts a star, or a sequence or an alternative with one more leaf, around all that
+/// is there.
+fn deep_regex(random: &mut Random, nodes: usize, classes: usize) -> Regex {
+    // The outermost sequence and its class come last.
+    let (mut nodes, mut classes) = (nodes - 3, classes - 2);
+    let stars = random.range(2, 60);
+    let mut regex = class(random);
+    while nodes > 0 {
+        let (used, part) = if nodes > 1 && random.below(nodes) < 2 * classes {
+            classes -= 1;
+            (2, Some(class(random)))
+        } else if nodes > 1 && random.once_in(stars) {
+            (2, Some(Regex::empty()))
+        } else {
+            (1, None)
+        };
+        nodes -= used;
+        regex = match part {
+            Some(part) => beside(random, regex, part),
+            None => regex.star(),
+        };
+    }
+    class(random).then(regex)
+}
+
+/// A regex of this many nodes and at most as many classes, with parts of about the same size.
+fn wide_regex(random: &mut Random, nodes: usize, classes: usize) -> Regex {
+    match nodes {
+        1 if classes == 0 => return Regex::empty(),
+        1 => return class(random),
+        2 => return wide_regex(random, 1, classes).star(),
+        _ => {}
+    }
+    let parts = nodes - 1;
+    if random.once_in(5) {
+        return wide_regex(random, parts, classes).star();
+    }
+    let least = (parts / 3).max(1);
+    let left = random.range(least, parts - least);
+    let left_classes = (classes * left + random.below(parts)) / parts;
+    let one = wide_regex(random, left, left_classes);
+    let other = wide_regex(random, parts - left, classes - left_classes);
+    beside(random, one, other)
+}
+
+/// Rules of one class each, and among them one that is as deep as the limits allow, or nearly.
+fn deep_rules(random: &mut Random) -> Vec<Regex> {
+    let others = random.below(32);
+    let classes = match random.below(3) {
+        0 => random.range(2, CLASS_LIMIT - others),
+        _ => CLASS_LIMIT - others,
+    };
+    let mut rules: Vec<Regex> = (0..others).map(|_| class(random)).collect();
+    let place = random.below(others + 1);
+    let deep = deep_regex(random, REGEX_NODE_LIMIT - others, classes);
+    rules.insert(place, deep);
+    rules
+}
+
+/// Rules of about the same size, with as many nodes as the limits allow.
+fn wide_rules(random: &mut Random) -> Vec<Regex> {
+    let count = match random.below(2) {
+        0 => 32,
+        _ => random.range(1, 32),
+    };
+    let share = |limit: usize, rule| limit / count + usize::from(rule < limit % count);
+    (0..count)
+        .map(|rule| {
+            let (nodes, classes) = (share(REGEX_NODE_LIMIT, rule), share(CLASS_LIMIT, rule));
+            class(random).then(wide_regex(random, nodes - 2, classes - 1))
+        })
+        .collect()
+}
+
+/// How many nodes an expression has.
+fn expression_nodes(expression: &Expression) -> usize {
+    match expression {
+        Expression::Labelled(_, part) => expression_nodes(part),
+        Expression::Fix(_, part) | Expression::Repetition(part) => 1 + expression_nodes(part),
+        Expression::Sequence(left, right) | Expression::Alternative(left, right) => {
+            1 + expression_nodes(left) + expression_nodes(right)
+        }
+        Expression::Epsilon
+        | Expression::Bottom
+        | Expression::Token(_)
+        | Expression::Variable(_) => 1,
+    }
+}
+
+/// A sheet that passes checking, with 256 regex nodes, up to 64 classes and up to 64 expression nodes;
+/// its rules are deep or wide.
+pub fn large_sheet(random: &mut Random) -> Sheet {
+    let mut builder = SheetBuilder::new();
+    let token_count = match random.below(2) {
+        0 => 24,
+        _ => random.range(1, 24),
+    };
+    let tokens: Vec<Token> = (0..token_count)
+        .map(|index| builder.token(format!("t{index}")))
+        .collect();
+    let regexes = match random.below(2) {
+        0 => deep_rules(random),
+        _ => wide_rules(random),
+    };
+    for (rule, regex) in regexes.into_iter().enumerate() {
+        match random.below(16) {
+            0 => builder.skip(regex),
+            _ => builder.rule(tokens[rule % token_count], regex),
+        };
+    }
+    let size = match random.below(2) {
+        0 => NODE_LIMIT,
+        _ => random.range(4, NODE_LIMIT),
+    };
+    let body = typed_expression(random, tokens, size, false);
+    // Fixed points around it that no variable names, often for all nodes that are left.
+    let left = NODE_LIMIT - expression_nodes(&body);
+    let around = match random.below(3) {
+        0 => left,
+        1 => random.below(left + 1),
+        _ => 0,
+    };
+    let expression = (0..around).fold(body, |body, _| Expression::fix(|_| body));
     builder.finish(expression).expect("every variable is open")
 }
 
@@ -408,20 +559,42 @@ fn spelled_out(expression: &Expression) -> Expression {
     }
 }
 
-/// The sheet with each repetition written as the fixed point that it stands for.
-pub fn spelled_out_sheet(sheet: &Sheet) -> Sheet {
+/// A sheet with the same tokens, other regexes and another expression.
+fn remade(
+    sheet: &Sheet,
+    mut regex: impl FnMut(usize, &Regex) -> Regex,
+    expression: Expression,
+) -> Sheet {
     let mut builder = SheetBuilder::new();
     for name in sheet.tokens() {
         builder.token(name);
     }
-    for rule in sheet.rules() {
+    for (index, rule) in sheet.rules().iter().enumerate() {
+        let regex = regex(index, &rule.regex);
         match rule.token {
-            Some(token) => builder.rule(token, rule.regex.clone()),
-            None => builder.skip(rule.regex.clone()),
+            Some(token) => builder.rule(token, regex),
+            None => builder.skip(regex),
         };
     }
-    let expression = spelled_out(sheet.expression());
     builder.finish(expression).expect("every variable is open")
+}
+
+/// The sheet with each repetition written as the fixed point that it stands for.
+pub fn spelled_out_sheet(sheet: &Sheet) -> Sheet {
+    let expression = spelled_out(sheet.expression());
+    remade(sheet, |_, regex| regex.clone(), expression)
+}
+
+/// A large sheet of which one regex has a star, or a sequence and a class, too many.
+pub fn overfull_sheet(random: &mut Random) -> Sheet {
+    let sheet = large_sheet(random);
+    let chosen = random.below(sheet.rules().len());
+    let more = |index, regex: &Regex| match regex.clone() {
+        regex if index != chosen => regex,
+        regex if random.once_in(2) => class(random).then(regex),
+        regex => regex.star(),
+    };
+    remade(&sheet, more, sheet.expression().clone())
 }
 
 /// An expression of at most `size` nodes with no regard to types.
@@ -465,7 +638,7 @@ pub fn untyped_sheet(random: &mut Random) -> Sheet {
         }
     }
     let size = match random.below(6) {
-        0 => random.range(60, 70),
+        0 => random.range(60, 300),
         1 => random.range(1, 64),
         _ => random.range(1, 9),
     };
@@ -500,18 +673,26 @@ pub fn long_expression_sheet(random: &mut Random) -> Vec<u8> {
     bytes
 }
 
-/// A sheet with about as many regex nodes or classes as are allowed.
+/// A sheet with about as many regex nodes or classes as are allowed. In half of them one class has no star:
+/// these pass if they keep the limits, and no other does.
 pub fn crowded_sheet(random: &mut Random) -> Vec<u8> {
     let mut bytes = vec![1, 1, 1, 1];
     let classes = random.range(60, 68);
     let spare = random.range(120, 136);
     // A sequence of classes and stars: classes - 1 sequences, classes, and spare stars.
-    for index in 0..classes {
+    let mut stars: Vec<usize> = (0..classes)
+        .map(|index| spare / classes + usize::from(index < spare % classes))
+        .collect();
+    let bare = random.below(2 * classes);
+    if bare < classes {
+        stars[(bare + 1) % classes] += stars[bare];
+        stars[bare] = 0;
+    }
+    for (index, count) in stars.into_iter().enumerate() {
         if index + 1 < classes {
             bytes.push(2);
         }
-        let stars = spare / classes + usize::from(index < spare % classes);
-        bytes.resize(bytes.len() + stars, 4);
+        bytes.resize(bytes.len() + count, 4);
         bytes.extend([1, 97, 97]);
     }
     bytes.extend([2, 0]);

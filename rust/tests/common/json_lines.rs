@@ -1,4 +1,5 @@
-//! A reader for lines that are flat JSON objects of strings without escapes and whole numbers.
+//! A reader for lines that are JSON objects of strings without escapes, whole numbers and lists of whole
+//! numbers.
 
 use std::collections::HashMap;
 
@@ -8,6 +9,7 @@ pub struct Object(HashMap<String, Value>);
 enum Value {
     Text(String),
     Number(u64),
+    Numbers(Vec<u64>),
 }
 
 impl Object {
@@ -15,7 +17,7 @@ impl Object {
     pub fn text(&self, key: &str) -> &str {
         match &self.0[key] {
             Value::Text(text) => text,
-            Value::Number(_) => panic!("{key} is a number"),
+            _ => panic!("{key} is no string"),
         }
     }
 
@@ -23,7 +25,15 @@ impl Object {
     pub fn number(&self, key: &str) -> u64 {
         match &self.0[key] {
             Value::Number(number) => *number,
-            Value::Text(_) => panic!("{key} is a string"),
+            _ => panic!("{key} is no number"),
+        }
+    }
+
+    /// The numbers of a key, if it is there.
+    pub fn numbers(&self, key: &str) -> Option<&[u64]> {
+        match self.0.get(key)? {
+            Value::Numbers(numbers) => Some(numbers),
+            _ => panic!("{key} is no list"),
         }
     }
 
@@ -70,9 +80,17 @@ fn value(text: &str) -> (Value, &str) {
         let (string, after) = string(text);
         return (Value::Text(string), after);
     }
+    if let Some(inner) = text.strip_prefix('[') {
+        let (list, after) = inner.split_once(']').expect("the end of a list");
+        let numbers = list.split(',').map(|item| whole(item.trim())).collect();
+        return (Value::Numbers(numbers), after);
+    }
     let end = text
         .find(|sign: char| !sign.is_ascii_digit())
         .unwrap_or(text.len());
-    let number = text[..end].parse().expect("a whole number");
-    (Value::Number(number), &text[end..])
+    (Value::Number(whole(&text[..end])), &text[end..])
+}
+
+fn whole(text: &str) -> u64 {
+    text.parse().expect("a whole number")
 }

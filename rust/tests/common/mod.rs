@@ -1,34 +1,47 @@
-//! What the tests share.
+//! What the tests share: the engines that are compared, and calls of them with a look at every buffer.
+//!
+//! No test is here, and nothing but the reference says what is right for a sheet, an image or a text. The
+//! benchmark's tests use this too.
 
 #![allow(dead_code)]
 
+pub mod calls;
 pub mod generate;
 pub mod json_lines;
 pub mod random;
 
-/// Compiles a sheet: sheet, work area, image buffer, out.
-pub type Compile = fn(&[u8], &mut [u8], &mut [u8], &mut [u64]);
+use vinzagew_reference::image::{self, Image};
+use vinzagew_reference::Refusal;
+
+/// Checks a sheet: sheet, work area, out.
+pub type Check = fn(&[u8], &mut [u8], &mut [u64]);
+
+/// Writes a sheet's image: sheet, work area, image buffer, out.
+pub type Write = fn(&[u8], &mut [u8], &mut [u8], &mut [u64]);
 
 /// Runs an image: image, text, stack, out.
 pub type Run = fn(&[u8], &[u8], &mut [u8], &mut [u64]);
 
-/// The two functions of an implementation, with the results and effects of the C interface.
+/// The three functions of an implementation, with the results and effects of the C interface.
 #[derive(Clone, Copy)]
 pub struct Engine {
     pub name: &'static str,
-    pub compile: Compile,
+    pub check: Check,
+    pub write: Write,
     pub run: Run,
 }
 
 pub const REFERENCE: Engine = Engine {
     name: "reference",
-    compile: vinzagew_reference::sheet_compile,
+    check: vinzagew_reference::sheet_check,
+    write: vinzagew_reference::sheet_write,
     run: vinzagew_reference::image_run,
 };
 
 pub const LIBRARY: Engine = Engine {
     name: "library",
-    compile: vinzagew::library::sheet_compile,
+    check: vinzagew::library::sheet_check,
+    write: vinzagew::library::sheet_write,
     run: vinzagew::library::image_run,
 };
 
@@ -41,41 +54,104 @@ pub fn engines() -> Vec<Engine> {
     }
 }
 
-/// The byte that buffers are filled with before a call.
-pub const FILL: u8 = 0xa5;
+/// Bytes in hexadecimal.
+pub fn hexadecimal(bytes: &[u8]) -> String {
+    bytes.iter().map(|byte| format!("{byte:02x}")).collect()
+}
 
-/// The result of a compile with buffers of the given lengths, after all effects were checked that do
-/// not depend on the sheet: number, place, length, and the image, empty on refusal.
-pub fn compile_checked(
+/// What a buffer holds before a call: no zero, and a byte that is moved by less than 251 places shows.
+pub fn pattern(length: usize) -> Vec<u8> {
+    (0..length).map(|place| (place % 251 + 1) as u8).collect()
+}
+
+/// The numbers that `out` holds before a call; more than are written.
+const OUT: [u64; 6] = [u64::MAX, 71, 72, 73, 74, 75];
+
+/// The first three numbers of `out` after a call, once the rest is seen to be as before.
+fn three(engine: Engine, out: [u64; 6]) -> [u64; 3] {
+    assert_eq!(out[3..], OUT[3..], "{}: out past 3", engine.name);
+    [out[0], out[1], out[2]]
+}
+
+/// The work area after a check or a write that gave this number.
+fn work_after(number: u64, length: usize) -> Vec<u8> {
+    let mut work = pattern(length);
+    if number != 1 {
+        work[..65_536].fill(0);
+    }
+    work
+}
+
+/// By the reference, the image in parts of a sheet that passes.
+pub fn image_of(sheet: &[u8]) -> Result<Image, Refusal> {
+    let sheet = vinzagew_reference::check(sheet, &mut vec![0; 65_536])?;
+    Ok(image::fuse(&sheet))
+}
+
+/// The number and place of a check with a work area of the given length, after all effects were looked
+/// at that do not depend on the sheet.
+pub fn full_check(engine: Engine, sheet: &[u8], work_length: usize) -> [u64; 2] {
+    let mut work = pattern(work_length);
+    let mut out = OUT;
+    (engine.check)(sheet, &mut work, &mut out);
+    let [number, place, zero] = three(engine, out);
+    assert_eq!(zero, 0, "{}: the third number of a check", engine.name);
+    assert!(number <= 10, "{}: a check gave {number}", engine.name);
+    assert!(work == work_after(number, work_length), "{}", engine.name);
+    [number, place]
+}
+
+/// The result of a write with buffers of the given lengths, after all effects were looked at that do not
+/// depend on the sheet: number, place, length, and the image, empty on refusal.
+pub fn full_write(
     engine: Engine,
     sheet: &[u8],
     work_length: usize,
     image_length: usize,
 ) -> ([u64; 3], Vec<u8>) {
-    let mut work = vec![FILL; work_length];
-    let mut image = vec![FILL; image_length];
-    let mut out = [u64::MAX; 4];
-    (engine.compile)(sheet, &mut work, &mut image, &mut out);
-    let [number, place, length, rest] = out;
-    assert_eq!(rest, u64::MAX, "{}: out past 3", engine.name);
-    let zero = if number == 1 { 0 } else { 65_536 };
-    assert!(work[..zero].iter().all(|&byte| byte == 0));
-    assert!(work[zero..].iter().all(|&byte| byte == FILL));
+    let mut work = pattern(work_length);
+    let mut image = pattern(image_length);
+    let mut out = OUT;
+    (engine.write)(sheet, &mut work, &mut image, &mut out);
+    let [number, place, length] = three(engine, out);
+    assert!(work == work_after(number, work_length), "{}", engine.name);
     let written = if number == 0 { length as usize } else { 0 };
-    assert!(image[written..].iter().all(|&byte| byte == FILL));
+    let rest = &pattern(image_length)[written..];
+    assert!(image[written..] == *rest, "{}", engine.name);
     image.truncate(written);
     ([number, place, length], image)
 }
 
-/// The result of a run on a stack of the given length, after the effects on the stack were checked:
+/// The result of a run on a stack of the given length, after the effects on the stack were looked at:
 /// number, place and count.
-pub fn run_checked(engine: Engine, image: &[u8], text: &[u8], stack_length: usize) -> [u64; 3] {
-    let mut stack = vec![FILL; stack_length];
-    let mut out = [u64::MAX; 4];
+pub fn full_run(engine: Engine, image: &[u8], text: &[u8], stack_length: usize) -> [u64; 3] {
+    let mut stack = pattern(stack_length);
+    let mut out = OUT;
     (engine.run)(image, text, &mut stack, &mut out);
-    let [number, place, count, rest] = out;
-    assert_eq!(rest, u64::MAX, "{}: out past 3", engine.name);
-    let left = if matches!(number, 12 | 13) { FILL } else { 0 };
-    assert!(stack.iter().all(|&byte| byte == left));
+    let [number, place, count] = three(engine, out);
+    if matches!(number, 12 | 13) {
+        assert!(stack == pattern(stack_length), "{}", engine.name);
+    } else {
+        assert!(stack.iter().all(|&byte| byte == 0), "{}", engine.name);
+    }
     [number, place, count]
+}
+
+/// Checking and writing with an `out` of fewer than three numbers change nothing.
+pub fn short_out_changes_nothing(
+    engine: Engine,
+    sheet: &[u8],
+    work_length: usize,
+    image_length: usize,
+) {
+    for length in 0..3 {
+        let mut work = pattern(work_length);
+        let mut image = pattern(image_length);
+        let mut out = OUT[..length].to_vec();
+        (engine.check)(sheet, &mut work, &mut out);
+        (engine.write)(sheet, &mut work, &mut image, &mut out);
+        assert!(work == pattern(work_length), "{}", engine.name);
+        assert!(image == pattern(image_length), "{}", engine.name);
+        assert_eq!(out, OUT[..length], "{}", engine.name);
+    }
 }

@@ -9,32 +9,28 @@ cast-count c = search needs
 
 sweep-requires : tie.Need-sweep-requires
 sweep-requires c κs =
-    let z = c .before .before .before in
+    let z = c .before .before in
     let w = z .pre in
-    (regexes-of (w .0), regexes-held (z .args .rules) (w .0) (w .1) (w .2))
+    (regexes-of (w .0), regexes-held (z .args .t1) (w .0) (w .1) (w .2))
 
 rule-sets-requires : tie.Need-rule-sets-requires
 rule-sets-requires c κs =
-    let z = c .before .before .before .before .before in
+    let z = c .before .before .before .before in
     let w = z .pre in
-    let h = regexes-held (z .args .rules) (w .0) (w .1) (w .2) in
+    let h = regexes-held (z .args .t1) (w .0) (w .1) (w .2) in
     let f = c .before .sweep in
-    (regexes-of (w .0), rules-stacked (z .args .rules) (w .0) (w .1) (w .2) (f .result) (f .ensures (regexes-of (w .0)) h))
-
-empty-of-requires : tie.Need-empty-of-requires
-empty-of-requires c κs = search needs
+    (regexes-of (w .0), rules-stacked (z .args .t1) (w .0) (w .1) (w .2) (f .result) (f .ensures (regexes-of (w .0)) h))
 
 returns : tie.Need-returns
 returns c =
-    let z = c .before .before .before .before .before .before .before .before .before .before .before .args .rules in
-    let f = c .before .before .before .before .before .before .before .sweep in
-    let s = c .before .before .before .before .before .rule-sets in
-    let e = c .before .before .before .before .empty-of in
+    let s = c .before .before .before .before in
+    let f = s .before .before in
+    let z = f .before .before .before .args .t1 in
     λ rules places held.
     let rs = regexes-of rules in
-    let h = f .ensures rs (regexes-held z rules places held) in
-    let t = rules-stacked z rules places held (f .result) h in
-    answered z rules places held (f .result) (s .result) (e .result) h (s .ensures rs t) (e .ensures rs t)
+    let h = f .sweep .ensures rs (regexes-held z rules places held) in
+    let t = rules-stacked z rules places held (f .sweep .result) h in
+    answered z rules places held (f .sweep .result) (s .rule-sets .result) h (s .rule-sets .ensures rs t)
 
 pub positions-of-spec : {M : Type 1} → statement M
-positions-of-spec = tie.close (tie.spec cast-count sweep-requires rule-sets-requires empty-of-requires returns)
+positions-of-spec = tie.close (tie.spec cast-count sweep-requires rule-sets-requires returns)

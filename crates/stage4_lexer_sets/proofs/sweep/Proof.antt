@@ -1,11 +1,10 @@
 -- `stage4_lexer_sets::sweep` meets its contract. The invariant: for all regexes that the tags may be those of, the stack and the follow
 -- sets are those of the regexes of the items done.
 use native.Mathlib.Omega.{arith}
-use mathlib.Core.Path.{_≡_, ap, subst}
+use mathlib.Core.Path.{_≡_, subst}
 use mathlib.Core.List.{List}
 use Prim.Native.Nat.{ℕ, _≤_}
 use Rattle.stage1_sheet.specs.Regex.{Regex}
-use Rattle.stage4_lexer_sets.specs.declared.Node.{Node}
 use Rattle.stage4_lexer_sets.specs.Forests.{RegexesHeld}
 use Rattle.stage4_lexer_sets.proofs.SweepLoop.{Swept, swept-start, Turn, turn, swept-more, swept-end}
 use Rattle.stage4_lexer_sets.proofs.sweep.Statement.{statement}
@@ -34,22 +33,22 @@ sub-at : tie.Need-sub-at Inv-loop μ-loop
 sub-at c = omega arith
 
 element-copy-out-node-of : tie.Need-element-copy-out-node-of Inv-loop μ-loop
-element-copy-out-node-of c = omega (arith, c .before .before .pre .1 .nodes-fit)
+element-copy-out-node-of c = omega (arith, c .before .before .pre .1 .held .nodes-fit)
 
 mul-node-of : tie.Need-mul-node-of Inv-loop μ-loop
-mul-node-of c = omega (arith, turn-at (c .before) .top-most)
+mul-node-of c = omega (arith, turn-at (c .before) .at-top .most)
 
 array-copy-out-node-of : tie.Need-array-copy-out-node-of Inv-loop μ-loop
-array-copy-out-node-of c = omega (arith, turn-at (c .before) .top-most)
+array-copy-out-node-of c = omega (arith, turn-at (c .before) .at-top .most)
 
 sub-node-of : tie.Need-sub-node-of Inv-loop μ-loop
-sub-node-of c = turn-at (c .before .before) .top-least
+sub-node-of c = turn-at (c .before .before) .at-top .least
 
 mul-node-of-2 : tie.Need-mul-node-of-2 Inv-loop μ-loop
-mul-node-of-2 c = omega (arith, turn-at (c .before .before) .top-most)
+mul-node-of-2 c = omega (arith, turn-at (c .before .before) .at-top .most)
 
 array-copy-out-node-of-2 : tie.Need-array-copy-out-node-of-2 Inv-loop μ-loop
-array-copy-out-node-of-2 c = omega (arith, turn-at (c .before .before) .top-most)
+array-copy-out-node-of-2 c = omega (arith, turn-at (c .before .before) .at-top .most)
 
 node-of-requires : tie.Need-node-of-requires Inv-loop μ-loop
 node-of-requires c κs = let t = turn-at (c .before .before .before) in (t .base-most, t .base-least)
@@ -58,35 +57,41 @@ join-follow-requires : tie.Need-join-follow-requires Inv-loop μ-loop
 join-follow-requires c κs = turn-at (c .before .before .before .before .before) .follow-size
 
 add-top : tie.Need-add-top Inv-loop μ-loop
-add-top c = omega (arith, turn-at (c .before .before .before .before .before .before .before) .top-most)
+add-top c = omega (arith, turn-at (c .before .before .before .before .before .before) .at-top .most)
+
+element-copy-out-parts-of : tie.Need-element-copy-out-parts-of Inv-loop μ-loop
+element-copy-out-parts-of c =
+    let i = c .before .before .before .before .before .before in
+    omega (arith, i .before .before .pre .1 .held .nodes-fit)
+
+parts-of-requires : tie.Need-parts-of-requires Inv-loop μ-loop
+parts-of-requires c κs = tt
 
 sub-top : tie.Need-sub-top Inv-loop μ-loop
 sub-top c =
-    let t = turn-at (c .before .before .before .before .before .before .before .before) in
-    omega (arith, t .top-most, t .parts-most, ap (λ (n : Node). n .parts) (c .before .before .before .before .node-of .ensures))
+    let t = turn-at (c .before .before .before .before .before .before .before .before) .at-top in
+    omega (arith, t .parts-most, c .parts-of .ensures)
 
 mul-stack : tie.Need-mul-stack Inv-loop μ-loop
-mul-stack c =
-    let t = turn-at (c .before .before .before .before .before .before .before .before) in
-    omega (arith, t .top-most, t .parts-most, ap (λ (n : Node). n .parts) (c .before .before .before .before .node-of .ensures))
+mul-stack c = omega (arith, turn-at (c .before .before .before .before .before .before .before .before .before) .at-top .most)
 
 array-set-from-stack : tie.Need-array-set-from-stack Inv-loop μ-loop
-array-set-from-stack c =
-    let t = turn-at (c .before .before .before .before .before .before .before .before) in
-    omega (arith, t .top-most, t .parts-most, ap (λ (n : Node). n .parts) (c .before .before .before .before .node-of .ensures))
+array-set-from-stack c = omega (arith, turn-at (c .before .before .before .before .before .before .before .before .before) .at-top .most)
 
 loop-less : tie.Need-loop-less Inv-loop μ-loop
 loop-less c = omega arith
 
 loop-again : tie.Need-loop-again Inv-loop μ-loop
 loop-again c =
-    let n = c .before .before .before .before in
+    let p = c .before in
+    let f = p .before .before in
+    let n = f .before .before in
     let i = n .before .before .before .before in
     let l = i .before .loop in
     let z = i .before .before .args in (
       omega arith,
       λ rs h. swept-more (z .tag .now) (z .items) (z .classes) rs _ _ _ _ _ h (i .loop-test .taken) (l .inv .0) (l .inv .1 rs h)
-          (n .node-of .result) _ (n .node-of .ensures) (c .before .before .join-follow .ensures),
+          (n .node-of .result) _ _ (n .node-of .ensures) (f .join-follow .ensures) (p .parts-of .ensures),
     )
 
 returns : tie.Need-returns Inv-loop μ-loop
@@ -113,6 +118,8 @@ sweep-spec =
     node-of-requires
     join-follow-requires
     add-top
+    element-copy-out-parts-of
+    parts-of-requires
     sub-top
     mul-stack
     array-set-from-stack

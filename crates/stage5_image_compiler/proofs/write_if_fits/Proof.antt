@@ -1,58 +1,89 @@
 -- `stage5_image_compiler::write_if_fits` meets its contract.
 use borrow.Author.Needs.{needs}
+use Prim.Native.Nat.{_≤_}
+use mathlib.Core.Logic.{⊎-elim}
 use denote.Ref.{now}
+use lib.ListN.{length}
+use Rattle.stage1_sheet.specs.Sheet.{Sheet}
 use Rattle.stage5_image.specs.Image.{image-of, image-bytes}
-use Rattle.stage5_image_compiler.proofs.Endings.{parts-of, fits, ends-too-long, ends-written}
+use Rattle.stage5_image_checker.specs.Steps as checker
+use Rattle.stage5_image_writer.specs.Parts.{PartsOf}
+use Rattle.stage5_image_compiler.proofs.Endings.{positions-most, parts-of, room-for-any, fits, ends-too-long, ends-written}
 use Rattle.stage5_image_compiler.proofs.write_if_fits.Statement.{statement}
 use Rattle.stage5_image_compiler.proofs.write_if_fits.Tie as tie
 
+-- Where the nodes have been numbered: the parts of the image.
+made : (c : tie.After-number-nodes) (s : Sheet) → checker.PartsOf s (c .before .before .before .before .before .args .checked)
+    → PartsOf (c .before .grammar-of .result) (c .before .before .positions-of .result) (c .number-nodes .result) s
+made c s h =
+    let k = c .before .before .before .before .before .args .checked in
+    let p = c .before .before .positions-of in
+    let g = c .before .grammar-of .ensures s h in
+    parts-of s k h (p .result) (p .ensures (s .rules) (h .places) (h .rules-held)) _ (c .number-nodes .result) g
+    (c .number-nodes .ensures .1 (s .rules) (s .expression) g)
+
+-- And how many positions there are.
+most : (c : tie.After-number-nodes) → c .before .before .positions-of .result .count ≤ 64
+most c =
+    let w = c .before .before .before .before .before .pre in
+    let p = c .before .before .positions-of in
+    positions-most (w .0) _ (w .1) (p .result) (p .ensures (w .0 .rules) (w .1 .places) (w .1 .rules-held))
+
+positions-of-requires : tie.Need-positions-of-requires
+positions-of-requires c κs = let w = c .before .before .pre in (w .0 .rules, w .1 .places, w .1 .rules-held)
+
+grammar-of-requires : tie.Need-grammar-of-requires
+grammar-of-requires c κs = search needs
+
 number-nodes-requires : tie.Need-number-nodes-requires
-number-nodes-requires c κs = let w = c .before .pre in (w .0 .rules, w .0 .expression, w .1 .grammar)
+number-nodes-requires c κs = let w = c .before .before .before .before .pre in (w .0 .rules, w .0 .expression, c .grammar-of .ensures (w .0) (w .1))
+
+-- Where question 11 has been passed: the image fits, since it was measured, or since every image does.
+room : (c : tie.Joined1) (s : Sheet) → checker.PartsOf s (c .before .before .before .before .before .before .args .checked)
+    → length (image-bytes (image-of s)) ≤ length (now (c .before .before .before .before .before .before .args .image))
+room c s h =
+    let buffer = now (c .before .before .before .before .before .before .args .image) in
+    ⊎-elim
+    (λ w. fits (image-bytes (image-of s)) buffer (w .1 .ensures s (made (c .before) s h)) (w .2 .left))
+    (λ w. room-for-any s _ h buffer (w .left))
+    (c .if1 .came)
 
 image-width-requires : tie.Need-image-width-requires
 image-width-requires c κs =
-    let w = c .before .before .pre in
-    let n = c .number-nodes in
-    (w .0, parts-of (w .0) _ _ (n .result) (w .1) (n .ensures .1 (w .0 .rules) (w .0 .expression) (w .1 .grammar)), w .1 .held .count-most, n .ensures .0)
+    let numbered = c .before in
+    let w = numbered .before .before .before .before .before .pre in
+    (w .0, made numbered (w .0) (w .1), most numbered, numbered .number-nodes .ensures .0)
 
 returns : tie.Need-returns
 returns c =
-    let measured = c .before in
-    let n = measured .before .number-nodes in
-    let z = measured .before .before .before in
-    λ s a.
-    let parts = parts-of s _ _ (n .result) a (n .ensures .1 (s .rules) (s .expression) (a .grammar)) in
-    ends-too-long (image-bytes (image-of s)) (now (z .args .image)) (measured .image-width .ensures s parts) (c .if1 .taken)
+    let numbered = c .before .before .before in
+    let z = numbered .before .before .before .before .before .args in
+    λ s h. ends-too-long (image-bytes (image-of s)) (now (z .image)) (c .before .image-width .ensures s (made numbered s h)) (c .if2 .taken)
 
 write-image-requires : tie.Need-write-image-requires
 write-image-requires c κs =
-    let measured = c .before .before in
-    let n = measured .before .number-nodes in
-    let z = measured .before .before .before in
-    let w = z .pre in
-    let s = w .0 in
-    let parts = parts-of s _ _ (n .result) (w .1) (n .ensures .1 (s .rules) (s .expression) (w .1 .grammar)) in
-    let room = fits (image-bytes (image-of s)) (now (z .args .image)) (measured .image-width .ensures s parts) (c .before .if1 .left) in
-    (s, parts, room, w .1 .held .count-most, n .ensures .0)
+    let numbered = c .before .before in
+    let w = numbered .before .before .before .before .before .pre in
+    (w .0, made numbered (w .0) (w .1), room (c .before) (w .0) (w .1), most numbered, numbered .number-nodes .ensures .0)
 
 same-length : tie.Need-same-length
 same-length c = search needs
 
 returns-2 : tie.Need-returns-2
 returns-2 c =
-    let asked = c .before .before .before .before in
-    let measured = asked .before in
-    let n = measured .before .number-nodes in
-    let z = measured .before .before .before in
-    λ s a.
-    let parts = parts-of s _ _ (n .result) a (n .ensures .1 (s .rules) (s .expression) (a .grammar)) in
-    let room = fits (image-bytes (image-of s)) (now (z .args .image)) (measured .image-width .ensures s parts) (asked .if1 .left) in
-    ends-written (image-bytes (image-of s)) (now (z .args .image)) room (c .before .before .write-image .ensures s parts room)
+    let passed = c .before .before .before .before in
+    let numbered = passed .before in
+    let z = numbered .before .before .before .before .before .args in
+    λ s h.
+    ends-written (image-bytes (image-of s)) (now (z .image)) (room passed s h)
+    (c .before .before .write-image .ensures s (made numbered s h) (room passed s h))
 
 pub write-if-fits-spec : {M : Type 1} → statement M
 write-if-fits-spec =
     tie.close
     (tie.spec
+    positions-of-requires
+    grammar-of-requires
     number-nodes-requires
     image-width-requires
     returns

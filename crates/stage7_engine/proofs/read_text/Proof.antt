@@ -1,4 +1,4 @@
--- `stage7_engine::read_text` meets its contract: compiling's promise, the machine's, and demand 3.
+-- `stage7_engine::read_text` meets its contract: writing's promise, the machine's, and demand 3.
 use mathlib.Core.Path.{_≡_, sym, ap, subst, _∙_}
 use mathlib.Core.List.{List}
 use Prim.Native.Nat.{ℕ, _≤_}
@@ -7,8 +7,8 @@ use denote.Ref.{now}
 use lib.ListN.{length, take}
 use lib.Seq.{length-take-le}
 use Rattle.stage1_sheet.specs.FieldLaws.{Bytes}
-use Rattle.stage5_image.specs.Compile.{compile, compiled}
-use Rattle.stage5_image.specs.CompileLaws.{compiled-fits}
+use Rattle.stage5_image.specs.Write.{write, written}
+use Rattle.stage5_image.specs.WriteLaws.{written-passed}
 use Rattle.stage6_machine.specs.Answer.{Answer}
 use Rattle.stage6_machine.specs.Run.{run}
 use Rattle.stage6_machine_turn.specs.Steps.{answer-held}
@@ -23,12 +23,12 @@ use Rattle.stage7_engine.proofs.read_text.Statement.{statement}
 use Rattle.stage7_engine.proofs.read_text.Tie as tie
 use Rattle.stage7_engine.proofs.read_text.Reads as reads
 use Rattle.stage7_engine.proofs.read_text.Lts as lts
-use Rattle.stage5_image_compiler.proofs.compile.Reads as compile-reads
+use Rattle.stage5_image_compiler.proofs.write.Reads as write-reads
 use Rattle.stage6_machine_runner.proofs.run.Reads as run-reads
 
 -- src/lib.rt:38:9
-compile-requires : tie.Need-compile-requires
-compile-requires c κs = search needs
+write-requires : tie.Need-write-requires
+write-requires c κs = search needs
 
 -- src/lib.rt:40:27
 enum-known-made : tie.Need-enum-known-made
@@ -55,8 +55,8 @@ returns : tie.Need-returns
 unfolding answer-held
 returns c =
     let z = c .before .before .before .before .before .before .before .before .before .before .before .before .before .before .before .before .args in
-    let k = c .before .before .before .before .before .before .before .before .compile in
-    let m = compile (now (z .sheet)) (length (now (z .work))) (length (now (z .image))) in
+    let k = c .before .before .before .before .before .before .before .before .write in
+    let m = write (now (z .sheet)) (length (now (z .work))) (length (now (z .image))) in
     let d = case-done m (sym (k .ensures .0) ∙ c .before .before .made2 .given .1) in
     let t = told-over (z .limit) (now (z .text)) (now (z .stack)) (length (now (z .stack))) (d .0) (d .1) (c .if1 .taken) in (
       t .0,
@@ -70,10 +70,10 @@ returns c =
 slice-reshare-prefix-run : tie.Need-slice-reshare-prefix-run
 slice-reshare-prefix-run c =
     let z = c .before .before .before .before .before .before .before .before .before .before .before .before .before .before .before .before .args in
-    let k = c .before .before .before .before .before .before .before .before .compile in
-    let m = compile (now (z .sheet)) (length (now (z .work))) (length (now (z .image))) in
+    let k = c .before .before .before .before .before .before .before .before .write in
+    let m = write (now (z .sheet)) (length (now (z .work))) (length (now (z .image))) in
     let d = case-done m (sym (k .ensures .0) ∙ c .before .before .made2 .given .1) in
-    let f = compiled-fits (now (z .sheet)) (length (now (z .work))) (length (now (z .image))) (d .0) (d .1) in
+    let f = written-passed (now (z .sheet)) (length (now (z .work))) (length (now (z .image))) (d .0) (d .1) .3 in
     let l = ap length (k .ensures .1) ∙ demand-1 .image-kept (now (z .sheet)) (length (now (z .work))) (now (z .image)) in
     omega (arith, d .2, f, l)
 
@@ -81,10 +81,10 @@ slice-reshare-prefix-run c =
 slice-aggregate-run : tie.Need-slice-aggregate-run
 slice-aggregate-run c =
     let z = c .before .before .before .before .before .before .before .before .before .before .before .before .before .before .before .before .before .args in
-    let k = c .before .before .before .before .before .before .before .before .before .compile in
-    let m = compile (now (z .sheet)) (length (now (z .work))) (length (now (z .image))) in
+    let k = c .before .before .before .before .before .before .before .before .before .write in
+    let m = write (now (z .sheet)) (length (now (z .work))) (length (now (z .image))) in
     let d = case-done m (sym (k .ensures .0) ∙ c .before .before .before .made2 .given .1) in
-    let f = compiled-fits (now (z .sheet)) (length (now (z .work))) (length (now (z .image))) (d .0) (d .1) in
+    let f = written-passed (now (z .sheet)) (length (now (z .work))) (length (now (z .image))) (d .0) (d .1) .3 in
     let l = ap length (k .ensures .1) ∙ demand-1 .image-kept (now (z .sheet)) (length (now (z .work))) (now (z .image)) in
     sym (length-take-le (c .before .before .before .made2 .given .0 .0) (k .last .1 .1 .0) (omega (arith, d .2, f, l)))
 
@@ -104,8 +104,8 @@ same-length-4 c = search needs
 returns-2 : tie.Need-returns-2
 returns-2 c =
     let z = c .before .before .before .before .before .before .before .before .before .before .before .before .before .before .before .args in
-    let k = c .before .before .before .before .before .before .before .compile in
-    let m = compile (now (z .sheet)) (length (now (z .work))) (length (now (z .image))) in
+    let k = c .before .before .before .before .before .before .before .write in
+    let m = write (now (z .sheet)) (length (now (z .work))) (length (now (z .image))) in
     let e = case-refused m (sym (k .ensures .0) ∙ c .before .made .given .1) in
     let t = told-refused (z .limit) (now (z .text)) (now (z .stack)) (length (now (z .stack))) _ _ e in (
       t .0,
@@ -127,8 +127,8 @@ same-length-6 c = search needs
 returns-3 : tie.Need-returns-3
 returns-3 c =
     let z = c .before .before .before .before .before .before .before .before .before .before .before .before .before .before .args in
-    let k = c .before .before .before .before .before .before .compile in
-    let m = compile (now (z .sheet)) (length (now (z .work))) (length (now (z .image))) in
+    let k = c .before .before .before .before .before .before .write in
+    let m = write (now (z .sheet)) (length (now (z .work))) (length (now (z .image))) in
     let e = case-too-long m (sym (k .ensures .0) ∙ c .enum-told .given .1) in
     let t = told-long (z .limit) (now (z .text)) (now (z .stack)) (length (now (z .stack))) _ e in (
       t .0,
@@ -155,8 +155,8 @@ returns-4 : tie.Need-returns-4
 unfolding answer-held
 returns-4 c =
     let z = c .before .before .before .before .before .before .before .before .before .before .before .before .before .before .before .before .before .before .before .before .before .args in
-    let k = c .before .before .before .before .before .before .before .before .before .before .before .before .before .compile in
-    let m = compile (now (z .sheet)) (length (now (z .work))) (length (now (z .image))) in
+    let k = c .before .before .before .before .before .before .before .before .before .before .before .before .before .write in
+    let m = write (now (z .sheet)) (length (now (z .work))) (length (now (z .image))) in
     let d = case-done m (sym (k .ensures .0) ∙ c .before .before .before .before .before .before .before .made2 .given .1) in
     let r = c .before .before .run in
     let bytes : Bytes (now (z .sheet)) = λ i. c .before .before .before .before .before .before .before .before .before .before .before .before .before .before .before .before .before .before .before .before .shared-slice-known .given i .fits in
@@ -178,7 +178,7 @@ pub read-text-spec : {M : Type 1} → statement M
 read-text-spec =
     tie.close
     (tie.spec
-    compile-requires
+    write-requires
     enum-known-made
     enum-told
     enum-known-made-2

@@ -1,0 +1,71 @@
+-- `stage5_image_compiler::write` meets its contract: what checking hands on, and question 11.
+use borrow.Author.Needs.{needs}
+use denote.Ref.{now}
+use lib.ListN.{length}
+use Rattle.stage5_image.specs.Check as check
+use Rattle.stage5_image.specs.Write.{write}
+use Rattle.stage5_image_compiler.proofs.Endings.{ends-failed, passed-parts, ends-passed, promised}
+use Rattle.stage5_image_compiler.proofs.write.Statement.{statement}
+use Rattle.stage5_image_compiler.proofs.write.Tie as tie
+
+-- How checking ends.
+abbrev verdict : tie.Start → check.Verdict
+verdict z = check.check (now (z .args .sheet)) (length (now (z .args .work)))
+
+check-sheet-requires : tie.Need-check-sheet-requires
+check-sheet-requires c κs = search needs
+
+enum-known-verdict : tie.Need-enum-known-verdict
+enum-known-verdict c = search needs
+
+enum-told : tie.Need-enum-told
+enum-told c = search needs
+
+write-if-fits-requires : tie.Need-write-if-fits-requires
+write-if-fits-requires c κs =
+    let told = c .before in
+    let k = told .before .before .before .before .check-sheet in
+    let p = passed-parts (verdict (told .before .before .before .before .before .before .before .before .before)) (k .result) (k .ensures .0)
+    (told .enum-told .given .1) in (p .0, p .2)
+
+same-length : tie.Need-same-length
+same-length c = search needs
+
+returns : tie.Need-returns
+unfolding write
+returns c =
+    let k = c .before .before .before .before .before .check-sheet in
+    let z = c .before .before .before .before .before .before .before .before .before .before in
+    promised (now (z .args .work))
+    (ends-failed (verdict z) (k .result) (now (z .args .image)) (k .ensures .0) (c .before .verdict .given .1)) (k .ensures .1)
+
+same-length-2 : tie.Need-same-length-2
+same-length-2 c = search needs
+
+same-length-3 : tie.Need-same-length-3
+same-length-3 c = search needs
+
+returns-2 : tie.Need-returns-2
+unfolding write
+returns-2 c =
+    let called = c .before .before in
+    let told = called .before .before in
+    let k = told .before .before .before .before .check-sheet in
+    let z = told .before .before .before .before .before .before .before .before .before in
+    let p = passed-parts (verdict z) (k .result) (k .ensures .0) (told .enum-told .given .1) in
+    promised (now (z .args .work))
+    (ends-passed (verdict z) (p .0) (length (now (z .args .image))) (p .1) (called .write-if-fits .ensures (p .0) (p .2))) (k .ensures .1)
+
+pub write-spec : {M : Type 1} → statement M
+write-spec =
+    tie.close
+    (tie.spec
+    check-sheet-requires
+    enum-known-verdict
+    enum-told
+    write-if-fits-requires
+    same-length
+    returns
+    same-length-2
+    same-length-3
+    returns-2)
