@@ -29,8 +29,8 @@ pub enum Verdict {
 }
 
 // How checking ends, and of a sheet that passes the rules, the nodes of its expression with their links, and their types: writing goes
-// on from there. Where a question fails, what the columns hold is left open; where the sheet passes, so is what `rules` has as places, which
-// no later step asks for.
+// on from there. Where a question fails, what the columns hold is left open; where the sheet passes, so is what `rules` has as places,
+// which no later step asks for.
 pub struct CheckedSheet {
     pub verdict: Verdict,
     pub rules: RuleColumns,
