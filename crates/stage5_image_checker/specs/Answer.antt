@@ -3,7 +3,7 @@
 use mathlib.Core.Path.{_≡_, refl}
 use Rattle.stage5_image.specs.Check.{CheckAnswer, check-answer}
 use Rattle.stage5_image.specs.Check as page
-use Rattle.stage5_image_checker.specs.Steps.{PartsOf}
+use Rattle.stage5_image_checker.specs.Steps.{PassedParts}
 use Rattle.stage5_image_checker.specs.declared.Verdict.{Verdict}
 use Rattle.stage5_image_checker.specs.declared.Verdict.the-variants as verdict
 use Rattle.stage5_image_checker.specs.declared.CheckedSheet.{CheckedSheet}
@@ -27,7 +27,7 @@ case-answer (page.passed s) = refl
 -- Checking ends so, and hands on the columns of a sheet that passed.
 abbrev pub Ends : page.Verdict → CheckedSheet → Type 0
 Ends (page.failed number place) r = r .verdict ≡ verdict.Failed number place
-Ends (page.passed s) r = (r .verdict ≡ verdict.Passed) × PartsOf s r
+Ends (page.passed s) r = (r .verdict ≡ verdict.Passed) × PassedParts s r
 
 -- The verdict is the case of the way to end.
 pub ends-case : (v : page.Verdict) (r : CheckedSheet) → Ends v r → r .verdict ≡ case-of v

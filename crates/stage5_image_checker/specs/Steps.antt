@@ -24,7 +24,7 @@ pub record SheetOf (c : Contents) (rules : RuleColumns) (nodes : NodeColumns) : 
   pub limits : WithinLimits (c .sheet)
 
 -- The columns hold a sheet that passed, with the least types of its nodes.
-pub record PartsOf (s : Sheet) (p : CheckedSheet) : Type 0 where
+pub record PassedParts (s : Sheet) (p : CheckedSheet) : Type 0 where
   pub places : List ℕ
   pub limits : WithinLimits s
   pub rules-held : RulesOf (p .rules) (s .rules) places

@@ -21,7 +21,7 @@ use Rattle.stage5_image.specs.Image.{image-of, image-bytes}
 use Rattle.stage5_image.specs.ImageLength.{image-fits}
 use Rattle.stage5_image.specs.Numbering.{reached}
 use Rattle.stage5_image_checker.specs.Answer as checker
-use Rattle.stage5_image_checker.specs.Steps as checker-steps
+use Rattle.stage5_image_checker.specs.Steps.{PassedParts}
 use Rattle.stage5_image_checker.specs.declared.CheckedSheet.{CheckedSheet}
 use Rattle.stage5_image_checker.specs.declared.Verdict.the-variants.{Passed, Failed}
 use Rattle.stage5_image_numbering.specs.Grammar.{GrammarOf, Numbers}
@@ -35,7 +35,7 @@ use Rattle.stage5_image_compiler.specs.declared.Written.the-variants.{Do
 
 -- ---- what an image is made from
 
-module _ (s : Sheet) (k : CheckedSheet) (h : checker-steps.PartsOf s k) where
+module _ (s : Sheet) (k : CheckedSheet) (h : PassedParts s k) where
   pub grammar-held : (productive : ℕ) → SetOf productive (derives (s .expression))
       → GrammarOf (grammar-from (k .rules) (k .links) (k .types) productive) (s .rules) (s .expression)
   grammar-held productive set =
@@ -88,7 +88,7 @@ ends-failed (check.passed s) k buffer h e = let z = h .0 in let y : _≡_ {A = �
 
 -- Checking let the sheet pass.
 pub passed-parts : (v : check.Verdict) (k : CheckedSheet) → checker.Ends v k → k .verdict ≡ Passed
-    → (s : Sheet) × (v ≡ check.passed s) × checker-steps.PartsOf s k
+    → (s : Sheet) × (v ≡ check.passed s) × PassedParts s k
 passed-parts (check.failed number at) k h e = let y : _≡_ {A = ℕ} 0 1 = cc in absurd (omega arith)
 passed-parts (check.passed s) k h e = (s, refl, h .1)
 

@@ -9,7 +9,7 @@ ghost use Rattle.stage1_sheet.specs.Sheet.{Sheet};
 ghost use Rattle.stage5_image.specs.Image.{image-of, image-bytes};
 ghost use Rattle.stage5_image.specs.Check.{work-after};
 ghost use Rattle.stage5_image.specs.Write.{fitted, write, write-answer, write-numbers, image-after, written-part};
-ghost use Rattle.stage5_image_checker.specs.Steps.{PartsOf};
+ghost use Rattle.stage5_image_checker.specs.Steps.{PassedParts};
 ghost use Rattle.stage5_image_numbering.specs.Grammar.{GrammarOf};
 ghost use Rattle.stage5_image_compiler.specs.Answer.{answer-of, case-of, Ends};
 
@@ -26,8 +26,8 @@ pub enum Written {
 
 // The columns from which productions are found.
 fn grammar_of(checked: CheckedSheet) -> Grammar
-    requires { ⌜ ((s : Sheet) × PartsOf s checked) ⌝ }
-    ensures { λ r. ⌜ ((s : Sheet) → PartsOf s checked → GrammarOf r (s .rules) (s .expression)) ⌝ }
+    requires { ⌜ ((s : Sheet) × PassedParts s checked) ⌝ }
+    ensures { λ r. ⌜ ((s : Sheet) → PassedParts s checked → GrammarOf r (s .rules) (s .expression)) ⌝ }
 {
     let rules = checked.rules;
     let links = checked.links;
@@ -36,11 +36,11 @@ fn grammar_of(checked: CheckedSheet) -> Grammar
     stage5_image_numbering::grammar_from(rules, links, types, productive)
 }
 
-// Question 11, asked before the first byte is written, and the image. A buffer in which every image fits is not asked for, so that the
-// image need not be measured first.
+// Question 11, asked before the first byte is written, and the image. In a buffer of so many bytes every image fits, so the image is
+// measured only for a shorter one.
 fn write_if_fits(checked: CheckedSheet, image: &mut [u8]) -> Written
-    requires { ⌜ ((s : Sheet) × PartsOf s checked) ⌝ }
-    ensures { λ r. ⌜ ((s : Sheet) → PartsOf s checked
+    requires { ⌜ ((s : Sheet) × PassedParts s checked) ⌝ }
+    ensures { λ r. ⌜ ((s : Sheet) → PassedParts s checked
         → Ends (fitted (length (now (image .entry))) (image-bytes (image-of s))) r (now (image .entry)) (now (image .exit))) ⌝ }
 {
     let rules = checked.rules;

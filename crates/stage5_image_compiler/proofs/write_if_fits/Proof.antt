@@ -6,14 +6,14 @@ use denote.Ref.{now}
 use lib.ListN.{length}
 use Rattle.stage1_sheet.specs.Sheet.{Sheet}
 use Rattle.stage5_image.specs.Image.{image-of, image-bytes}
-use Rattle.stage5_image_checker.specs.Steps as checker
+use Rattle.stage5_image_checker.specs.Steps.{PassedParts}
 use Rattle.stage5_image_writer.specs.Parts.{PartsOf}
 use Rattle.stage5_image_compiler.proofs.Endings.{positions-most, parts-of, room-for-any, fits, ends-too-long, ends-written}
 use Rattle.stage5_image_compiler.proofs.write_if_fits.Statement.{statement}
 use Rattle.stage5_image_compiler.proofs.write_if_fits.Tie as tie
 
 -- Where the nodes have been numbered: the parts of the image.
-made : (c : tie.After-number-nodes) (s : Sheet) → checker.PartsOf s (c .before .before .before .before .before .args .checked)
+made : (c : tie.After-number-nodes) (s : Sheet) → PassedParts s (c .before .before .before .before .before .args .checked)
     → PartsOf (c .before .grammar-of .result) (c .before .before .positions-of .result) (c .number-nodes .result) s
 made c s h =
     let k = c .before .before .before .before .before .args .checked in
@@ -39,7 +39,7 @@ number-nodes-requires : tie.Need-number-nodes-requires
 number-nodes-requires c κs = let w = c .before .before .before .before .pre in (w .0 .rules, w .0 .expression, c .grammar-of .ensures (w .0) (w .1))
 
 -- Where question 11 has been passed: the image fits, since it was measured, or since every image does.
-room : (c : tie.Joined1) (s : Sheet) → checker.PartsOf s (c .before .before .before .before .before .before .args .checked)
+room : (c : tie.Joined1) (s : Sheet) → PassedParts s (c .before .before .before .before .before .before .args .checked)
     → length (image-bytes (image-of s)) ≤ length (now (c .before .before .before .before .before .before .args .image))
 room c s h =
     let buffer = now (c .before .before .before .before .before .before .args .image) in
