@@ -14,7 +14,7 @@ use lib.ListN.{length, getD, drop, drop-of-length-le}
 use lib.Seq.{drop-cons}
 use borrow.Author.Tests.{lt-ltb, le-ltb, lt-leb}
 use Rattle.stage0_number.specs.Number.{count, value, highest}
-use Rattle.stage0_number.specs.Number.{Front, cut, whole, followed, front, fewest, judged, number-from, decode}
+use Rattle.stage0_number.specs.Number.{Front, cut, whole, followed, front, judged, number-from, decode}
 use Rattle.stage0_number.specs.Groups.{count-positive}
 use Rattle.stage0_number.specs.declared.Number.{Number}
 use Rattle.stage0_number.specs.declared.Number.the-variants.{Refused}
@@ -26,13 +26,9 @@ both true = refl
 both false = refl
 
 module _ (groups top n : ℕ) where
-  pub judged-padded : fewest groups top ≡ false → judged groups top n ≡ Refused
-  unfolding judged
-  judged-padded h = rw h (both (leb groups 10))
-
   pub judged-over : 2 ^ 64 ≤ n → judged groups top n ≡ Refused
   unfolding judged
-  judged-over h = rw (le-ltb n (2 ^ 64), both (fewest groups top)) (both (leb groups 10))
+  judged-over h = rw (le-ltb n (2 ^ 64)) (both (leb groups 10))
 
   judged-eleven : 10 < groups → judged groups top n ≡ Refused
   unfolding judged

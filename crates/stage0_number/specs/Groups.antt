@@ -1,7 +1,7 @@
 -- Lemmas behind `Laws`: what the groups at the front of some bytes are, and what an accepted number says of them.
 -- Nothing here is meant to be cited by other crates.
 use Prim.Native.Nat.{ℕ, zero, suc, _+_, _*_, _^_, _/_, _%_, _≤_, _<_}
-use mathlib.Core.Path.{_≡_, refl, sym, ap, _∙_}
+use mathlib.Core.Path.{_≡_, refl, sym, ap, ap₂, subst, _∙_}
 use mathlib.Core.List.{List, [], _∷_, _++_}
 use mathlib.Core.Bool.{Bool, true, false, cond, _||_}
 use mathlib.Core.Logic.{_⊎_, inl, inr, ⊎-elim}
@@ -11,7 +11,7 @@ use lib.Dec.{leb, ltb, eqb}
 use lib.ListN.{length, getD, take}
 use borrow.Author.Tests.{lt-ltb, le-ltb, le-leb, eq-eqb, ltb-true, ltb-false, leb-true, eqb-true}
 use Rattle.stage0_laws.specs.Order.{lt-or-le}
-use Rattle.stage0_number.specs.Number.{Groups, last, more, count, value, highest}
+use Rattle.stage0_number.specs.Number.{InGroups, last-group, then-groups, Groups, last, more, count, value, highest}
 use Rattle.stage0_number.specs.Number.{Front, cut, whole, followed, front, fewest, judged, number-from, encode-in}
 use Rattle.stage0_number.specs.declared.Number.the-variants.{Read, Refused}
 
@@ -29,33 +29,32 @@ highest-value (more g gs) = omega (arith, highest-value gs)
 
 -- ---- what an accepted number says
 
-pub refused-read : {A : Type 0} {v n : ℕ} → Refused ≡ Read v n → A
-refused-read {A} {v} {n} e = let z : _≡_ {A = ℕ} 0 1 = cc in absurd (omega arith)
+pub refused-read : {A : Type 0} {v n : ℕ} {p : Bool} → Refused ≡ Read v n p → A
+refused-read {A} {v} {n} {p} e = let z : _≡_ {A = ℕ} 0 1 = cc in absurd (omega arith)
 
--- The three tests, passed.
-pub record JudgedRead (groups top n v w : ℕ) : Type 0 where
+-- The two tests, passed.
+pub record JudgedRead (groups top n v w : ℕ) (p : Bool) : Type 0 where
   pub is-value : v ≡ n
   pub is-count : w ≡ groups
+  pub is-fewest : p ≡ fewest groups top
   pub ten : groups ≤ 10
-  pub short : fewest groups top ≡ true
   pub below : n < 2 ^ 64
 
-accepted-cases : (p q r : Bool) (groups top n : ℕ) {v w : ℕ} → leb groups 10 ≡ p → fewest groups top ≡ q → ltb n (2 ^ 64) ≡ r
-    → cond p (cond q (cond r (Read n groups) Refused) Refused) Refused ≡ Read v w → JudgedRead groups top n v w
-accepted-cases true true true g t n {v} {w} hp hq hr e =
-    record { is-value = cc; is-count = cc; ten = leb-true g 10 hp; short = hq; below = ltb-true n _ hr }
-accepted-cases true true false g t n hp hq hr e = refused-read e
-accepted-cases true false r g t n hp hq hr e = refused-read e
-accepted-cases false q r g t n hp hq hr e = refused-read e
+accepted-cases : (x y : Bool) (groups top n : ℕ) {v w : ℕ} {p : Bool} → leb groups 10 ≡ x → ltb n (2 ^ 64) ≡ y
+    → cond x (cond y (Read n groups (fewest groups top)) Refused) Refused ≡ Read v w p → JudgedRead groups top n v w p
+accepted-cases true true g t n {v} {w} {p} hx hy e =
+    record { is-value = cc; is-count = cc; is-fewest = cc; ten = leb-true g 10 hx; below = ltb-true n _ hy }
+accepted-cases true false g t n hx hy e = refused-read e
+accepted-cases false y g t n hx hy e = refused-read e
 
-pub accepted : (groups top n : ℕ) {v w : ℕ} → judged groups top n ≡ Read v w → JudgedRead groups top n v w
+pub accepted : (groups top n : ℕ) {v w : ℕ} {p : Bool} → judged groups top n ≡ Read v w p → JudgedRead groups top n v w p
 unfolding judged
-accepted g t n e = accepted-cases (leb g 10) (fewest g t) (ltb n (2 ^ 64)) g t n refl refl refl e
+accepted g t n e = accepted-cases (leb g 10) (ltb n (2 ^ 64)) g t n refl refl e
 
--- The other way: what passes the three tests is accepted.
-pub judged-read : (groups top n : ℕ) → groups ≤ 10 → fewest groups top ≡ true → n < 2 ^ 64 → judged groups top n ≡ Read n groups
+-- The other way: what passes the two tests is accepted.
+pub judged-read : (groups top n : ℕ) → groups ≤ 10 → n < 2 ^ 64 → judged groups top n ≡ Read n groups (fewest groups top)
 unfolding judged
-judged-read g t n h f b = rw (le-leb g 10 h, f, lt-ltb n (2 ^ 64) b)
+judged-read g t n h b = rw (le-leb g 10 h, lt-ltb n (2 ^ 64) b)
 
 -- The fewest bytes: where the last group is zero, it is the only one.
 fewest-cases : (p q : Bool) (groups top : ℕ) → eqb groups 1 ≡ p → ltb 0 top ≡ q → (p || q) ≡ true → top ≡ 0 → groups ≡ 1
@@ -80,17 +79,17 @@ fewest-is g (suc t) h = rw (lt-ltb 0 (suc t) (omega arith)) (or-true (eqb g 1))
     or-true false = refl
 
 -- A number that was read: its groups stand at the front, and passed.
-pub record Found (s : List ℕ) (v w : ℕ) : Type 0 where
+pub record Found (s : List ℕ) (v w : ℕ) (p : Bool) : Type 0 where
   pub gs : Groups
   pub at-front : front s ≡ whole gs
-  pub passed : JudgedRead (count gs) (highest gs) (value gs) v w
+  pub passed : JudgedRead (count gs) (highest gs) (value gs) v w p
 
-found-cases : (f : Front) (s : List ℕ) {v w : ℕ} → front s ≡ f → number-from f ≡ Read v w → Found s v w
+found-cases : (f : Front) (s : List ℕ) {v w : ℕ} {p : Bool} → front s ≡ f → number-from f ≡ Read v w p → Found s v w p
 unfolding number-from
 found-cases cut s h e = refused-read e
 found-cases (whole gs) s h e = record { gs = gs; at-front = h; passed = accepted (count gs) (highest gs) (value gs) e }
 
-pub found : (s : List ℕ) {v w : ℕ} → number-from (front s) ≡ Read v w → Found s v w
+pub found : (s : List ℕ) {v w : ℕ} {p : Bool} → number-from (front s) ≡ Read v w p → Found s v w p
 found s e = found-cases (front s) s refl e
 
 -- ---- the groups at the front, by the first byte
@@ -148,89 +147,159 @@ unfolding front
 front-kept [] t gs e = cut-whole e
 front-kept (b ∷ rest) t gs e = kept-step b rest t (front-kept rest t) (start b rest e)
 
--- ---- groups in the fewest bytes are those that the value is written in
+-- ---- bytes in groups, and the groups at the front
 
-module _ (b : ℕ) (rest : List ℕ) (k : ℕ) where
-  sound-last : b < 128 → b ∷ [] ≡ encode-in (suc k) b
-  unfolding encode-in
-  sound-last h = rw (lt-ltb b 128)
-
-  sound-more : (m : ℕ) → 128 ≤ b → b < 256 → 0 < m → b ∷ encode-in k m ≡ encode-in (suc k) (b % 128 + 128 * m)
-  unfolding encode-in
-  sound-more m h l p =
-      let q : (b % 128 + 128 * m) / 128 ≡ m = omega arith in
-      let r : (b % 128 + 128 * m) % 128 ≡ b % 128 = omega arith in
-      let f : 128 + b % 128 ≡ b = omega arith in
-      rw (le-ltb (b % 128 + 128 * m) 128 (omega arith), q, r, f)
-
-  sound-step : {gs : Groups} → b < 256
-      → ((hs : Groups) → front rest ≡ whole hs → count hs ≤ k → (highest hs ≡ 0 → count hs ≡ 1) → take (count hs) rest ≡ encode-in k (value hs))
-      → count gs ≤ suc k → (highest gs ≡ 0 → count gs ≡ 1) → Start b rest gs → take (count gs) (b ∷ rest) ≡ encode-in (suc k) (value gs)
-  unfolding count value highest
-  sound-step {gs} l ih c s (ends h e) = rw e (sound-last h)
-  sound-step {gs} l ih c s (goes-on hs h f e) =
-      let n : 0 < highest hs = top (highest hs) (λ z. s (ap highest e ∙ z)) in
-      rw (e, ih hs f (omega (arith, ap count e)) (λ z. absurd (omega arith))) (sound-more (value hs) h l (omega (arith, highest-value hs)))
-    where
-      top : (x : ℕ) → (x ≡ 0 → count gs ≡ 1) → 0 < x
-      top zero z = absurd (omega (arith, z refl, ap count e, count-positive hs))
-      top (suc x) z = omega arith
-
-pub front-sound : (k : ℕ) (s : List ℕ) (gs : Groups) → ((i : ℕ) → getD s i 0 < 256) → front s ≡ whole gs → count gs ≤ k
-    → (highest gs ≡ 0 → count gs ≡ 1) → take (count gs) s ≡ encode-in k (value gs)
-unfolding front
-front-sound k [] gs hb e c s = cut-whole e
-front-sound zero (b ∷ rest) gs hb e c s = absurd (omega (arith, count-positive gs))
-front-sound (suc k) (b ∷ rest) gs hb e c s =
-    sound-step b rest k (hb 0) (λ hs. front-sound k rest hs (λ i. hb (suc i))) c s (start b rest e)
-
--- ---- what is written is found
-
-pub record Coded (k n : ℕ) (t : List ℕ) : Type 0 where
+-- Bytes in groups: what a reader finds where they stand.
+pub record InFront (n : ℕ) (bytes t : List ℕ) : Type 0 where
   pub gs : Groups
-  pub at-front : front (encode-in k n ++ t) ≡ whole gs
+  pub at-front : front (bytes ++ t) ≡ whole gs
   pub is-value : value gs ≡ n
-  pub is-count : count gs ≡ length (encode-in k n)
-  pub zero-top : highest gs ≡ 0 → n ≡ 0
-  pub alone : n < 128 → count gs ≡ 1
+  pub is-count : count gs ≡ length bytes
 
-coded-last : (k n : ℕ) (t : List ℕ) → n < 128 → Coded (suc k) n t
-unfolding encode-in count value highest
-coded-last k n t h =
-    let w : encode-in (suc k) n ≡ n ∷ [] = rw (lt-ltb n 128) in
+pub groups-in-front : {n : ℕ} {bytes : List ℕ} → InGroups n bytes → (t : List ℕ) → InFront n bytes t
+unfolding count value
+groups-in-front (last-group {g} h) t = record { gs = last g; at-front = front-last g t h; is-value = refl; is-count = refl }
+groups-in-front (then-groups {g} {n} {bytes} h r) t =
+    let f = groups-in-front r t in
     record {
-      gs = last n;
-      at-front = rw w (front-last n t h);
-      is-value = refl;
-      is-count = sym (ap length w);
-      zero-top = λ z. z;
-      alone = λ l. refl;
+      gs = more ((128 + g) % 128) (f .gs);
+      at-front = front-more (128 + g) (bytes ++ t) (omega arith) (f .at-front);
+      is-value = omega (arith, f .is-value);
+      is-count = ap suc (f .is-count);
     }
 
-coded-more : (k n : ℕ) (t : List ℕ) → 128 ≤ n → Coded k (n / 128) t → Coded (suc k) n t
-unfolding encode-in count value highest
-coded-more k n t h r =
-    let w : encode-in (suc k) n ≡ (128 + n % 128) ∷ encode-in k (n / 128) = rw (le-ltb n 128) in
-    let m : (128 + n % 128) % 128 ≡ n % 128 = omega arith in
-    record {
-      gs = more (n % 128) (r .gs);
-      at-front = rw w (front-more (128 + n % 128) (encode-in k (n / 128) ++ t) (omega arith) (r .at-front) ∙ rw m);
-      is-value = omega (arith, r .is-value);
-      is-count = sym (ap length w ∙ ap suc (sym (r .is-count)));
-      zero-top = λ z. absurd (omega (arith, r .zero-top z));
-      alone = λ l. absurd (omega arith);
-    }
+-- What a reader finds among bytes is in groups.
+in-groups-step : (b : ℕ) (rest : List ℕ) {gs : Groups} → b < 256
+    → ((hs : Groups) → front rest ≡ whole hs → InGroups (value hs) (take (count hs) rest))
+    → Start b rest gs → InGroups (value gs) (take (count gs) (b ∷ rest))
+unfolding count value
+in-groups-step b rest {gs} l ih (ends h e) = rw e (last-group h)
+in-groups-step b rest {gs} l ih (goes-on hs h f e) =
+    let whole-byte : 128 + b % 128 ≡ b = omega arith in
+    let r : InGroups (b % 128 + 128 * value hs) ((128 + b % 128) ∷ take (count hs) rest) = then-groups {g = b % 128} (omega arith) (ih hs f) in
+    rw e (subst (λ (x : ℕ). InGroups (b % 128 + 128 * value hs) (x ∷ take (count hs) rest)) whole-byte r)
 
-pub coded : (k n : ℕ) (t : List ℕ) → 0 < k → n < 2 ^ (7 * k) → Coded k n t
-coded zero n t p h = absurd (omega arith)
-coded (suc k) n t p h =
+pub front-in-groups : (s : List ℕ) (gs : Groups) → ((i : ℕ) → getD s i 0 < 256) → front s ≡ whole gs → InGroups (value gs) (take (count gs) s)
+unfolding front
+front-in-groups [] gs hb e = cut-whole e
+front-in-groups (b ∷ rest) gs hb e =
+    in-groups-step b rest (hb 0) (λ hs. front-in-groups rest hs (λ i. hb (suc i))) (start b rest e)
+
+-- ---- one way of writing a number for each count of groups
+
+pub groups-some : {n : ℕ} {bytes : List ℕ} → InGroups n bytes → 1 ≤ length bytes
+groups-some (last-group h) = omega arith
+groups-some (then-groups h r) = omega arith
+
+pub groups-same : {m n : ℕ} {x y : List ℕ} → InGroups m x → InGroups n y → m ≡ n → length x ≡ length y → x ≡ y
+groups-same (last-group h) (last-group i) e l = ap (λ (j : ℕ). j ∷ []) e
+groups-same (last-group h) (then-groups i r) e l = absurd (omega (arith, groups-some r))
+groups-same (then-groups h r) (last-group i) e l = absurd (omega (arith, groups-some r))
+groups-same (then-groups {g} h r) (then-groups {g = k} i s) e l =
+    let low : 128 + g ≡ 128 + k = omega arith in
+    ap₂ (λ (j : ℕ) (z : List ℕ). j ∷ z) low (groups-same r s (omega arith) (omega arith))
+
+-- An empty group more.
+pub one-wider : {n : ℕ} {bytes : List ℕ} → InGroups n bytes → (wider : List ℕ) × InGroups n wider × (length wider ≡ suc (length bytes))
+one-wider (last-group {g} h) =
+    let r : InGroups (g + 128 * 0) ((128 + g) ∷ 0 ∷ []) = then-groups h (last-group {g = 0} (omega arith)) in
+    let same : g + 128 * 0 ≡ g = omega arith in
+    ((128 + g) ∷ 0 ∷ [], subst (λ (x : ℕ). InGroups x ((128 + g) ∷ 0 ∷ [])) same r, refl)
+one-wider (then-groups {g} h r) = let w = one-wider r in ((128 + g) ∷ w .0, then-groups h (w .1), ap suc (w .2))
+
+-- ---- what is written is in groups, and no groups are fewer
+
+-- What one group more makes of the bytes written.
+encode-last : (k n : ℕ) → n < 128 → encode-in (suc k) n ≡ n ∷ []
+unfolding encode-in
+encode-last k n h = rw (lt-ltb n 128)
+
+encode-more : (k n : ℕ) → 128 ≤ n → encode-in (suc k) n ≡ (128 + n % 128) ∷ encode-in k (n / 128)
+unfolding encode-in
+encode-more k n h = rw (le-ltb n 128)
+
+pub encode-in-groups : (k n : ℕ) → 0 < k → n < 2 ^ (7 * k) → InGroups n (encode-in k n)
+encode-in-groups zero n p h = absurd (omega arith)
+encode-in-groups (suc k) n p h =
     let e : 7 * suc k ≡ 7 * k + 7 = omega arith in
     let q : n / 128 < 2 ^ (7 * k) = shr-lt (7 * k) 7 (rw e at h) in
-    ⊎-elim (λ l. coded-last k n t l) (λ l. coded-more k n t l (coded k (n / 128) t (room k q l) q)) (lt-or-le n 128)
+    let whole-number : n % 128 + 128 * (n / 128) ≡ n = omega arith in
+    ⊎-elim
+    (λ l. rw (encode-last k n l) (last-group l))
+    (λ l. rw (encode-more k n l)
+    (subst (λ (x : ℕ). InGroups x ((128 + n % 128) ∷ encode-in k (n / 128))) whole-number
+    (then-groups {g = n % 128} (omega arith) (encode-in-groups k (n / 128) (room k q l) q))))
+    (lt-or-le n 128)
   where
     room : (k : ℕ) → n / 128 < 2 ^ (7 * k) → 128 ≤ n → 0 < k
     room zero q l = absurd (omega arith)
     room (suc j) q l = omega arith
+
+-- How long it is, by what comes after the lowest group.
+width-small : (k g : ℕ) → g < 128 → length (encode-in (suc k) (g + 128 * 0)) ≡ 1
+width-small k g h = ap length (encode-last k (g + 128 * 0) (omega arith))
+
+width-more : (k g n : ℕ) → g < 128 → 0 < n → length (encode-in (suc k) (g + 128 * n)) ≡ suc (length (encode-in k n))
+width-more k g n h p =
+    let q : (g + 128 * n) / 128 ≡ n = omega arith in
+    ap length (encode-more k (g + 128 * n) (omega arith)) ∙ ap (λ (m : ℕ). suc (length (encode-in k m))) q
+
+pub encode-in-fewest : (k : ℕ) {n : ℕ} {bytes : List ℕ} → InGroups n bytes → length bytes ≤ k → length (encode-in k n) ≤ length bytes
+encode-in-fewest zero g l = absurd (omega (arith, groups-some g))
+encode-in-fewest (suc k) (last-group {g} h) l = omega (arith, ap length (encode-last k g h))
+encode-in-fewest (suc k) (then-groups {g} {n} {bytes} h r) l = go n refl (encode-in-fewest k r (omega arith))
+  where
+    go : (m : ℕ) → n ≡ m → length (encode-in k n) ≤ length bytes → length (encode-in (suc k) (g + 128 * n)) ≤ suc (length bytes)
+    go zero e w = rw e (omega (arith, width-small k g h))
+    go (suc m) e w = omega (arith, width-more k g n h (omega arith), w)
+
+-- Groups of seven bits each.
+abbrev pub Small : Groups → Type 0
+Small (last g) = g < 128
+Small (more g gs) = (g < 128) × Small gs
+
+small-step : (b : ℕ) (rest : List ℕ) {gs : Groups} → ((hs : Groups) → front rest ≡ whole hs → Small hs) → Start b rest gs → Small gs
+small-step b rest ih (ends h e) = rw e h
+small-step b rest ih (goes-on hs h f e) = rw e (omega arith, ih hs f)
+
+pub front-small : (s : List ℕ) (gs : Groups) → front s ≡ whole gs → Small gs
+unfolding front
+front-small [] gs e = cut-whole e
+front-small (b ∷ rest) gs e = small-step b rest (front-small rest) (start b rest e)
+
+-- The test for the fewest bytes tells whether there are as many groups as are written.
+pub fewest-width : (k : ℕ) (gs : Groups) → Small gs → count gs ≤ k → (highest gs ≡ 0 → count gs ≡ 1) → count gs ≡ length (encode-in k (value gs))
+unfolding count value highest
+fewest-width zero gs s l f = absurd (omega (arith, count-positive gs))
+fewest-width (suc k) (last g) s l f = sym (ap length (encode-last k g s))
+fewest-width (suc k) (more g gs) s l f =
+    let more-than-one = count-positive gs in
+    let top : (h : ℕ) → (h ≡ 0 → suc (count gs) ≡ 1) → 0 < h = λ h z. positive h z in
+    let n : 0 < highest gs = top (highest gs) f in
+    ap suc (fewest-width k gs (s .1) (omega arith) (λ z. absurd (omega arith)))
+    ∙ sym (width-more k g (value gs) (s .0) (omega (arith, highest-value gs)))
+  where
+    positive : (h : ℕ) → (h ≡ 0 → suc (count gs) ≡ 1) → 0 < h
+    positive zero z = absurd (omega (arith, z refl, count-positive gs))
+    positive (suc h) z = omega arith
+
+one-group : (gs : Groups) → count gs ≡ 1 → value gs ≡ highest gs
+unfolding count value highest
+one-group (last g) e = refl
+one-group (more g gs) e = absurd (omega (arith, count-positive gs))
+
+pub width-fewest : (k : ℕ) (gs : Groups) → Small gs → count gs ≤ k → count gs ≡ length (encode-in k (value gs)) → highest gs ≡ 0 → count gs ≡ 1
+unfolding count value highest
+width-fewest zero gs s l e z = absurd (omega (arith, count-positive gs))
+width-fewest (suc k) (last g) s l e z = refl
+width-fewest (suc k) (more g gs) s l e z = absurd (go (value gs) refl (width-fewest k gs (s .1) (omega arith)))
+  where
+    go : (v : ℕ) → value gs ≡ v → (count gs ≡ length (encode-in k (value gs)) → highest gs ≡ 0 → count gs ≡ 1) → ⊥
+    go zero h ih =
+        omega (arith, e, ap (λ (x : ℕ). length (encode-in (suc k) (g + 128 * x))) h, width-small k g (s .0), count-positive gs)
+    go (suc v) h ih =
+        let same : count gs ≡ length (encode-in k (value gs)) = omega (arith, e, width-more k g (value gs) (s .0) (omega arith)) in
+        omega (arith, one-group gs (ih same z))
 
 -- ---- how long, and of which bytes
 

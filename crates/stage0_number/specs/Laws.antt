@@ -1,15 +1,21 @@
--- The laws of numbers, for readers of the definitions and for other crates to cite: reading and writing undo each other,
--- nothing past the end is looked at, and no two numbers share their bytes. What writing leaves in a buffer is in `Splice`.
-use Prim.Native.Nat.{ℕ, _+_, _^_, _≤_, _<_}
-use mathlib.Core.Path.{_≡_, refl, sym, ap, ap₂, _∙_}
+-- The laws of numbers, for readers of the definitions and for other crates to cite: reading finds just what is written in groups, and
+-- tells whether the bytes were the fewest; nothing past the end is looked at, and no two numbers share their bytes. What writing leaves
+-- in a buffer is in `Splice`.
+use Prim.Native.Nat.{ℕ, zero, suc, _+_, _-_, _^_, _≤_, _<_}
+use mathlib.Core.Path.{_≡_, refl, sym, ap, ap₂, subst, _∙_}
+use mathlib.Core.Bool.{Bool, true, false, cond}
 use mathlib.Core.List.{List, [], _++_}
+use mathlib.Core.Logic.{_↔_, ⊎-elim}
 use native.Mathlib.Omega.{arith}
-use lib.ListN.{length, getD, take, drop, length-drop, take-append-drop}
-use lib.Seq.{drop-at, drop-append-add, getD-drop, length-take-le}
-use Rattle.stage0_number.specs.Number.{count, value, highest, front, number-from, decode, encode-in, encode}
-use Rattle.stage0_number.specs.Groups.{count-positive, judged-read, fewest-alone, fewest-is, found}
-use Rattle.stage0_number.specs.Groups.{front-within, front-kept, front-sound, coded, length-encode-in, encode-in-there, encode-in-bytes}
-use Rattle.stage0_number.specs.declared.Number.the-variants.{Read}
+use lib.ListN.{length, getD, take, drop, length-take, length-drop, take-append-drop}
+use lib.Seq.{drop-append-add, take-append-seam, getD-drop, length-take-le}
+use Rattle.stage0_laws.specs.Order.{lt-or-le}
+use Rattle.stage0_number.specs.Number.{InGroups, count, value, highest, front, fewest, number-from, decode, unpadded, decode-fewest, encode-in, encode}
+use Rattle.stage0_number.specs.Groups.{count-positive, judged-read, refused-read, fewest-alone, fewest-is, found}
+use Rattle.stage0_number.specs.Groups.{front-within, front-kept, front-small, groups-in-front, front-in-groups, groups-some, groups-same, one-wider}
+use Rattle.stage0_number.specs.Groups.{encode-in-groups, encode-in-fewest, fewest-width, width-fewest, length-encode-in, encode-in-there, encode-in-bytes}
+use Rattle.stage0_number.specs.declared.Number.{Number}
+use Rattle.stage0_number.specs.declared.Number.the-variants.{Read, Refused}
 
 -- ---- the bytes of a number
 
@@ -25,6 +31,27 @@ encode-ten n = length-encode-in 10 n
 pub encode-bytes : (n i : ℕ) → getD (encode n) i 0 < 256
 unfolding encode
 encode-bytes n i = encode-in-bytes 10 n i
+
+-- It is in groups, and no other groups of the number are fewer.
+pub encode-groups : (n : ℕ) → n < 2 ^ 64 → InGroups n (encode n)
+unfolding encode
+encode-groups n h = encode-in-groups 10 n (omega arith) (omega arith)
+
+pub encode-fewest : {n : ℕ} {bytes : List ℕ} → InGroups n bytes → length (encode n) ≤ length bytes
+unfolding encode
+encode-fewest {n} {bytes} g =
+    ⊎-elim (λ l. omega (arith, length-encode-in 10 n)) (λ l. encode-in-fewest 10 g l) (lt-or-le 10 (length bytes))
+
+-- A number has one way to be written in each count of groups from its fewest on.
+pub groups-once : {n : ℕ} {x y : List ℕ} → InGroups n x → InGroups n y → length x ≡ length y → x ≡ y
+groups-once g h l = groups-same g h refl l
+
+pub any-width : (n more : ℕ) → n < 2 ^ 64 → (bytes : List ℕ) × InGroups n bytes × (length bytes ≡ length (encode n) + more)
+any-width n zero h = (encode n, encode-groups n h, omega arith)
+any-width n (suc more) h =
+    let g = any-width n more h in
+    let w = one-wider (g .1) in
+    (w .0, w .1, omega (arith, w .2, g .2))
 
 -- ---- which bytes a reading looks at
 
@@ -44,11 +71,11 @@ pub record Within (s : List ℕ) (at v n : ℕ) : Type 0 where
   pub ten : n ≤ 10
   pub below : v < 2 ^ 64
 
-pub decode-within : (s : List ℕ) (at : ℕ) {v n : ℕ} → decode s at ≡ Read v n → Within s at v n
+pub decode-within : (s : List ℕ) (at : ℕ) {v n : ℕ} {p : Bool} → decode s at ≡ Read v n p → Within s at v n
 unfolding decode
-decode-within s at {v} {n} e =
+decode-within s at {v} {n} {p} e =
     let f = found (drop at s) e in
-    let p = count-positive (f .gs) in
+    let some = count-positive (f .gs) in
     record {
       inside = omega (arith, front-within (drop at s) (f .gs) (f .at-front), length-drop at s, f .passed .is-count);
       some = omega (arith, f .passed .is-count);
@@ -57,10 +84,10 @@ decode-within s at {v} {n} e =
     }
 
 -- Only those that it used: where the same stand, the same is read.
-pub decode-kept : (s : List ℕ) (at : ℕ) (t : List ℕ) (k : ℕ) {v n : ℕ} → decode s at ≡ Read v n
-    → take n (drop k t) ≡ take n (drop at s) → decode t k ≡ Read v n
+pub decode-kept : (s : List ℕ) (at : ℕ) (t : List ℕ) (k : ℕ) {v n : ℕ} {p : Bool} → decode s at ≡ Read v n p
+    → take n (drop k t) ≡ take n (drop at s) → decode t k ≡ Read v n p
 unfolding decode
-decode-kept s at t k {v} {n} e h =
+decode-kept s at t k {v} {n} {p} e h =
     let f = found (drop at s) e in
     let c : n ≡ count (f .gs) = f .passed .is-count in
     let a : drop k t ≡ take (count (f .gs)) (drop at s) ++ drop n (drop k t) =
@@ -69,53 +96,110 @@ decode-kept s at t k {v} {n} e h =
     ap front a ∙ front-kept (drop at s) (drop n (drop k t)) (f .gs) (f .at-front) ∙ sym (f .at-front) in
     ap number-from g ∙ e
 
--- ---- reading what was written
+-- ---- reading what is in groups
 
--- At any place of any bytes, what was written is read back.
-pub decode-encode : (p : List ℕ) (n : ℕ) (t : List ℕ) → n < 2 ^ 64 → decode (p ++ (encode n ++ t)) (length p) ≡ Read n (length (encode n))
-unfolding decode encode number-from
-decode-encode p n t h =
-    let r = coded 10 n t (omega arith) (omega arith) in
-    let l = length-encode-in 10 n in
-    let c = r .is-count in
-    let v = r .is-value in
-    let s = fewest-is (count (r .gs)) (highest (r .gs)) (λ z. r .alone (omega (arith, r .zero-top z))) in
-    rw (drop-at p (encode-in 10 n ++ t) (length p) refl, r .at-front)
-    (judged-read (count (r .gs)) (highest (r .gs)) (value (r .gs)) (omega arith) s (omega arith) ∙ ap₂ Read v c)
-
--- The same, said of a place: where the bytes of a number stand, that number is read.
-pub decode-there : (s : List ℕ) (at n : ℕ) → n < 2 ^ 64 → take (length (encode n)) (drop at s) ≡ encode n
-    → decode s at ≡ Read n (length (encode n))
-decode-there s at n h e =
-    let a : drop at s ≡ encode n ++ drop (length (encode n)) (drop at s) =
-    sym (take-append-drop (length (encode n)) (drop at s)) ∙ ap (λ (l : List ℕ). l ++ drop (length (encode n)) (drop at s)) e in
-    decode-drop s at ∙ ap (λ (l : List ℕ). decode l 0) a ∙ decode-encode [] n (drop (length (encode n)) (drop at s)) h
-
--- Whatever is read is the bytes of its value: padded numbers are never read.
-pub decode-bytes : (s : List ℕ) (at : ℕ) {v n : ℕ} → ((i : ℕ) → getD s i 0 < 256) → decode s at ≡ Read v n → take n (drop at s) ≡ encode v
-unfolding decode encode
-decode-bytes s at {v} {n} hb e =
+-- Whatever is read is in groups, and these are the fewest exactly if the answer says so.
+pub decode-groups : (s : List ℕ) (at : ℕ) {v n : ℕ} {p : Bool} → ((i : ℕ) → getD s i 0 < 256) → decode s at ≡ Read v n p
+    → InGroups v (take n (drop at s))
+unfolding decode
+decode-groups s at {v} {n} hb e =
     let f = found (drop at s) e in
-    let c : n ≡ count (f .gs) = f .passed .is-count in
-    ap (λ (i : ℕ). take i (drop at s)) c
-    ∙ front-sound 10 (drop at s) (f .gs) (λ i. rw (getD-drop at s i 0) (hb (at + i))) (f .at-front) (f .passed .ten)
-    (fewest-alone (count (f .gs)) (highest (f .gs)) (f .passed .short))
-    ∙ ap (encode-in 10) (sym (f .passed .is-value))
+    let g = front-in-groups (drop at s) (f .gs) (λ i. rw (getD-drop at s i 0) (hb (at + i))) (f .at-front) in
+    subst (λ (w : ℕ). InGroups v (take w (drop at s))) (sym (f .passed .is-count))
+    (subst (λ (x : ℕ). InGroups x (take (count (f .gs)) (drop at s))) (sym (f .passed .is-value)) g)
 
--- So it takes as many bytes as writing it would.
-pub decode-width : (s : List ℕ) (at : ℕ) {v n : ℕ} → ((i : ℕ) → getD s i 0 < 256) → decode s at ≡ Read v n → n ≡ length (encode v)
-decode-width s at {v} {n} hb e =
-    let w = decode-within s at e in
-    let l : length (take n (drop at s)) ≡ n = length-take-le n (drop at s) (omega (arith, length-drop at s)) in
-    sym l ∙ ap length (decode-bytes s at hb e)
+pub fewest-exactly : (s : List ℕ) (at : ℕ) {v n : ℕ} {p : Bool} → decode s at ≡ Read v n p → (p ≡ true) ↔ (n ≡ length (encode v))
+unfolding decode encode
+fewest-exactly s at {v} {n} {p} e =
+    let f = found (drop at s) e in
+    let small = front-small (drop at s) (f .gs) (f .at-front) in
+    let ten = f .passed .ten in
+    let same : length (encode-in 10 (value (f .gs))) ≡ length (encode-in 10 v) = ap (λ (x : ℕ). length (encode-in 10 x)) (sym (f .passed .is-value)) in
+    let many = f .passed .is-count in
+    let flag = f .passed .is-fewest in (
+      λ t. many ∙ fewest-width 10 (f .gs) small ten (fewest-alone (count (f .gs)) (highest (f .gs)) (sym flag ∙ t)) ∙ same,
+      λ w. flag ∙ fewest-is (count (f .gs)) (highest (f .gs)) (width-fewest 10 (f .gs) small ten (sym many ∙ w ∙ sym same)),
+    )
+
+-- Whatever stands in at most ten groups and is below 2^64 is read, at any place of any bytes.
+pub groups-decode : (s : List ℕ) (at k : ℕ) {n : ℕ} → InGroups n (take k (drop at s)) → at + k ≤ length s → k ≤ 10 → n < 2 ^ 64
+    → (p : Bool) × (decode s at ≡ Read n k p)
+unfolding decode number-from
+groups-decode s at k {n} g inside ten below =
+    let rest = drop k (drop at s) in
+    let f = groups-in-front g rest in
+    let l : length (take k (drop at s)) ≡ k = length-take-le k (drop at s) (omega (arith, length-drop at s)) in
+    let there = ap front (sym (take-append-drop k (drop at s))) ∙ f .at-front in
+    let many : count (f .gs) ≡ k = f .is-count ∙ l in
+    let p = fewest (count (f .gs)) (highest (f .gs)) in (
+      p,
+      ap number-from there
+          ∙ judged-read (count (f .gs)) (highest (f .gs)) (value (f .gs)) (omega arith) (omega (arith, f .is-value))
+          ∙ ap₂ (λ (x y : ℕ). Read x y p) (f .is-value) many,
+    )
+
+-- ---- numbers in the fewest bytes, as an image has them
+
+-- By what the reader found: no number, a padded one, or one in its fewest bytes.
+module _ (s : List ℕ) (at : ℕ) where
+  pub none-fewest : decode s at ≡ Refused → decode-fewest s at ≡ Refused
+  unfolding decode-fewest unpadded
+  none-fewest e = rw e
+
+  pub padded-refused : {v n : ℕ} {p : Bool} → decode s at ≡ Read v n p → p ≡ false → decode-fewest s at ≡ Refused
+  unfolding decode-fewest unpadded
+  padded-refused e h = rw (e, h)
+
+  pub fewest-read : {v n : ℕ} {p : Bool} → decode s at ≡ Read v n p → p ≡ true → decode-fewest s at ≡ Read v n p
+  unfolding decode-fewest unpadded
+  fewest-read e h = rw (e, h)
+
+-- What is read there is read with the fewest bytes.
+unpadded-read : (m : Number) {v n : ℕ} {p : Bool} → unpadded m ≡ Read v n p → m ≡ Read v n true
+unfolding unpadded
+unpadded-read Refused e = refused-read e
+unpadded-read (Read w k true) e = cc
+unpadded-read (Read w k false) e = refused-read e
+
+module _ (s : List ℕ) (at : ℕ) {v n : ℕ} {p : Bool} (e : decode-fewest s at ≡ Read v n p) where
+  pub decode-unpadded : decode s at ≡ Read v n true
+  unfolding decode-fewest
+  decode-unpadded = unpadded-read (decode s at) e
+
+  pub fewest-within : Within s at v n
+  fewest-within = decode-within s at decode-unpadded
+
+  -- It takes as many bytes as writing it would, and they are the bytes of its value: a padded number is never read there.
+  pub fewest-width-is : n ≡ length (encode v)
+  fewest-width-is = fewest-exactly s at decode-unpadded .0 refl
+
+  pub fewest-bytes : ((i : ℕ) → getD s i 0 < 256) → take n (drop at s) ≡ encode v
+  fewest-bytes hb =
+      let w = fewest-within in
+      let l : length (take n (drop at s)) ≡ n = length-take-le n (drop at s) (omega (arith, length-drop at s, w .inside)) in
+      groups-once (decode-groups s at hb decode-unpadded) (encode-groups v (w .below)) (l ∙ fewest-width-is)
+
+-- Where the bytes of a number stand, that number is read.
+pub decode-there : (s : List ℕ) (at n : ℕ) → n < 2 ^ 64 → take (length (encode n)) (drop at s) ≡ encode n
+    → decode s at ≡ Read n (length (encode n)) true
+decode-there s at n h e =
+    let w = encode-ten n in
+    let i : at + length (encode n) ≤ length s = omega (arith, ap length e, length-take (length (encode n)) (drop at s), length-drop at s, encode-there n) in
+    let r = groups-decode s at (length (encode n)) (subst (InGroups n) (sym e) (encode-groups n h)) i w h in
+    r .1 ∙ ap (λ (p : Bool). Read n (length (encode n)) p) (fewest-exactly s at (r .1) .1 refl)
+
+pub fewest-there : (s : List ℕ) (at n : ℕ) → n < 2 ^ 64 → take (length (encode n)) (drop at s) ≡ encode n
+    → decode-fewest s at ≡ Read n (length (encode n)) true
+unfolding decode-fewest unpadded
+fewest-there s at n h e = rw (decode-there s at n h e)
 
 -- ---- no two numbers share their bytes
 
 -- No number's bytes are the beginning of another's.
 pub encode-prefix : (m n : ℕ) (a b : List ℕ) → m < 2 ^ 64 → n < 2 ^ 64 → encode m ++ a ≡ encode n ++ b → m ≡ n
 encode-prefix m n a b hm hn e =
-    let p : decode (encode m ++ a) 0 ≡ Read m (length (encode m)) = decode-encode [] m a hm in
-    let q : decode (encode n ++ b) 0 ≡ Read n (length (encode n)) = decode-encode [] n b hn in
+    let p : decode (encode m ++ a) 0 ≡ Read m (length (encode m)) true = decode-there (encode m ++ a) 0 m hm (take-append-seam (encode m) a) in
+    let q : decode (encode n ++ b) 0 ≡ Read n (length (encode n)) true = decode-there (encode n ++ b) 0 n hn (take-append-seam (encode n) b) in
     let r : decode (encode m ++ a) 0 ≡ decode (encode n ++ b) 0 = ap (λ (l : List ℕ). decode l 0) e in
     cc
 

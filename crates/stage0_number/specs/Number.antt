@@ -1,7 +1,7 @@
 -- What a number is, as bytes, and what writing one leaves. Definitions only: the laws are in `Laws` and `Splice`.
 -- The page: "A number is written in groups of seven bits, lowest group first, one byte a group, with bit 7 set when another
--- group follows. It uses the fewest bytes and lies below 2^64 (ten groups at most)."
-use Prim.Native.Nat.{ℕ, zero, suc, _+_, _*_, _^_, _/_, _%_}
+-- group follows. It uses the fewest bytes and lies below 2^64 (ten groups at most)." From request [3] on, sheets ask for no fewest bytes.
+use Prim.Native.Nat.{ℕ, zero, suc, _+_, _*_, _^_, _/_, _%_, _<_}
 use mathlib.Core.List.{List, [], _∷_, _++_}
 use mathlib.Core.Bool.{Bool, cond, _||_}
 use lib.ListN.{length, take, drop}
@@ -9,7 +9,13 @@ use lib.Dec.{leb, ltb, eqb}
 use Rattle.stage0_number.specs.declared.Number.{Number}
 use Rattle.stage0_number.specs.declared.Number.the-variants.{Read, Refused}
 
--- "groups of seven bits, lowest group first": a last group, or a group that others follow.
+-- "written in groups of seven bits, lowest group first, one byte a group, with bit 7 set when another group follows": these bytes are
+-- groups of this number. High groups may be empty, and how many there are is not asked.
+pub data InGroups : ℕ → List ℕ → Type 0 where
+  last-group : {g : ℕ} → g < 128 → InGroups g (g ∷ [])
+  then-groups : {g n : ℕ} {bytes : List ℕ} → g < 128 → InGroups n bytes → InGroups (g + 128 * n) ((128 + g) ∷ bytes)
+
+-- The same as a reader finds them: a last group, or a group that others follow.
 pub data Groups : Type 0 where
   last : ℕ → Groups
   more : ℕ → Groups → Groups
@@ -48,26 +54,34 @@ front (b ∷ rest) = cond (ltb b 128) (whole (last b)) (followed (b % 128) (fron
 unfoldable pub fewest : ℕ → ℕ → Bool
 fewest groups highest = eqb groups 1 || ltb 0 highest
 
--- "ten groups at most", "the fewest bytes", "below 2^64": three tests of the number of groups, the last group and the value.
+-- "ten groups at most", "below 2^64": two tests of the number of groups and the value. "The number reader now also tells its callers how
+-- many bytes it read and whether they were the fewest."
 unfoldable pub judged : ℕ → ℕ → ℕ → Number
-judged groups highest n =
-    cond (leb groups 10) (cond (fewest groups highest) (cond (ltb n (2 ^ 64)) (Read n groups) Refused) Refused) Refused
+judged groups highest n = cond (leb groups 10) (cond (ltb n (2 ^ 64)) (Read n groups (fewest groups highest)) Refused) Refused
 
 -- The number that the groups at the front make.
 unfoldable pub number-from : Front → Number
 number-from cut = Refused
 number-from (whole gs) = judged (count gs) (highest gs) (value gs)
 
--- The number at a place of some bytes: its value and how many bytes it takes, or no number.
+-- The number at a place of some bytes: its value, how many bytes were read and whether they were the fewest; or no number.
 unfoldable pub decode : List ℕ → ℕ → Number
 decode bytes at = number-from (front (drop at bytes))
+
+-- The same where a number "uses the fewest bytes", as in an image: a padded number is none.
+unfoldable pub unpadded : Number → Number
+unpadded (Read n groups fewest) = cond fewest (Read n groups fewest) Refused
+unpadded Refused = Refused
+
+unfoldable pub decode-fewest : List ℕ → ℕ → Number
+decode-fewest bytes at = unpadded (decode bytes at)
 
 -- The bytes of a number, in at most so many groups: the lowest seven bits with bit 7 set, then what is above them.
 unfoldable pub encode-in : ℕ → ℕ → List ℕ
 encode-in zero n = []
 encode-in (suc k) n = cond (ltb n 128) (n ∷ []) ((128 + n % 128) ∷ encode-in k (n / 128))
 
--- The bytes of a number below 2^64. Ten groups hold 70 bits, so the bound of ten cuts nothing off.
+-- The bytes of a number below 2^64, which are the fewest. Ten groups hold 70 bits, so the bound of ten cuts nothing off.
 unfoldable pub encode : ℕ → List ℕ
 encode n = encode-in 10 n
 

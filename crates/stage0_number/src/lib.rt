@@ -1,5 +1,5 @@
 // Numbers in groups of seven bits: the reader, the width and the writer that sheets and images share.
-// What a value may be in its field is not asked here, and neither is which refusal number a caller reports.
+// What a value may be in its field is not asked here, nor whether a padded number is allowed, nor which refusal number a caller reports.
 ghost use mathlib.Core.Path.{_≡_};
 ghost use mathlib.Core.List.{_++_};
 ghost use Prim.Native.Nat.{_+_, _*_, _≤_, _<_};
@@ -9,13 +9,13 @@ ghost use Rattle.stage0_number.specs.Number.{fewest, judged, decode, enc
 // The largest number: 2^64 - 1.
 const LARGEST: u64 = 18446744073709551615;
 
-// What stands at a place: a value with the number of bytes that it takes, or no number.
+// What stands at a place: a value, how many bytes were read and whether they were the fewest; or no number.
 pub enum Number {
-    Read(u64, usize),
+    Read(u64, usize, bool),
     Refused,
 }
 
-// Whether a number with this many groups and this last group takes the fewest bytes.
+// Whether a number with this many groups and this last group takes the fewest bytes: otherwise its last group is empty, and it is padded.
 fn is_fewest(count: usize, last: u64) -> bool
     ensures { λ r. ⌜ r ≡ fewest count last ⌝ }
 {
@@ -31,13 +31,12 @@ fn with_last(earlier: usize, scale: u64, value: u64, last: u64) -> Number
     requires { ⌜ (earlier < 10) × (0 < scale) ⌝ }
     ensures { λ r. ⌜ r ≡ judged (earlier + 1) last (value + last * scale) ⌝ }
 {
-    if is_fewest(earlier + 1, last) {
-        if (LARGEST - value) / scale < last {
-            return Number::Refused;
-        }
-        return Number::Read(value + last * scale, earlier + 1);
+    if (LARGEST - value) / scale < last {
+        return Number::Refused;
     }
-    Number::Refused
+    let count = earlier + 1;
+    let fewest = is_fewest(count, last);
+    Number::Read(value + last * scale, count, fewest)
 }
 
 // The number at a place of some bytes. The place may lie past the end: then no number is there.

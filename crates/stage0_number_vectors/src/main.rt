@@ -1,5 +1,5 @@
-// Reads the file `numbers`, a vector a line as hexadecimal bytes, and prints what the reader makes of each: value and bytes used,
-// or `refused`. Nothing is promised here: what reading and writing do is in the contracts of `stage0_number`.
+// Reads the file `numbers`, a vector a line as hexadecimal bytes, and prints what the reader makes of each: value, bytes used and whether
+// they are the same as are written or padded; or `refused`. Nothing is promised here: what reading and writing do is in the contracts of `stage0_number`.
 use libc::STDOUT_FILENO;
 ghost use Prim.Native.Nat.{_+_, _≤_, _<_};
 ghost use lib.ListN.{length};
@@ -98,18 +98,31 @@ fn comes_back(bytes: &[u8], value: u64, used: usize) -> bool
     check::same(&image[start..], &bytes[..used])
 }
 
+// Prints whether the bytes are the same as are written, or padded; `different` where what the reader said and what was written disagree.
+fn report_fewest(fewest: bool, back: bool) {
+    if fewest {
+        if back {
+            io::write_all(STDOUT_FILENO, b" same\n");
+            return;
+        }
+        io::write_all(STDOUT_FILENO, b" different\n");
+        return;
+    }
+    if back {
+        io::write_all(STDOUT_FILENO, b" different\n");
+        return;
+    }
+    io::write_all(STDOUT_FILENO, b" padded\n");
+}
+
 // Prints what the reader makes of some bytes.
 fn report(bytes: &[u8]) {
     match stage0_number::read_number(bytes, 0) {
-        stage0_number::Number::Read(value, used) => {
+        stage0_number::Number::Read(value, used, fewest) => {
             io::print_decimal(STDOUT_FILENO, value);
             io::write_all(STDOUT_FILENO, b" ");
             io::print_decimal(STDOUT_FILENO, used as u64);
-            if comes_back(bytes, value, used) {
-                io::write_all(STDOUT_FILENO, b" same\n");
-            } else {
-                io::write_all(STDOUT_FILENO, b" different\n");
-            }
+            report_fewest(fewest, comes_back(bytes, value, used));
         }
         stage0_number::Number::Refused => {
             io::write_all(STDOUT_FILENO, b"refused\n");

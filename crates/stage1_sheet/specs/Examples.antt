@@ -58,11 +58,21 @@ fixed-points n = head-of-D ++ (replicate n 5 ++ 0 ∷ [])
 abbrev pub examples : List Example
 examples =
     row bytes-of-D 0 34
-    -- no number; a number cut off; zero in two bytes
+    -- no number; a number cut off
     ∷ row [] 3 0
     ∷ row (1 ∷ 2 ∷ 3 ∷ []) 3 3
     ∷ row (1 ∷ 130 ∷ []) 3 1
-    ∷ row (head-of-D ++ 2 ∷ 128 ∷ 0 ∷ []) 3 21
+    -- zero in two bytes, hexadecimal 80 00, and in ten; ten groups with a tenth byte of 1, which is 2^63, and of 2, which is 2^64
+    ∷ row (head-of-D ++ 2 ∷ 128 ∷ 0 ∷ []) 0 23
+    ∷ row (head-of-D ++ 2 ∷ (replicate 9 128 ++ 0 ∷ [])) 0 31
+    ∷ row (head-of-D ++ 2 ∷ (replicate 9 128 ++ 1 ∷ [])) 4 21
+    ∷ row (head-of-D ++ 2 ∷ (replicate 9 128 ++ 2 ∷ [])) 3 21
+    -- eleven groups, the high ones all empty; ten that do not end
+    ∷ row (head-of-D ++ 2 ∷ (replicate 10 128 ++ 0 ∷ [])) 3 21
+    ∷ row (head-of-D ++ 2 ∷ replicate 10 128) 3 21
+    -- places count bytes: padded numbers before a tag that is none, and a byte left over after them
+    ∷ row (head-of-D ++ 131 ∷ 0 ∷ 2 ∷ 128 ∷ 0 ∷ 8 ∷ []) 4 25
+    ∷ row (head-of-D ++ 130 ∷ 128 ∷ 0 ∷ 128 ∷ 0 ∷ 8 ∷ []) 6 25
     -- version, token count and rule count
     ∷ row (2 ∷ []) 4 0
     ∷ row (tokens-and-rules 0 1) 4 1

@@ -4,7 +4,6 @@ use mathlib.Core.Bool.{Bool, cond, _&&_}
 use mathlib.Core.List.{List, [], _∷_}
 use Prim.Native.Nat.{ℕ, zero, suc, _+_}
 use lib.Dec.{leb}
-use Rattle.stage0_number.specs.Number.{decode}
 use Rattle.stage0_number.specs.declared.Number.{Number}
 use Rattle.stage0_number.specs.declared.Number.the-variants.{Read, Refused}
 
@@ -23,15 +22,15 @@ and-then (got a place) next = next a place
 unfoldable pub between : ℕ → ℕ → ℕ → Bool
 between least most v = leb least v && leb v most
 
--- "Is this number present, whole, shortest and below 2^64?", and then "Is its value allowed in its field?":
--- each has its own question number, and the number's first byte as its place. A missing number's place is the input's length,
--- which is where its first byte would stand.
+-- Is there a number, and then "Is its value allowed in its field?": each has its own question number, and the number's first byte as its
+-- place. A missing number's place is the input's length, which is where its first byte would stand.
 unfoldable pub field-of : ℕ → ℕ → (ℕ → Bool) → ℕ → Number → Reading ℕ
 field-of unreadable forbidden allowed at Refused = stop unreadable at
-field-of unreadable forbidden allowed at (Read v used) = cond (allowed v) (got v (at + used)) (stop forbidden at)
+field-of unreadable forbidden allowed at (Read v used fewest) = cond (allowed v) (got v (at + used)) (stop forbidden at)
 
-unfoldable pub read-field : ℕ → ℕ → (ℕ → Bool) → List ℕ → ℕ → Reading ℕ
-read-field unreadable forbidden allowed bytes at = field-of unreadable forbidden allowed at (decode bytes at)
+-- The same of the number at a place of some bytes. Which bytes are a number there is the caller's: a sheet's may be padded, an image's not.
+unfoldable pub read-field : (List ℕ → ℕ → Number) → ℕ → ℕ → (ℕ → Bool) → List ℕ → ℕ → Reading ℕ
+read-field number unreadable forbidden allowed bytes at = field-of unreadable forbidden allowed at (number bytes at)
 
 -- So many things in a row. What was read so far decides how the next is read, by a state.
 unfoldable pub read-many : {S A : Type 0} → (S → ℕ → Reading A) → (S → A → S) → S → ℕ → ℕ → Reading (List A)

@@ -10,8 +10,8 @@ use lib.Dec.{T, leb, ltb, leb→le, le→leb, ltb→lt, lit<}
 use lib.ListN.{length, take, drop, length-append, take-append-drop}
 use lib.Seq.{drop-length, drop-append-seam, take-append-seam, drop-drop}
 use Rattle.stage0_laws.specs.Truth.{holds-true, true-holds, and-both, and-first, and-second, and-true-first, and-true-second}
-use Rattle.stage0_number.specs.Number.{encode, decode}
-use Rattle.stage0_number.specs.Laws.{decode-within, decode-there, decode-bytes, decode-width}
+use Rattle.stage0_number.specs.Number.{encode, decode-fewest}
+use Rattle.stage0_number.specs.Laws.{fewest-within, fewest-there, fewest-bytes, fewest-width-is}
 use Rattle.stage0_number.specs.declared.Number.{Number}
 use Rattle.stage0_number.specs.declared.Number.the-variants.{Read, Refused}
 use Rattle.stage1_sheet.specs.Spelling.{spell}
@@ -142,52 +142,53 @@ pub record FieldRead (allowed : ℕ → Bool) (bytes : List ℕ) (at v end : ℕ
   pub holds : allowed v ≡ true
   pub stands : Stands bytes at (v ∷ []) end
 
+module _ (number : List ℕ → ℕ → Number) (unreadable forbidden : ℕ) (allowed : ℕ → Bool) (bytes : List ℕ) (at : ℕ) where
+  -- The ways through a field: no number is read there, one that is not allowed, or one that is.
+  pub field-cases : (R Q : ℕ → ℕ → Type 0) → (number bytes at ≡ Refused → R unreadable at)
+      → ((v used : ℕ) (fewest : Bool) → number bytes at ≡ Read v used fewest → allowed v ≡ false → R forbidden at)
+      → ((v used : ℕ) (fewest : Bool) → number bytes at ≡ Read v used fewest → allowed v ≡ true → Q v (at + used))
+      → Outcome R Q (read-field number unreadable forbidden allowed bytes at)
+  unfolding read-field field-of
+  field-cases R Q none bad good = go (number bytes at) refl
+    where
+      chosen : (v used : ℕ) (fewest : Bool) → number bytes at ≡ Read v used fewest → (c : Bool) → allowed v ≡ c
+          → Outcome R Q (cond c (got v (at + used)) (stop forbidden at))
+      chosen v used fewest e true h = accepted v (at + used) (good v used fewest e h)
+      chosen v used fewest e false h = refused forbidden at (bad v used fewest e h)
+
+      go : (n : Number) → number bytes at ≡ n → Outcome R Q (field-of unreadable forbidden allowed at n)
+      go Refused e = refused unreadable at (none e)
+      go (Read v used fewest) e = chosen v used fewest e (allowed v) refl
+
 module _ (unreadable forbidden : ℕ) (allowed : ℕ → Bool) (bytes : List ℕ) (at : ℕ) where
-  number-stands : Bytes bytes → (v used : ℕ) → decode bytes at ≡ Read v used → Stands bytes at (v ∷ []) (at + used)
+  number-stands : Bytes bytes → (v used : ℕ) (fewest : Bool) → decode-fewest bytes at ≡ Read v used fewest → Stands bytes at (v ∷ []) (at + used)
   unfolding spell
-  number-stands b v used e =
-      let w = decode-within bytes at e in
-      let same : used ≡ length (encode v) = decode-width bytes at b e in
+  number-stands b v used fewest e =
+      let w = fewest-within bytes at e in
+      let same : used ≡ length (encode v) = fewest-width-is bytes at e in
       let none : encode v ++ [] ≡ encode v = append-nil (encode v) in record {
-        there = sym (take-append-drop used (drop at bytes)) ∙ ap₂ _++_ (decode-bytes bytes at b e ∙ sym none) (drop-drop used at bytes);
+        there = sym (take-append-drop used (drop at bytes)) ∙ ap₂ _++_ (fewest-bytes bytes at e b ∙ sym none) (drop-drop used at bytes);
         until = omega (arith, ap length none);
         inside = w .inside;
       }
 
-  -- The ways through a field: no number is read there, one that is not allowed, or one that is.
-  pub field-cases : (R Q : ℕ → ℕ → Type 0) → (decode bytes at ≡ Refused → R unreadable at)
-      → ((v used : ℕ) → decode bytes at ≡ Read v used → allowed v ≡ false → R forbidden at)
-      → ((v used : ℕ) → decode bytes at ≡ Read v used → allowed v ≡ true → Q v (at + used))
-      → Outcome R Q (read-field unreadable forbidden allowed bytes at)
-  unfolding read-field field-of
-  field-cases R Q none bad good = go (decode bytes at) refl
-    where
-      chosen : (v used : ℕ) → decode bytes at ≡ Read v used → (c : Bool) → allowed v ≡ c
-          → Outcome R Q (cond c (got v (at + used)) (stop forbidden at))
-      chosen v used e true h = accepted v (at + used) (good v used e h)
-      chosen v used e false h = refused forbidden at (bad v used e h)
-
-      go : (n : Number) → decode bytes at ≡ n → Outcome R Q (field-of unreadable forbidden allowed at n)
-      go Refused e = refused unreadable at (none e)
-      go (Read v used) e = chosen v used e (allowed v) refl
-
   -- Whatever a field gives stands there; a refusal is at the field's own place.
   pub field-outcome : (R : ℕ → ℕ → Type 0) → Bytes bytes → R unreadable at → R forbidden at
-      → Outcome R (FieldRead allowed bytes at) (read-field unreadable forbidden allowed bytes at)
+      → Outcome R (FieldRead allowed bytes at) (read-field decode-fewest unreadable forbidden allowed bytes at)
   field-outcome R b u f =
-      field-cases R (FieldRead allowed bytes at) (λ e. u) (λ v used e h. f)
-      (λ v used e h. record { holds = h; stands = number-stands b v used e })
+      field-cases decode-fewest unreadable forbidden allowed bytes at R (FieldRead allowed bytes at) (λ e. u) (λ v used fewest e h. f)
+      (λ v used fewest e h. record { holds = h; stands = number-stands b v used fewest e })
 
   -- Where an allowed number stands, the field gives it.
   pub field-got : (v : ℕ) (ns : List ℕ) (end : ℕ) → v < 2 ^ 64 → allowed v ≡ true → Stands bytes at (v ∷ ns) end
-      → read-field unreadable forbidden allowed bytes at ≡ got v (after at (v ∷ []))
+      → read-field decode-fewest unreadable forbidden allowed bytes at ≡ got v (after at (v ∷ []))
   unfolding read-field field-of spell
   field-got v ns end small h s =
       let front : take (length (encode v)) (drop at bytes) ≡ encode v =
       ap (take (length (encode v))) (s .there ∙ append-assoc (encode v) (spell ns) (drop end bytes))
       ∙ take-append-seam (encode v) (spell ns ++ drop end bytes) in
       let width : after at (v ∷ []) ≡ at + length (encode v) = ap (λ (l : List ℕ). at + length l) (append-nil (encode v)) in
-      rw (decode-there bytes at v small front, h, width)
+      rw (fewest-there bytes at v small front, h, width)
 
 -- ---- several in a row
 

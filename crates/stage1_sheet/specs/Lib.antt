@@ -8,6 +8,7 @@ pub mod Spelling
 pub mod NodePlaces
 pub mod WellFormed
 pub mod SheetQuestions
+pub mod Twins
 pub mod Field
 pub mod Items
 pub mod Reading
@@ -18,6 +19,7 @@ pub mod ListLaws
 pub mod FieldLaws
 pub mod NumberLaws
 pub mod RefusalLaws
+pub mod TwinLaws
 pub mod RegexItems
 pub mod ExpressionItems
 pub mod NodePlaceLaws

@@ -1,42 +1,58 @@
 -- Numbers among bytes: reading finds a number exactly where its bytes stand, so that a place has one number at most; and several
 -- one after the other. Only the laws of one number know which bytes are written for it.
 use mathlib.Core.Path.{_≡_, refl, sym, ap, subst, _∙_}
+use mathlib.Core.Bool.{Bool}
 use mathlib.Core.List.{List, [], _∷_, _++_}
-use Prim.Native.Nat.{ℕ, _+_, _-_, _≤_, _<_}
+use mathlib.Core.Logic.{_↔_}
+use Prim.Native.Nat.{ℕ, _+_, _-_, _^_, _≤_, _<_}
 use native.Mathlib.Omega.{arith}
 use lib.ListN.{length, take, drop, length-drop}
 use lib.Seq.{length-take-le}
 use Rattle.stage0_number.specs.Number.{encode, decode}
-use Rattle.stage0_number.specs.Laws.{encode-there, decode-within, decode-there, decode-bytes}
+use Rattle.stage0_number.specs.Groups.{groups-some}
+use Rattle.stage0_number.specs.Laws.{encode-fewest, groups-once, any-width, decode-within, decode-groups, groups-decode}
 use Rattle.stage0_number.specs.declared.Number.the-variants.{Read}
-use Rattle.stage1_sheet.specs.Spelling.{Bytes, NumberAt, NumbersAt, no-more, one-more}
+use Rattle.stage1_sheet.specs.Spelling.{Bytes, NumberBytes, NumberAt, NumbersAt, no-more, one-more}
 
 -- ---- one number
 
--- A number that stands somewhere is read there, and takes at least one byte.
-pub number-read : {bytes : List ℕ} {at n next : ℕ} → NumberAt bytes at n next → (decode bytes at ≡ Read n (next - at)) × (at < next)
+-- A number that stands somewhere is read there, in fewest bytes or not, and takes at least one byte.
+pub number-read : {bytes : List ℕ} {at n next : ℕ} → NumberAt bytes at n next
+    → (fewest : Bool) × (decode bytes at ≡ Read n (next - at) fewest) × (at < next)
 number-read {bytes} {at} {n} {next} h =
-    let e : take (next - at) (drop at bytes) ≡ encode n = h .written .encoded in
     let i = h .inside in
-    let some = encode-there n in
+    let w = h .written in
     let whole : length (take (next - at) (drop at bytes)) ≡ next - at =
     length-take-le (next - at) (drop at bytes) (omega (arith, length-drop at bytes)) in
-    let width : length (encode n) ≡ next - at = sym (ap length e) ∙ whole in
-    let front : take (length (encode n)) (drop at bytes) ≡ encode n = subst (λ (k : ℕ). take k (drop at bytes) ≡ encode n) (sym width) e in
-    (decode-there bytes at n (h .written .below) front ∙ ap (Read n) width, omega arith)
+    let some : 1 ≤ next - at = omega (arith, groups-some (w .groups)) in
+    let r = groups-decode bytes at (next - at) (w .groups) (omega arith) (omega (arith, w .ten)) (w .below) in
+    (r .0, r .1, omega arith)
 
 -- Whatever is read stands there.
-pub read-number : (bytes : List ℕ) (at : ℕ) {n used : ℕ} → Bytes bytes → decode bytes at ≡ Read n used → NumberAt bytes at n (at + used)
+pub read-number : (bytes : List ℕ) (at : ℕ) {n used : ℕ} {fewest : Bool} → Bytes bytes → decode bytes at ≡ Read n used fewest
+    → NumberAt bytes at n (at + used)
 read-number bytes at {n} {used} b e =
     let w = decode-within bytes at e in
     let width : at + used - at ≡ used = omega arith in
+    let whole : length (take used (drop at bytes)) ≡ used =
+    length-take-le used (drop at bytes) (omega (arith, length-drop at bytes, w .inside)) in
     record {
       inside = w .inside;
-      written = record {
-        below = w .below;
-        encoded = subst (λ (k : ℕ). take k (drop at bytes) ≡ encode n) (sym width) (decode-bytes bytes at b e);
-      };
+      written = rw width (record { groups = decode-groups bytes at b e; ten = omega (arith, w .ten); below = w .below });
     }
+
+-- "any length up to ten groups": a number below 2^64 is written in each count of bytes from its fewest to ten, and in no other, in one way.
+pub widths-exactly : (n k : ℕ) → n < 2 ^ 64
+    → ((bytes : List ℕ) × NumberBytes n bytes × (length bytes ≡ k)) ↔ ((length (encode n) ≤ k) × (k ≤ 10))
+widths-exactly n k below = (
+  λ w. (omega (arith, encode-fewest (w .1 .groups), w .2), omega (arith, w .1 .ten, w .2)),
+  λ h. let w = any-width n (k - length (encode n)) below in
+      let l : length (w .0) ≡ k = omega (arith, w .2, h .0) in
+      (w .0, record { groups = w .1; ten = omega (arith, h .1); below = below }, l),
+)
+
+pub width-once : {n : ℕ} {x y : List ℕ} → NumberBytes n x → NumberBytes n y → length x ≡ length y → x ≡ y
+width-once w v l = groups-once (w .groups) (v .groups) l
 
 -- ---- where numbers stand, by the laws of one number alone
 
@@ -45,10 +61,10 @@ pub number-once : {bytes : List ℕ} {at m n x y : ℕ} → NumberAt bytes at m 
 number-once {bytes} {at} {m} {n} {x} {y} h k =
     let p = number-read h in
     let q = number-read k in
-    let same : Read m (x - at) ≡ Read n (y - at) = sym (p .0) ∙ q .0 in
+    let same : Read m (x - at) (p .0) ≡ Read n (y - at) (q .0) = sym (p .1) ∙ q .1 in
     let width : x - at ≡ y - at = cc in
     let first : m ≡ n = cc in
-    (first, omega (arith, p .1, q .1))
+    (first, omega (arith, p .2, q .2))
 
 module _ {bytes : List ℕ} where
   pub none-stand : {at end : ℕ} → NumbersAt bytes at [] end → at ≡ end

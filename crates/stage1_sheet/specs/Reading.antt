@@ -6,6 +6,7 @@ use Prim.Native.Nat.{ℕ, zero, suc, _+_, _-_}
 use lib.ListN.{length, getD}
 use lib.Dec.{eqb, ltb}
 use Rattle.stage0_laws.specs.Lists.{sum}
+use Rattle.stage0_number.specs.Number.{decode}
 use Rattle.stage1_sheet.specs.Limits.{most-tokens, most-rules, most-classes, most-regex-nodes, most-expression-nodes, most-byte}
 use Rattle.stage1_sheet.specs.Limits.{most-regex-tag, most-expression-tag}
 use Rattle.stage1_sheet.specs.Regex.{empty}
@@ -16,9 +17,9 @@ use Rattle.stage1_sheet.specs.Items.{RegexItem, empty-item, class-item, 
 use Rattle.stage1_sheet.specs.Items.{regex-parts, item-classes, regexes, part-depths, expressions}
 use Rattle.stage1_sheet.specs.Items.{ExpressionItem, epsilon-item, bottom-item, token-item, sequence-item, alternative-item, fixed-point-item, variable-item, repetition-item}
 
--- A number of a sheet: 3 where it is not readable, 4 where its value is not allowed.
+-- A number of a sheet, padded or not: 3 where it is not readable, 4 where its value is not allowed.
 unfoldable pub sheet-field : (ℕ → Bool) → List ℕ → ℕ → Reading ℕ
-sheet-field = read-field 3 4
+sheet-field = read-field decode 3 4
 
 -- A class's low and high bytes follow its tag, which is where 5 stands if no class is left.
 unfoldable pub class-after : List ℕ → ℕ → ℕ → ℕ → Reading RegexItem

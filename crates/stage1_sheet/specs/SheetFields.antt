@@ -63,22 +63,22 @@ pub record FieldAt (due : Due) (bytes : List ℕ) (at v next : ℕ) : Type 0 whe
 
 module _ (bytes : List ℕ) (from : Due) (from-left : LimitsLeft) (start : ℕ) (b : Bytes bytes) where
   unread : (at : ℕ) → decode bytes at ≡ Refused → (v next : ℕ) → NumberAt bytes at v next → ⊥
-  unread at e v next n = let r = number-read n .0 in let z : _≡_ {A = ℕ} 0 1 = cc in omega arith
+  unread at e v next n = let r = number-read n .1 in let z : _≡_ {A = ℕ} 0 1 = cc in omega arith
 
   pub sheet-field-outcome : (allowed : ℕ → Bool) (due : Due) (left : LimitsLeft) (at : ℕ) → TestOf allowed due
       → Reaches bytes due left at from from-left start
       → Outcome (RefusedFrom bytes from from-left start) (FieldAt due bytes at) (sheet-field allowed bytes at)
   unfolding sheet-field
   sheet-field-outcome allowed due left at t r =
-      field-cases 3 4 allowed bytes at (RefusedFrom bytes from from-left start) (FieldAt due bytes at)
+      field-cases decode 3 4 allowed bytes at (RefusedFrom bytes from from-left start) (FieldAt due bytes at)
       (λ e. record { due = due; left = left; reached = r; fails = no-number (t .something) (unread at e) })
-      (λ v used e h. record {
+      (λ v used fewest e h. record {
         due = due;
         left = left;
         reached = r;
         fails = not-allowed v (at + used) (t .something) (read-number bytes at b e) (λ a. true≢false (sym (t .complete v a) ∙ h));
       })
-      (λ v used e h. record { holds = t .sound v h; stands = read-number bytes at b e })
+      (λ v used fewest e h. record { holds = t .sound v h; stands = read-number bytes at b e })
 
   -- A number that is no tag, and what is due after it.
   pub number-outcome : (allowed : ℕ → Bool) (least limit : ℕ) (next : ℕ → Due) (left : LimitsLeft) (at : ℕ)
@@ -95,5 +95,5 @@ module _ (allowed : ℕ → Bool) (bytes : List ℕ) (at : ℕ) where
   unfolding sheet-field read-field field-of
   sheet-field-got v next h s =
       let r = number-read s in
-      let same : at + (next - at) ≡ next = omega (arith, r .1) in
-      rw (r .0, h, same)
+      let same : at + (next - at) ≡ next = omega (arith, r .2) in
+      rw (r .1, h, same)

@@ -4,7 +4,7 @@ use mathlib.Core.Path.{_≡_}
 use mathlib.Core.List.{List, [], _∷_, _++_}
 use Prim.Native.Nat.{ℕ, _-_, _^_, _≤_, _<_}
 use lib.ListN.{length, getD, take, drop}
-use Rattle.stage0_number.specs.Number.{encode}
+use Rattle.stage0_number.specs.Number.{InGroups, encode}
 use Rattle.stage1_sheet.specs.Regex.{Regex, empty, class, concat, union, star}
 use Rattle.stage1_sheet.specs.Expression.{Expression, epsilon, bottom, token, sequence, alternative, fixed-point, variable, repetition}
 use Rattle.stage1_sheet.specs.Sheet.{Rule, Sheet}
@@ -13,11 +13,12 @@ use Rattle.stage1_sheet.specs.Sheet.{Rule, Sheet}
 abbrev pub Bytes : List ℕ → Type 0
 Bytes bytes = (i : ℕ) → getD bytes i 0 < 256
 
--- "A number is written in groups of seven bits .. It uses the fewest bytes and lies below 2^64": in a sheet these bytes are written
--- for this number.
+-- "A number is written in groups of seven bits .. and lies below 2^64"; "In sheets a number may have any length up to ten groups": in a
+-- sheet these bytes are written for this number.
 pub record NumberBytes (n : ℕ) (bytes : List ℕ) : Type 0 where
+  pub groups : InGroups n bytes
+  pub ten : length bytes ≤ 10
   pub below : n < 2 ^ 64
-  pub encoded : bytes ≡ encode n
 
 -- A number stands at a place of some bytes: those from there up to the next number's place are written for it.
 pub record NumberAt (bytes : List ℕ) (at n next : ℕ) : Type 0 where

@@ -30,7 +30,7 @@ module _ (least limit : ℕ) (bytes : List ℕ) (at : ℕ) where
   unfolding sheet-field read-field field-of field-answer
   field-unreadable e = rw e
 
-  module _ {v used : ℕ} (e : decode bytes at ≡ Read v used) where
+  module _ {v used : ℕ} {fewest : Bool} (e : decode bytes at ≡ Read v used fewest) where
     pub field-over : limit ≤ v → Unfit 4 at ≡ field-answer (sheet-field (in-range least limit) bytes at)
     unfolding sheet-field read-field field-of field-answer in-range
     field-over h = rw (e, le-ltb v limit, and-false (leb least v))
@@ -67,7 +67,7 @@ agree f g h bytes at = go (decode bytes at)
   where
     go : (n : Number) → field-of 3 4 f at n ≡ field-of 3 4 g at n
     go Refused = refl
-    go (Read v used) = rw (h v)
+    go (Read v used fewest) = rw (h v)
 
 pub answer-value : (m : Reading ℕ) {v next : ℕ} → field-answer m ≡ Value v next → m ≡ got v next
 unfolding field-answer
@@ -102,18 +102,17 @@ pub field-kept : (allowed : ℕ → Bool) (bytes : List ℕ) (at : ℕ) {v next 
 unfolding sheet-field read-field field-of
 field-kept allowed bytes at {v} {next} = go (decode bytes at) refl
   where
-    chosen : (w used : ℕ) → decode bytes at ≡ Read w used → (b : Bool) → allowed w ≡ b → cond b (got w (at + used)) (stop 4 at)
-        ≡ got v next
-        → FieldKept allowed bytes v next
-    chosen w used d true a e =
+    chosen : (w used : ℕ) (fewest : Bool) → decode bytes at ≡ Read w used fewest → (b : Bool) → allowed w ≡ b
+        → cond b (got w (at + used)) (stop 4 at) ≡ got v next → FieldKept allowed bytes v next
+    chosen w used fewest d true a e =
         let i : w ≡ v = cc in
         let n : at + used ≡ next = cc in
         record { holds = subst (λ (k : ℕ). allowed k ≡ true) i a; inside = omega (arith, decode-within bytes at d .inside) }
-    chosen w used d false a e = let z : _≡_ {A = ℕ} 0 1 = cc in absurd (omega arith)
+    chosen w used fewest d false a e = let z : _≡_ {A = ℕ} 0 1 = cc in absurd (omega arith)
 
     go : (n : Number) → decode bytes at ≡ n → field-of 3 4 allowed at n ≡ got v next → FieldKept allowed bytes v next
     go Refused d e = let z : _≡_ {A = ℕ} 0 1 = cc in absurd (omega arith)
-    go (Read w used) d e = chosen w used d (allowed w) refl e
+    go (Read w used fewest) d e = chosen w used fewest d (allowed w) refl e
 
 -- The same of a reading, whatever a refusal is.
 abbrev pub Any : ℕ → ℕ → Type 0

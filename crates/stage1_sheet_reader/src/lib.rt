@@ -89,14 +89,14 @@ struct NodesRead {
     nodes: NodeColumns,
 }
 
-// The number at a place, from `least` on and below `limit`: 3 where none can be read, 4 where it is not allowed.
+// The number at a place, padded or not, from `least` on and below `limit`: 3 where none can be read, 4 where it is not allowed.
 fn read_field(sheet: &[u8], at: usize, least: u8, limit: u64) -> Field
     requires { ⌜ limit ≤ 256 ⌝ }
     ensures { λ r. ⌜ r ≡ field-answer (sheet-field (in-range least limit) (now (sheet .entry)) at) ⌝ }
 {
     match stage0_number::read_number(sheet, at) {
         Number::Refused => Field::Unfit(3, at),
-        Number::Read(v, used) => {
+        Number::Read(v, used, _) => {
             if v >= limit {
                 return Field::Unfit(4, at);
             }

@@ -10,8 +10,8 @@ use lib.Dec.{eqb, ltb, leb}
 use lib.ListN.{length, getD, take, drop, length-append, length-drop, take-append-drop}
 use lib.Seq.{drop-length, drop-drop, drop-append-seam, take-append-seam, drop-cons}
 use borrow.Author.Tests.{eqb-true, eqb-false, eq-eqb}
-use Rattle.stage0_number.specs.Number.{encode, decode}
-use Rattle.stage0_number.specs.Laws.{decode-within, decode-there, decode-bytes, decode-width, encode-prefix}
+use Rattle.stage0_number.specs.Number.{encode, decode-fewest}
+use Rattle.stage0_number.specs.Laws.{fewest-within, fewest-there, fewest-bytes, fewest-width-is, encode-prefix}
 use Rattle.stage0_number.specs.declared.Number.{Number}
 use Rattle.stage0_number.specs.declared.Number.the-variants.{Read, Refused}
 use Rattle.stage1_sheet.specs.Limits.{most-rules, most-byte}
@@ -213,8 +213,9 @@ module _ (bytes : List ℕ) where
             })
 
     -- The number at the front is the one that is decoded.
-    front-decoded : (at n : ℕ) (more : List ℕ) → n < 2 ^ 64 → drop at bytes ≡ encode n ++ more → decode bytes at ≡ Read n (length (encode n))
-    front-decoded at n more s e = decode-there bytes at n s (ap (take (length (encode n))) e ∙ take-append-seam (encode n) more)
+    front-decoded : (at n : ℕ) (more : List ℕ) → n < 2 ^ 64 → drop at bytes ≡ encode n ++ more
+        → decode-fewest bytes at ≡ Read n (length (encode n)) true
+    front-decoded at n more s e = fewest-there bytes at n s (ap (take (length (encode n))) e ∙ take-append-seam (encode n) more)
 
     stops-here : {A : Type 0} (allowed : ℕ → Bool) (next : ℕ → Fields A) (at : ℕ)
         → ((n : ℕ) (more : List ℕ) → n < 2 ^ 64 → drop at bytes ≡ encode n ++ more → allowed n ≡ true → ⊥)
@@ -230,11 +231,12 @@ module _ (bytes : List ℕ) where
       place-is = omega arith;
     }
 
-    module _ {A : Type 0} (allowed : ℕ → Bool) (next : ℕ → Fields A) (at v used : ℕ) (e : decode bytes at ≡ Read v used) (h : allowed v ≡ true) where
+    module _ {A : Type 0} (allowed : ℕ → Bool) (next : ℕ → Fields A) (at v used : ℕ) (p : Bool) (e : decode-fewest bytes at ≡ Read v used p)
+        (h : allowed v ≡ true) where
       goes-past : drop at bytes ≡ encode v ++ drop (at + used) bytes
       goes-past =
           sym (take-append-drop used (drop at bytes))
-          ∙ ap₂ _++_ (decode-bytes bytes at b e) (drop-drop used at bytes)
+          ∙ ap₂ _++_ (fewest-bytes bytes at e b) (drop-drop used at bytes)
 
       longer : {r : Reading A} → Ends (next v) (at + used) r → Ends (field allowed next) at r
       unfolding spell
@@ -244,38 +246,38 @@ module _ (bytes : List ℕ) where
             rest = s .rest;
             left = s .left;
             spelled = goes-past ∙ ap (λ (l : List ℕ). encode v ++ l) (s .spelled) ∙ sym (append-assoc (encode v) (spell (s .numbers)) (s .rest));
-            allowed = one-filled (decode-within bytes at e .below) h (s .allowed);
+            allowed = one-filled (fewest-within bytes at e .below) h (s .allowed);
             offends = s .offends;
-            place-is = (let p = s .place-is in omega (arith, length-append (encode v) (spell (s .numbers)), decode-width bytes at b e));
+            place-is = (let p = s .place-is in omega (arith, length-append (encode v) (spell (s .numbers)), fewest-width-is bytes at e));
           })
       longer (accepted u end f) =
           accepted u end (record {
             numbers = v ∷ f .numbers;
             spelled = goes-past ∙ ap (λ (l : List ℕ). encode v ++ l) (f .spelled);
-            allowed = one-filled (decode-within bytes at e .below) h (f .allowed);
+            allowed = one-filled (fewest-within bytes at e .below) h (f .allowed);
           })
 
     walk-gives : {A : Type 0} (f : Fields A) (at : ℕ) → at ≤ length bytes → Ends f at (read-fields f at)
     unfolding read-fields image-field read-field field-of
     walk-gives (nothing-after a) at h = end-gives a at h
-    walk-gives (field allowed next) at h = by-number (λ v. walk-gives (next v)) (decode bytes at) refl
+    walk-gives (field allowed next) at h = by-number (λ v. walk-gives (next v)) (decode-fewest bytes at) refl
       where
-        by-value : ((v at : ℕ) → at ≤ length bytes → Ends (next v) at (read-fields (next v) at)) → (v used : ℕ) → decode bytes at ≡ Read v used
-            → (c : Bool) → allowed v ≡ c → Ends (field allowed next) at (and-then (cond c (got v (at + used)) (stop 13 at)) (λ v end. read-fields (next v) end))
-        by-value later v used e true a = longer allowed next at v used e a (later v (at + used) (decode-within bytes at e .inside))
-        by-value later v used e false a =
+        by-value : ((v at : ℕ) → at ≤ length bytes → Ends (next v) at (read-fields (next v) at)) → (v used : ℕ) (p : Bool)
+            → decode-fewest bytes at ≡ Read v used p → (c : Bool) → allowed v ≡ c → Ends (field allowed next) at (and-then (cond c (got v (at + used)) (stop 13 at)) (λ v end. read-fields (next v) end))
+        by-value later v used p e true a = longer allowed next at v used p e a (later v (at + used) (fewest-within bytes at e .inside))
+        by-value later v used p e false a =
             refused 13 at (stops-here allowed next at (λ n more s f g.
             let same = sym e ∙ front-decoded at n more s f in
             let value : v ≡ n = cc in
             let x : allowed v ≡ true = ap allowed value ∙ g in
             true≢false (sym x ∙ a)))
 
-        by-number : ((v at : ℕ) → at ≤ length bytes → Ends (next v) at (read-fields (next v) at)) → (n : Number) → decode bytes at ≡ n
+        by-number : ((v at : ℕ) → at ≤ length bytes → Ends (next v) at (read-fields (next v) at)) → (n : Number) → decode-fewest bytes at ≡ n
             → Ends (field allowed next) at (and-then (field-of 13 13 allowed at n) (λ v end. read-fields (next v) end))
         by-number later Refused e =
             refused 13 at (stops-here allowed next at (λ n more s f g.
             let same = sym e ∙ front-decoded at n more s f in let z : _≡_ {A = ℕ} 0 1 = cc in omega arith))
-        by-number later (Read v used) e = by-value later v used e (allowed v) refl
+        by-number later (Read v used p) e = by-value later v used p e (allowed v) refl
 
 -- ---- the reader of images
 

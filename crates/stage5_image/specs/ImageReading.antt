@@ -6,6 +6,7 @@ use mathlib.Core.List.{List, [], _∷_, _++_, map}
 use Prim.Native.Nat.{ℕ, zero, suc, _^_}
 use lib.ListN.{length, getD}
 use lib.Dec.{eqb, ltb, leb}
+use Rattle.stage0_number.specs.Number.{decode-fewest}
 use Rattle.stage1_sheet.specs.Limits.{most-rules, most-byte}
 use Rattle.stage1_sheet.specs.Field.{Reading, stop, got, and-then, between, read-field, read-many}
 use Rattle.stage3_normal_form.specs.Productions.{Production, Row, most-tail}
@@ -13,9 +14,9 @@ use Rattle.stage4_lexer.specs.Positions.{Position}
 use Rattle.stage5_image.specs.Image.{Image}
 use Rattle.stage5_image.specs.ImageFields.{most-positions, most-nonterminals, most-productions}
 
--- A number of an image: 13 where it is not readable or not allowed.
+-- A number of an image, in the fewest bytes: 13 where it is not readable, padded or not allowed.
 unfoldable pub image-field : (ℕ → Bool) → List ℕ → ℕ → Reading ℕ
-image-field = read-field 13 13
+image-field = read-field decode-fewest 13 13
 
 -- A flag: 0 or 1.
 unfoldable pub read-flag : List ℕ → ℕ → Reading Bool

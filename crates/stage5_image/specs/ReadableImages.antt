@@ -10,8 +10,8 @@ use lib.ListN.{length, getD}
 use borrow.Author.Tests.{eqb-true, ltb-true}
 use Rattle.stage0_laws.specs.Lists.{All}
 use Rattle.stage0_laws.specs.Truth.{true-holds, and-true-first, and-true-second}
-use Rattle.stage0_number.specs.Number.{decode}
-use Rattle.stage0_number.specs.Laws.{decode-within}
+use Rattle.stage0_number.specs.Number.{decode-fewest}
+use Rattle.stage0_number.specs.Laws.{fewest-within}
 use Rattle.stage0_number.specs.declared.Number.{Number}
 use Rattle.stage0_number.specs.declared.Number.the-variants.{Read, Refused}
 use Rattle.stage1_sheet.specs.Limits.{most-rules, most-classes, most-expression-nodes, most-byte}
@@ -50,27 +50,27 @@ module _ (bytes : List ℕ) where
 
   field-gives : (allowed : ℕ → Bool) (at : ℕ) → at ≤ length bytes → Gives (λ v. allowed v ≡ true) just at (image-field allowed bytes at)
   unfolding image-field read-field field-of
-  field-gives allowed at h = go (decode bytes at) refl
+  field-gives allowed at h = go (decode-fewest bytes at) refl
     where
-      stands : (v end : ℕ) → Bytes bytes → read-field 13 13 allowed bytes at ≡ got v end → Stands bytes at (v ∷ []) end
+      stands : (v end : ℕ) → Bytes bytes → read-field decode-fewest 13 13 allowed bytes at ≡ got v end → Stands bytes at (v ∷ []) end
       stands v end b e =
           outcome-got (field-outcome 13 13 allowed bytes at (λ question place. Unit {0}) b tt tt) e .stands
 
-      chosen : (v used : ℕ) → decode bytes at ≡ Read v used → (c : Bool) → allowed v ≡ c
+      chosen : (v used : ℕ) (p : Bool) → decode-fewest bytes at ≡ Read v used p → (c : Bool) → allowed v ≡ c
           → Gives (λ v. allowed v ≡ true) just at (cond c (got v (at + used)) (stop 13 at))
-      chosen v used e true a = accepted v (at + used) (
+      chosen v used p e true a = accepted v (at + used) (
         a,
         record {
-          inside = decode-within bytes at e .inside;
+          inside = fewest-within bytes at e .inside;
           stands = λ b.
               stands v (at + used) b (ap (field-of 13 13 allowed at) e ∙ ap (λ (c : Bool). cond c (got v (at + used)) (stop 13 at)) a);
         },
       )
-      chosen v used e false a = refused 13 at (refl, h)
+      chosen v used p e false a = refused 13 at (refl, h)
 
-      go : (n : Number) → decode bytes at ≡ n → Gives (λ v. allowed v ≡ true) just at (field-of 13 13 allowed at n)
+      go : (n : Number) → decode-fewest bytes at ≡ n → Gives (λ v. allowed v ≡ true) just at (field-of 13 13 allowed at n)
       go Refused e = refused 13 at (refl, h)
-      go (Read v used) e = chosen v used e (allowed v) refl
+      go (Read v used p) e = chosen v used p e (allowed v) refl
 
   flag-gives : (at : ℕ) → at ≤ length bytes → Gives (λ b. Unit {0}) flag-number at (read-flag bytes at)
   unfolding read-flag flag

@@ -11,8 +11,8 @@ use borrow.Author.Tests.{lt-ltb, le-ltb, le-leb, lt-leb, leb-true}
 use Rattle.stage0_laws.specs.Truth.{and-true-first, and-true-second}
 use Rattle.stage0_laws.specs.Order.{lt-or-le}
 use mathlib.Core.Logic.{⊎-elim}
-use Rattle.stage0_number.specs.Number.{decode, encode, encode-in}
-use Rattle.stage0_number.specs.Laws.{decode-within, decode-bytes, decode-width}
+use Rattle.stage0_number.specs.Number.{decode-fewest, encode, encode-in}
+use Rattle.stage0_number.specs.Laws.{fewest-within, fewest-bytes, fewest-width-is}
 use Rattle.stage0_number.specs.declared.Number.{Number}
 use Rattle.stage0_number.specs.declared.Number.the-variants as number
 use Rattle.stage1_sheet.specs.Field.{Reading, stop, got, between, field-of, read-field}
@@ -49,16 +49,16 @@ between-most l m v e = leb-true v m (and-true-second (leb l v) (leb v m) e)
 
 -- ---- a field from the number at its place
 
-pub field-missing : (p : ℕ → Bool) (bytes : List ℕ) (at : ℕ) → decode bytes at ≡ number.Refused → image-field p bytes at ≡ stop 13 at
+pub field-missing : (p : ℕ → Bool) (bytes : List ℕ) (at : ℕ) → decode-fewest bytes at ≡ number.Refused → image-field p bytes at ≡ stop 13 at
 unfolding image-field read-field field-of
 field-missing p bytes at e = rw e
 
-pub field-allowed : (p : ℕ → Bool) (bytes : List ℕ) (at : ℕ) {v n : ℕ} → decode bytes at ≡ number.Read v n → p v ≡ true
+pub field-allowed : (p : ℕ → Bool) (bytes : List ℕ) (at : ℕ) {v n : ℕ} {f : Bool} → decode-fewest bytes at ≡ number.Read v n f → p v ≡ true
     → image-field p bytes at ≡ got v (at + n)
 unfolding image-field read-field field-of
 field-allowed p bytes at e h = rw (e, h)
 
-pub field-forbidden : (p : ℕ → Bool) (bytes : List ℕ) (at : ℕ) {v n : ℕ} → decode bytes at ≡ number.Read v n → p v ≡ false
+pub field-forbidden : (p : ℕ → Bool) (bytes : List ℕ) (at : ℕ) {v n : ℕ} {f : Bool} → decode-fewest bytes at ≡ number.Read v n f → p v ≡ false
     → image-field p bytes at ≡ stop 13 at
 unfolding image-field read-field field-of
 field-forbidden p bytes at e h = rw (e, h)
@@ -66,41 +66,42 @@ field-forbidden p bytes at e h = rw (e, h)
 -- What is known of a field that was read.
 pub record FieldGot (p : ℕ → Bool) (bytes : List ℕ) (at v next : ℕ) : Type 0 where
   pub used : ℕ
-  pub number : decode bytes at ≡ number.Read v used
+  pub fewest : Bool
+  pub number : decode-fewest bytes at ≡ number.Read v used fewest
   pub allowed : p v ≡ true
   pub after : next ≡ at + used
 
 stop-got : {A X : Type 0} {q p n : ℕ} {a : A} → _≡_ {A = Reading A} (stop q p) (got a n) → X
 stop-got {A} {X} {q} {p} {n} {a} e = let z : _≡_ {A = ℕ} 0 1 = cc in absurd (omega arith)
 
-got-cases : (p : ℕ → Bool) (bytes : List ℕ) (at w u : ℕ) {v next : ℕ} (b : Bool) → decode bytes at ≡ number.Read w u → p w ≡ b
+got-cases : (p : ℕ → Bool) (bytes : List ℕ) (at w u : ℕ) (f : Bool) {v next : ℕ} (b : Bool) → decode-fewest bytes at ≡ number.Read w u f → p w ≡ b
     → cond b (got w (at + u)) (stop 13 at) ≡ got v next → FieldGot p bytes at v next
-got-cases p bytes at w u {v} {next} true h k e =
+got-cases p bytes at w u f {v} {next} true h k e =
     let ev : w ≡ v = cc in
-    record { used = u; number = h ∙ ap (λ (x : ℕ). number.Read x u) ev; allowed = ap p (sym ev) ∙ k; after = cc }
-got-cases p bytes at w u false h k e = stop-got e
+    record { used = u; fewest = f; number = h ∙ ap (λ (x : ℕ). number.Read x u f) ev; allowed = ap p (sym ev) ∙ k; after = cc }
+got-cases p bytes at w u f false h k e = stop-got e
 
-number-cases : (p : ℕ → Bool) (bytes : List ℕ) (at : ℕ) {v next : ℕ} (n : Number) → decode bytes at ≡ n
+number-cases : (p : ℕ → Bool) (bytes : List ℕ) (at : ℕ) {v next : ℕ} (n : Number) → decode-fewest bytes at ≡ n
     → field-of 13 13 p at n ≡ got v next → FieldGot p bytes at v next
 unfolding field-of
 number-cases p bytes at number.Refused h e = stop-got e
-number-cases p bytes at (number.Read w u) h e = got-cases p bytes at w u (p w) h refl e
+number-cases p bytes at (number.Read w u f) h e = got-cases p bytes at w u f (p w) h refl e
 
 pub field-got : (p : ℕ → Bool) (bytes : List ℕ) (at : ℕ) {v next : ℕ} → image-field p bytes at ≡ got v next → FieldGot p bytes at v next
 unfolding image-field read-field
-field-got p bytes at e = number-cases p bytes at (decode bytes at) refl e
+field-got p bytes at e = number-cases p bytes at (decode-fewest bytes at) refl e
 
 -- ---- two tests of one field
 
 same-cases : (p q : ℕ → Bool) (at : ℕ) (n : Number) → ((v : ℕ) → p v ≡ q v) → field-of 13 13 p at n ≡ field-of 13 13 q at n
 unfolding field-of
 same-cases p q at number.Refused h = refl
-same-cases p q at (number.Read v u) h = rw (h v)
+same-cases p q at (number.Read v u f) h = rw (h v)
 
 -- Tests that agree read alike.
 pub field-same : (p q : ℕ → Bool) (bytes : List ℕ) (at : ℕ) → ((v : ℕ) → p v ≡ q v) → image-field p bytes at ≡ image-field q bytes at
 unfolding image-field read-field
-field-same p q bytes at h = same-cases p q at (decode bytes at) h
+field-same p q bytes at h = same-cases p q at (decode-fewest bytes at) h
 
 -- A second test after the first: what passes both is read, and what fails the second is refused at the number's place.
 pub field-passes : (p q : ℕ → Bool) (bytes : List ℕ) (at : ℕ) {v next : ℕ} → image-field p bytes at ≡ got v next → q v ≡ true
@@ -117,7 +118,7 @@ stricter-cases : (p q : ℕ → Bool) (at place : ℕ) (n : Number) → ((v : �
     → field-of 13 13 p at n ≡ stop 13 place → field-of 13 13 q at n ≡ stop 13 place
 unfolding field-of
 stricter-cases p q at place number.Refused h e = e
-stricter-cases p q at place (number.Read v u) h e = go (p v) refl e
+stricter-cases p q at place (number.Read v u w) h e = go (p v) refl e
   where
     go : (b : Bool) → p v ≡ b → cond b (got v (at + u)) (stop 13 at) ≡ stop 13 place
         → cond (q v) (got v (at + u)) (stop 13 at) ≡ stop 13 place
@@ -128,7 +129,7 @@ stricter-cases p q at place (number.Read v u) h e = go (p v) refl e
 pub field-stricter : (p q : ℕ → Bool) (bytes : List ℕ) (at : ℕ) {place : ℕ} → ((v : ℕ) → p v ≡ false → q v ≡ false)
     → image-field p bytes at ≡ stop 13 place → image-field q bytes at ≡ stop 13 place
 unfolding image-field read-field
-field-stricter p q bytes at {place} h e = stricter-cases p q at place (decode bytes at) h e
+field-stricter p q bytes at {place} h e = stricter-cases p q at place (decode-fewest bytes at) h e
 
 -- ---- small numbers
 
@@ -146,9 +147,9 @@ pub field-one-byte : (p : ℕ → Bool) (bytes : List ℕ) (at : ℕ) {v next : 
     → image-field p bytes at ≡ got v next → v < 128 → OneByte bytes at v next
 field-one-byte p bytes at {v} {next} hb e h =
     let g = field-got p bytes at e in
-    let w = decode-within bytes at (g .number) in
-    let u : g .used ≡ 1 = decode-width bytes at hb (g .number) ∙ ap length (encode-small v h) in
-    let t : take (g .used) (drop at bytes) ≡ v ∷ [] = decode-bytes bytes at hb (g .number) ∙ encode-small v h in
+    let w = fewest-within bytes at (g .number) in
+    let u : g .used ≡ 1 = fewest-width-is bytes at (g .number) ∙ ap length (encode-small v h) in
+    let t : take (g .used) (drop at bytes) ≡ v ∷ [] = fewest-bytes bytes at (g .number) hb ∙ encode-small v h in
     let s : take 1 (drop at bytes) ≡ v ∷ [] = sym (ap (λ (n : ℕ). take n (drop at bytes)) u) ∙ t in
     let l : at < length bytes = omega (arith, w .inside) in
     record {
@@ -232,7 +233,7 @@ field-below bytes limit at h =
 pub field-inside : (p : ℕ → Bool) (bytes : List ℕ) (at : ℕ) {v next : ℕ} → image-field p bytes at ≡ got v next → next ≤ length bytes
 field-inside p bytes at e =
     let g = field-got p bytes at e in
-    omega (arith, decode-within bytes at (g .number) .inside, g .after)
+    omega (arith, fewest-within bytes at (g .number) .inside, g .after)
 
 pub field-range : (l m : ℕ) (bytes : List ℕ) (at : ℕ) {v next : ℕ} → image-field (between l m) bytes at ≡ got v next → (l ≤ v) × (v ≤ m)
 field-range l m bytes at {v} e =

@@ -85,14 +85,17 @@ fn place_of(field: Field) -> usize
     }
 }
 
-// A number in a range, both ends included.
+// A number in its fewest bytes and in a range, both ends included.
 fn read_between(bytes: &[u8], at: usize, least: u64, most: u64) -> Field
     ensures { λ r. ⌜ field-reading r ≡ image-field (between least most) (now (bytes .entry)) at ⌝ }
 {
     let number = stage0_number::read_number(bytes, at);
-    let stage0_number::Number::Read(value, used) = number else {
+    let stage0_number::Number::Read(value, used, fewest) = number else {
         return Field::Refused(at);
     };
+    if !fewest {
+        return Field::Refused(at);
+    }
     if value < least {
         return Field::Refused(at);
     }

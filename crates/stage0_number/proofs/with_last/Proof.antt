@@ -1,58 +1,48 @@
--- `stage0_number::with_last` meets its contract: the fewest bytes, then below 2^64.
+-- `stage0_number::with_last` meets its contract: below 2^64 or refused; the test for the fewest bytes goes into the answer.
 use borrow.Author.Needs.{needs}
-use mathlib.Core.Path.{sym, _∙_}
+use mathlib.Core.Path.{sym, ap, _∙_}
+use mathlib.Core.Bool.{Bool}
 use native.Mathlib.Omega.{arith}
+use Prim.Native.Nat.{_+_, _*_, _^_, _<_}
 use Rattle.stage0_number.specs.Groups.{judged-read}
-use Rattle.stage0_number.proofs.Reading.{judged-padded, judged-over, last-over, last-fits}
+use Rattle.stage0_number.specs.declared.Number.the-variants.{Read}
+use Rattle.stage0_number.proofs.Reading.{judged-over, last-over, last-fits}
 use Rattle.stage0_number.proofs.with_last.Statement.{statement}
 use Rattle.stage0_number.proofs.with_last.Tie as tie
 
-add-is-fewest : tie.Need-add-is-fewest
-add-is-fewest c = search needs
+-- The value with the last group fits.
+fits : (c : tie.Else1) → let z = c .before in z .args .value + z .args .last * z .args .scale < 2 ^ 64
+fits c = let z = c .before in last-fits (z .args .value) (z .args .scale) (z .args .last) (z .pre .1) (search needs) (c .if1 .left)
+
+sub-if1 : tie.Need-sub-if1
+sub-if1 c = search needs
+
+div-if1 : tie.Need-div-if1
+div-if1 c = search needs
+
+returns : tie.Need-returns
+returns c = let z = c .before in
+    sym (judged-over _ _ _ (last-over (z .args .value) (z .args .scale) (z .args .last) (z .pre .1) (search needs) (c .if1 .taken)))
+
+add-count : tie.Need-add-count
+add-count c = search needs
 
 is-fewest-requires : tie.Need-is-fewest-requires
 is-fewest-requires c κs = search needs
 
-sub-if2 : tie.Need-sub-if2
-sub-if2 c = search needs
-
-div-if2 : tie.Need-div-if2
-div-if2 c = search needs
-
-returns : tie.Need-returns
-returns c = let z = c .before .before .before in
-    sym (judged-over _ _ _ (last-over (z .args .value) (z .args .scale) (z .args .last) (z .pre .1) (search needs) (c .if2 .taken)))
-
 mul-t7 : tie.Need-mul-t7
-mul-t7 c = let z = c .before .before .before in
-    omega (arith, last-fits (z .args .value) (z .args .scale) (z .args .last) (z .pre .1) (search needs) (c .if2 .left))
+mul-t7 c = omega (arith, fits (c .before))
 
 add-t8 : tie.Need-add-t8
-add-t8 c = let z = c .before .before .before in
-    omega (arith, last-fits (z .args .value) (z .args .scale) (z .args .last) (z .pre .1) (search needs) (c .if2 .left))
-
-add-t10 : tie.Need-add-t10
-add-t10 c = search needs
+add-t8 c = omega (arith, fits (c .before))
 
 returns-2 : tie.Need-returns-2
-returns-2 c = let z = c .before .before .before in
-    sym (judged-read _ _ _ (omega (arith, z .pre .0)) (sym (c .before .before .is-fewest .ensures) ∙ c .before .if1 .taken)
-    (last-fits (z .args .value) (z .args .scale) (z .args .last) (z .pre .1) (search needs) (c .if2 .left)))
-
-returns-3 : tie.Need-returns-3
-returns-3 c = sym (judged-padded _ _ _ (sym (c .before .is-fewest .ensures) ∙ c .if1 .left))
+returns-2 c = let z = c .before .before in
+    let v = z .args .value + z .args .last * z .args .scale in
+    ap (λ (b : Bool). Read v (z .args .earlier + 1) b) (c .is-fewest .ensures)
+    ∙ sym (judged-read (z .args .earlier + 1) (z .args .last) v (omega (arith, z .pre .0)) (fits (c .before)))
 
 pub with-last-spec : {M : Type 1} → statement M
 with-last-spec =
     tie.close
-    (tie.spec
-    add-is-fewest
-    is-fewest-requires
-    sub-if2
-    div-if2
-    returns
-    mul-t7
-    add-t8
-    add-t10
-    returns-2
-    returns-3)
+    (tie.spec sub-if1 div-if1 returns add-count is-fewest-requires mul-t7 add-t8 returns-2)

@@ -32,35 +32,23 @@ comes-back-requires c κs = let s = now (c .before .before .before .before .befo
     let w = decode-within s 0 (sym (c .before .before .before .before .before .before .before .read-number .ensures) ∙ v .1) in
     ((omega (arith, w .inside), sym (length-take-le (v .0 .1 .0) s (omega (arith, w .inside)))), w .ten, w .some)
 
+report-fewest-requires : tie.Need-report-fewest-requires
+report-fewest-requires c κs = search needs
+
+enum-told : tie.Need-enum-told
+enum-told c = search needs
+
 slice-aggregate-write-all-2 : tie.Need-slice-aggregate-write-all-2
 slice-aggregate-write-all-2 c = search needs
 
 write-all-requires-2 : tie.Need-write-all-requires-2
 write-all-requires-2 c κs = search needs
 
-slice-aggregate-write-all-3 : tie.Need-slice-aggregate-write-all-3
-slice-aggregate-write-all-3 c = search needs
-
-write-all-requires-3 : tie.Need-write-all-requires-3
-write-all-requires-3 c κs = search needs
-
-enum-told : tie.Need-enum-told
-enum-told c = search needs
-
-slice-aggregate-write-all-4 : tie.Need-slice-aggregate-write-all-4
-slice-aggregate-write-all-4 c = search needs
-
-write-all-requires-4 : tie.Need-write-all-requires-4
-write-all-requires-4 c κs = search needs
-
 returns : tie.Need-returns
 returns c = search needs
 
 returns-2 : tie.Need-returns-2
 returns-2 c = search needs
-
-returns-3 : tie.Need-returns-3
-returns-3 c = search needs
 
 pub report-spec : {M : Type 1} → statement M
 report-spec =
@@ -73,13 +61,9 @@ report-spec =
     write-all-requires
     print-decimal-requires-2
     comes-back-requires
+    report-fewest-requires
+    enum-told
     slice-aggregate-write-all-2
     write-all-requires-2
-    slice-aggregate-write-all-3
-    write-all-requires-3
-    enum-told
-    slice-aggregate-write-all-4
-    write-all-requires-4
     returns
-    returns-2
-    returns-3)
+    returns-2)
