@@ -1,8 +1,13 @@
 /*
  * Vinzagew: a proved grammar compiler, and the machine that reads by its images.
  *
- * The functions of the static library libvinzagew.a. Their contract is document 01 with requests 1 and 2
+ * The functions of the static library libvinzagew.a. Their contract is document 01 with requests 1 to 3
  * of document 02; the numbers and places below are the contract's.
+ *
+ * A sheet and an image are numbers in groups of seven bits, lowest group first, one byte a group, with
+ * bit 7 set when another group follows. In a sheet a number may be padded with empty high groups, up to
+ * ten bytes. As long as the sheet has at most 4,096 bytes, padding changes neither its verdict nor its
+ * image; places count the bytes of the sheet as it is. In an image every number has the fewest bytes.
  *
  * Every buffer is a pointer to its first byte (or number) and a length. All buffers must be valid for
  * their length, pointers must not be null (any address that is not null will do for a length of 0),
@@ -27,6 +32,9 @@ extern "C" {
 /* The most bytes that a sheet may have. */
 #define VINZAGEW_SHEET_LIMIT 4096
 
+/* The most bytes that a number of a sheet may have. */
+#define VINZAGEW_WIDTH_LIMIT 10
+
 /* The most bytes that a text may have. */
 #define VINZAGEW_TEXT_LIMIT 1048576
 
@@ -40,7 +48,7 @@ extern "C" {
 #define VINZAGEW_SUCCESS 0           /* passed, written or accepted */
 #define VINZAGEW_WORK_TOO_SHORT 1    /* the work area has fewer than 65,536 bytes */
 #define VINZAGEW_SHEET_TOO_LONG 2    /* the sheet has more than 4,096 bytes */
-#define VINZAGEW_BAD_NUMBER 3        /* a number is missing, cut off, not shortest, or 2^64 or more */
+#define VINZAGEW_BAD_NUMBER 3        /* a number is missing, cut off, over ten bytes long, or 2^64 or more */
 #define VINZAGEW_BAD_VALUE 4         /* a value is not allowed in its field */
 #define VINZAGEW_TOO_MANY_NODES 5    /* a node or class limit is broken with this tag */
 #define VINZAGEW_SHEET_GOES_ON 6     /* bytes are left over after the expression */
@@ -50,7 +58,7 @@ extern "C" {
 #define VINZAGEW_NOT_APART 10        /* alternatives are not apart */
 #define VINZAGEW_IMAGE_TOO_LONG 11   /* the image does not fit in its buffer */
 #define VINZAGEW_TEXT_TOO_LONG 12    /* the text has more than 1,048,576 bytes */
-#define VINZAGEW_NOT_READABLE 13     /* the image is not readable */
+#define VINZAGEW_NOT_READABLE 13     /* the image is not readable; one with a padded number is not */
 #define VINZAGEW_NO_MATCH 14         /* no rule matches here */
 #define VINZAGEW_NOT_TAKEN 15        /* no pending nonterminal takes the token */
 #define VINZAGEW_ENDS_EARLY 16       /* at the end, a pending nonterminal is not nullable */

@@ -20,7 +20,8 @@
  *   ./read sheet
  *   ./read sheet text
  *
- * prints `0 0 0` and `0 4 3`.
+ * prints `0 0 0` and `0 4 3`. A number of the sheet may be padded: with '\201\200\0' for a '\1' it
+ * prints the same.
  */
 #include <inttypes.h>
 #include <stdio.h>

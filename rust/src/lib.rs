@@ -3,10 +3,11 @@
 //! A *sheet* has lexer rules and one typed context-free expression. [`check`](check()) says whether a
 //! sheet passes, [`write`](write()) turns it into an [`Image`], and [`Image::run`] reads a text by
 //! it. All three call a static library whose code is proved to meet its contract, document 01 with
-//! requests 1 and 2 of document 02; this package links it and lends it the buffers that it needs. The
+//! requests 1 to 3 of document 02; this package links it and lends it the buffers that it needs. The
 //! places and numbers in this documentation are those of the contract.
 //!
-//! [`builder`] writes sheets as Rust code.
+//! [`builder`] writes sheets as Rust code. A number of a sheet may be padded with empty high groups, and
+//! [`patch`](patch()) then writes another value into it and moves no byte.
 //!
 //! The library is found when this package is built: in the folder that the environment variable
 //! `VINZAGEW_LIB_DIR` names, or else in `target/staticlib` at the top of the repository. If it is not
@@ -48,9 +49,12 @@
 
 pub mod builder;
 pub mod library;
+mod number;
+mod patch;
 mod refusal;
 
 pub use library::LIBRARY_LINKED;
+pub use patch::{patch, PatchError};
 pub use refusal::{CheckRefusal, Refusal};
 
 use library::{image_run, sheet_check, sheet_write};
@@ -63,6 +67,9 @@ pub const IMAGE_BYTES: usize = 65_536;
 
 /// The most bytes that a sheet may have.
 pub const SHEET_LIMIT: usize = 4_096;
+
+/// The most bytes that a number of a sheet may have: up to there it may be padded with empty high groups.
+pub const WIDTH_LIMIT: usize = 10;
 
 /// The most bytes that a text may have.
 pub const TEXT_LIMIT: usize = 1_048_576;
@@ -201,7 +208,8 @@ impl Image {
     ///
     /// # Errors
     ///
-    /// 13 with the place of the first offending number or leftover byte.
+    /// 13 with the place of the first offending number or leftover byte. In an image a padded number is
+    /// offending.
     pub fn from_bytes(bytes: impl Into<Vec<u8>>) -> Result<Image, Refusal> {
         let bytes = bytes.into();
         match run_with(&bytes, b"", &mut [0]) {

@@ -74,7 +74,7 @@ impl Refusal {
         match self.number {
             1 => "Has the work area at least 65,536 bytes?",
             2 => "Is the sheet within 4,096 bytes?",
-            3 => "Is this number present, whole, shortest and below 2^64?",
+            3 => "Is this number present, whole and below 2^64?",
             4 => "Is its value allowed in its field?",
             5 => "Are the node and class limits kept with this tag?",
             6 => "Does the sheet end after its expression?",

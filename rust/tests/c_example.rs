@@ -51,7 +51,7 @@ const NUMBERS: [(&str, &str); 18] = [
     ("SUCCESS", "no question"),
     ("WORK_TOO_SHORT", "work area"),
     ("SHEET_TOO_LONG", "sheet within"),
-    ("BAD_NUMBER", "number present, whole, shortest"),
+    ("BAD_NUMBER", "number present, whole and below"),
     ("BAD_VALUE", "value allowed"),
     ("TOO_MANY_NODES", "node and class limits"),
     ("SHEET_GOES_ON", "sheet end"),
@@ -92,6 +92,7 @@ fn the_header_has_the_same_limits() {
     assert_eq!(limit("WORK_BYTES"), vinzagew::WORK_BYTES);
     assert_eq!(limit("IMAGE_BYTES"), vinzagew::IMAGE_BYTES);
     assert_eq!(limit("SHEET_LIMIT"), vinzagew::SHEET_LIMIT);
+    assert_eq!(limit("WIDTH_LIMIT"), vinzagew::WIDTH_LIMIT);
     assert_eq!(limit("TEXT_LIMIT"), vinzagew::TEXT_LIMIT);
     assert_eq!(limit("TAIL_LIMIT"), vinzagew::TAIL_LIMIT);
     assert!(header.contains(
@@ -144,14 +145,15 @@ fn the_example_reads_numbers_between_slashes() {
     let folder = build("c-example");
     let check = |sheet: &[u8]| read(&folder, sheet, None);
     let read = |sheet: &[u8], text: &[u8]| read(&folder, sheet, Some(text));
-    // Sheet D's rules, with N·(S·N)* and with sheet D's own expression.
+    // Sheet D's rules, with N·(S·N)* and with sheet D's own expression; and each number of D in two bytes.
     let rules = [
         1, 2, 3, 1, 2, 1, 48, 57, 4, 1, 48, 57, 2, 1, 47, 47, 0, 1, 32, 32,
     ];
     let sheet = [&rules[..], &[3, 2, 0, 7, 3, 2, 1, 2, 0]].concat();
     let own = [3, 2, 0, 5, 4, 0, 3, 2, 1, 3, 2, 0, 6, 0];
     let sheet_d = [&rules[..], &own].concat();
-    for sheet in [&sheet, &sheet_d] {
+    let padded: Vec<u8> = sheet_d.iter().flat_map(|byte| [byte | 0x80, 0]).collect();
+    for sheet in [&sheet, &sheet_d, &padded] {
         assert_eq!(check(sheet), ("0 0 0".to_owned(), Some(0)));
         assert_eq!(read(sheet, b"12/7"), ("0 4 3".to_owned(), Some(0)));
         assert_eq!(read(sheet, b"12//7"), ("15 3 2".to_owned(), Some(1)));

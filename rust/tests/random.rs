@@ -12,13 +12,14 @@ mod common;
 use common::calls;
 use common::random::{for_case, seed_and_cases, Random};
 use common::{
-    engines, full_check, full_run, full_write, generate, hexadecimal, image_of, pattern, Engine,
-    LIBRARY, REFERENCE,
+    engines, full_check, full_run, full_write, generate, hexadecimal, image_of, numbers, pattern,
+    Engine, LIBRARY, REFERENCE,
 };
 use std::collections::BTreeMap;
 use vinzagew::builder::{self, Expression, Part, PartKind};
-use vinzagew::{stack_length, TAIL_LIMIT};
+use vinzagew::{patch, stack_length, PatchError, SHEET_LIMIT, TAIL_LIMIT, WIDTH_LIMIT};
 use vinzagew_reference::image::Image;
+use vinzagew_reference::number;
 use vinzagew_reference::sheet::{Kind, Node, Regex, Sheet};
 use vinzagew_reference::types::least_types;
 use vinzagew_reference::{answer, Refusal};
@@ -223,7 +224,7 @@ fn leads_back(part: &Part, refusal: Refusal) -> bool {
     right && part.place == refusal.place
 }
 
-/// Every refusal leads back to its part, that of 5 to a regex or an expression.
+/// Every refusal leads back to its part, that of 5 to a regex or an expression, also in padded sheets.
 #[test]
 fn refusals_lead_back_to_their_parts() {
     let (seed, cases) = seed_and_cases(2_000);
@@ -235,6 +236,8 @@ fn refusals_lead_back_to_their_parts() {
             1 | 2 => generate::untyped_sheet(random),
             _ => generate::nearly_passing_sheet(random),
         };
+        // With 3 bytes a number, none of these sheets is too long.
+        let sheet = sheet.padded(random.range(1, 3)).expect("a width");
         let refusal = match image_of(sheet.as_bytes()) {
             Err(refusal) => refusal,
             Ok(_) => continue,
@@ -397,6 +400,159 @@ fn repetitions_are_like_their_fixed_points() {
     }
     println!("seed {seed}, {cases} cases: {tally:?}");
     assert!(cases < 2_000 || tally.len() == 5, "{tally:?}");
+}
+
+/// Number, place, length and image; a check has no length and no image.
+type Outcome = ([u64; 3], Vec<u8>);
+
+/// The outcomes of checking a sheet and of writing it with image buffers of these lengths.
+fn outcomes(engine: Engine, sheet: &[u8], rooms: [usize; 3]) -> Vec<Outcome> {
+    let [number, place] = full_check(engine, sheet, 65_536);
+    let mut outcomes = vec![([number, place, 0], Vec::new())];
+    outcomes.extend(rooms.map(|room| full_write(engine, sheet, 65_536, room)));
+    outcomes
+}
+
+/// The outcome for a twin, by that for the sheet, which is not too long: the same number, at the place of the
+/// same number of the sheet, the same length and the same image. Only a twin that is too long is refused
+/// for that.
+fn in_twin(sheet: &[u8], twin: &[u8], outcome: &Outcome) -> Outcome {
+    if twin.len() > SHEET_LIMIT {
+        return ([2, 0, 0], Vec::new());
+    }
+    let ([number, place, length], image) = outcome;
+    let place = numbers::place_in_twin(sheet, *place as usize, twin) as u64;
+    ([*number, place, *length], image.clone())
+}
+
+/// A sheet and its twin are judged alike and have the same image, by every engine, whose answers agree. Gives
+/// the verdict on the twin.
+fn twins_are_alike(sheet: &[u8], twin: &[u8], context: &str) -> [u64; 2] {
+    let ([_, _, needed], _) = full_write(REFERENCE, sheet, 65_536, 65_536);
+    let needed = needed as usize;
+    let rooms = [65_536, needed, needed.saturating_sub(1)];
+    let own = outcomes(REFERENCE, sheet, rooms);
+    let expected: Vec<Outcome> = own
+        .iter()
+        .map(|outcome| in_twin(sheet, twin, outcome))
+        .collect();
+    for engine in engines() {
+        let same = outcomes(engine, sheet, rooms) == own;
+        assert!(same, "{context}, {}: sheet", engine.name);
+        let same = outcomes(engine, twin, rooms) == expected;
+        assert!(same, "{context}, {}: twin", engine.name);
+    }
+    let ([number, place, _], _) = expected[0];
+    [number, place]
+}
+
+/// What is wrong with the number at a place that is refused with 3.
+fn wrong_number(sheet: &[u8], place: usize) -> &'static str {
+    let rest = &sheet[place..];
+    match rest.iter().position(|&byte| byte < 0x80) {
+        None if rest.is_empty() => "missing",
+        None if rest.len() < WIDTH_LIMIT => "cut off",
+        Some(last) if last + 1 == WIDTH_LIMIT => "2^64 or more",
+        _ => "over ten groups",
+    }
+}
+
+/// A sheet of any kind within the limit of its length, and a twin with other bytes.
+fn sheet_and_twin(random: &mut Random) -> (Vec<u8>, Vec<u8>) {
+    loop {
+        let sheet = match random.below(8) {
+            0 => generate::large_sheet(random).to_bytes(),
+            1 | 2 => {
+                let sheet = calls::sheet(random);
+                generate::damage(random, &sheet)
+            }
+            _ => calls::sheet(random),
+        };
+        let twin = numbers::twin(random, &sheet);
+        if sheet.len() <= SHEET_LIMIT && sheet != twin {
+            return (sheet, twin);
+        }
+    }
+}
+
+/// A sheet and its padded twin, each of at most 4,096 bytes, are accepted alike and have the same image; or
+/// they are refused with the same number, at the place of the same number of the sheet.
+#[test]
+fn padded_twins_are_alike() {
+    let (seed, cases) = seed_and_cases(3_000);
+    let mut tally = BTreeMap::new();
+    for case in 0..cases {
+        let (sheet, twin) = sheet_and_twin(&mut for_case(seed, case));
+        let context = format!(
+            "seed {seed}, case {case}: sheet {}, twin {}",
+            hexadecimal(&sheet),
+            hexadecimal(&twin)
+        );
+        let [number, place] = twins_are_alike(&sheet, &twin, &context);
+        let more = match number {
+            0 if twin.len() == SHEET_LIMIT => "as long as can be",
+            3 => wrong_number(&twin, place as usize),
+            _ => "",
+        };
+        *tally.entry((number, more)).or_insert(0) += 1;
+    }
+    println!("seed {seed}, {cases} cases: {tally:?}");
+    let mut expected = vec![(0, "as long as can be")];
+    expected
+        .extend(["missing", "cut off", "2^64 or more", "over ten groups"].map(|more| (3, more)));
+    expected.extend([0, 2, 4, 5, 6, 7, 8, 9, 10].map(|number| (number, "")));
+    expected.sort_unstable();
+    assert!(cases < 3_000 || tally.keys().eq(&expected), "{tally:?}");
+}
+
+/// What a patch should do, by the reference's reading of the numbers: the sheet after it, if a number starts
+/// at the place and has the bytes for the value.
+fn patched(sheet: &[u8], place: usize, value: u64) -> Option<Vec<u8>> {
+    let (found, _) = numbers::numbers(sheet);
+    let (_, number) = found.into_iter().find(|(start, _)| *start == place)?;
+    let mut patched = sheet[..place].to_vec();
+    number::write_padded(&mut patched, value, number.width);
+    patched.extend(&sheet[place + number.width..]);
+    (patched.len() == sheet.len()).then_some(patched)
+}
+
+/// A patch changes one number and moves no byte, or changes nothing.
+#[test]
+fn patches_move_no_byte() {
+    let (seed, cases) = seed_and_cases(5_000);
+    let mut tally = BTreeMap::new();
+    for case in 0..cases {
+        let random = &mut for_case(seed, case);
+        let sheet = calls::sheet(random);
+        let sheet = numbers::twin(random, &sheet);
+        let (found, end) = numbers::numbers(&sheet);
+        let place = match random.below(3) {
+            0 => random.below(end + 2),
+            _ => found
+                .get(random.below(found.len() + 1))
+                .map_or(end, |(place, _)| *place),
+        };
+        let value = random.next() >> random.below(64);
+        let mut stored = sheet.clone();
+        let result = patch(&mut stored, place, value);
+        let context = format!("seed {seed}, case {case}, place {place}: {result:?}");
+        // Past what is no number, other numbers may start.
+        if place <= end {
+            let expected = patched(&sheet, place, value);
+            assert_eq!(result.is_ok(), expected.is_some(), "{context}");
+            assert!(stored == expected.unwrap_or(sheet), "{context}");
+        }
+        let kind = match result {
+            Ok(()) => "patched",
+            Err(PatchError::PastEnd { .. }) => "past the end",
+            Err(PatchError::InsideNumber { .. }) => "inside a number",
+            Err(PatchError::NotANumber { .. }) => "not a number",
+            Err(PatchError::DoesNotFit { .. }) => "does not fit",
+        };
+        *tally.entry(kind).or_insert(0) += 1;
+    }
+    println!("seed {seed}, {cases} cases: {tally:?}");
+    assert!(cases < 5_000 || tally.len() == 5, "{tally:?}");
 }
 
 /// Whatever its length, an image buffer changes nothing for a sheet that is refused.

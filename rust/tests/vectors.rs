@@ -2,29 +2,66 @@
 //!
 //! The vectors come from elsewhere and say what is right; nothing is made up here. Where a vector names a
 //! length, that much is lent; where it names none, enough.
+//!
+//! The files before that of request 3 were written when a padded number was refused in sheets too. The
+//! vectors that say so are told apart by [`padded_place`], and counted for each file.
 
 mod common;
 
 use common::json_lines::{self, Object};
-use common::{engines, full_check, full_run, full_write, short_out_changes_nothing, Engine};
+use common::numbers::{fewest_twin, place_in_twin};
+use common::{
+    engines, full_check, full_run, full_write, short_out_changes_nothing, Engine, REFERENCE,
+};
 use vinzagew::stack_length;
 use vinzagew_reference::answer;
+use vinzagew_reference::number;
 use vinzagew_reference::sheet::Sheet;
 
-/// The files of vectors: of the base; of request 1, which has sheets with tag 7; and of request 2, whose
-/// sheets come with the verdict of checking.
-const FILES: [(&str, &str); 3] = [
-    ("base", include_str!("data/base.jsonl")),
-    ("request 1", include_str!("data/request-01.jsonl")),
-    ("request 2", include_str!("data/request-02.jsonl")),
+/// A file of vectors.
+struct File {
+    name: &'static str,
+    lines: &'static str,
+    /// How many of its vectors refuse a padded number of a sheet with 3, which request 3 changes.
+    changed: usize,
+}
+
+/// The files of vectors: of the base; of request 1, which has sheets with tag 7; of request 2, from which on
+/// sheets come with the verdict of checking; and of request 3, which has sheets with padded numbers.
+const FILES: [File; 4] = [
+    File {
+        name: "base",
+        lines: include_str!("data/base.jsonl"),
+        changed: 5,
+    },
+    File {
+        name: "request 1",
+        lines: include_str!("data/request-01.jsonl"),
+        changed: 3,
+    },
+    File {
+        name: "request 2",
+        lines: include_str!("data/request-02.jsonl"),
+        changed: 3,
+    },
+    File {
+        name: "request 3",
+        lines: include_str!("data/request-03.jsonl"),
+        changed: 0,
+    },
 ];
 
-/// How many vectors of each of the four kinds a file has.
+/// The kinds of vectors.
+const KINDS: [&str; 4] = ["compile", "read", "run", "program"];
+
+/// How many vectors of each kind a file has.
 const OF_EACH_KIND: usize = 375;
 
-fn vectors(file: &str, kind: &str) -> Vec<Object> {
-    assert_eq!(file.lines().count(), 4 * OF_EACH_KIND);
+/// All vectors of a kind.
+fn vectors(file: &File, kind: &str) -> Vec<Object> {
+    assert_eq!(file.lines.lines().count(), KINDS.len() * OF_EACH_KIND);
     let vectors: Vec<Object> = file
+        .lines
         .lines()
         .map(json_lines::read)
         .filter(|vector| vector.text("kind") == kind)
@@ -33,10 +70,11 @@ fn vectors(file: &str, kind: &str) -> Vec<Object> {
     vectors
 }
 
-/// Holds every vector of a kind, from all files, against every engine.
+/// Holds every vector of a kind that request 3 does not change, from all files, against every engine.
 fn compare(kind: &str, differs: impl Fn(Engine, &Object) -> Option<String>) {
-    for (name, file) in FILES {
-        let vectors = vectors(file, kind);
+    for file in &FILES {
+        let mut vectors = vectors(file, kind);
+        vectors.retain(|vector| padded_place(vector).is_none());
         for engine in engines() {
             let differences = vectors.iter().filter_map(|vector| {
                 let difference = differs(engine, vector)?;
@@ -45,10 +83,67 @@ fn compare(kind: &str, differs: impl Fn(Engine, &Object) -> Option<String>) {
             let differences: Vec<String> = differences.collect();
             assert!(
                 differences.is_empty(),
-                "{name}, {}: {} differences, {differences:#?}",
+                "{}, {}: {} differences, {differences:#?}",
+                file.name,
                 engine.name,
                 differences.len()
             );
+        }
+    }
+}
+
+/// The place that a vector refuses with 3, if request 3 changes the vector: it says 3 of a sheet, and at the
+/// place there stands a number that is padded, but whole and below 2^64.
+fn padded_place(vector: &Object) -> Option<usize> {
+    let [number, place] = match vector.text("kind") {
+        "compile" => verdict(vector),
+        "program" => verdict_of_line(vector.text("line")),
+        _ => return None,
+    };
+    let place = place as usize;
+    let found = number::read(&vector.bytes("sheet"), place)?;
+    (number == 3 && !found.fewest).then_some(place)
+}
+
+/// Holds an older vector, which refuses a padded number at this place, against an engine: the sheet is
+/// judged as its twin with the fewest bytes is, with the same number, at the place of the same number of the
+/// sheet. The engine writes what the reference writes, and the program prints the same for both twins.
+fn judged_as_unpadded(engine: Engine, vector: &Object, padded: usize, context: &str) {
+    let sheet = &vector.bytes("sheet");
+    let found = full_check(engine, sheet, 65_536);
+    assert_ne!(found, [3, padded as u64], "{context}");
+    let twin = &fewest_twin(sheet);
+    let [number, place] = full_check(engine, twin, 65_536);
+    let place = place_in_twin(twin, place as usize, sheet);
+    assert_eq!(found, [number, place as u64], "{context}");
+    let written = full_write(engine, sheet, 65_536, 65_536);
+    let expected = full_write(REFERENCE, sheet, 65_536, 65_536);
+    assert_eq!(written, expected, "{context}");
+    if vector.text("kind") == "program" {
+        // These sheets all pass now: a line about a sheet would have a place that differs.
+        let text = &vector.bytes("text");
+        let line = program_line(engine, sheet, text);
+        assert!(!line.starts_with("sheet"), "{context}: {line}");
+        assert_eq!(line, program_line(REFERENCE, twin, text), "{context}");
+    }
+}
+
+/// The vectors that request 3 changes are as many as each file says.
+#[test]
+fn padded_numbers_are_no_longer_3() {
+    for file in &FILES {
+        let vectors: Vec<Object> = KINDS.iter().flat_map(|kind| vectors(file, kind)).collect();
+        let changed: Vec<(&Object, usize)> = vectors
+            .iter()
+            .filter_map(|vector| Some((vector, padded_place(vector)?)))
+            .collect();
+        assert_eq!(changed.len(), file.changed, "{}", file.name);
+        for (vector, place) in changed {
+            for engine in engines() {
+                let case = vector.number("case");
+                let context = format!("{}, case {case}, {}", file.name, engine.name);
+                judged_as_unpadded(engine, vector, place, &context);
+            }
         }
     }
 }
@@ -72,7 +167,7 @@ fn lent(vector: &Object) -> (Vec<u8>, usize, usize) {
 }
 
 /// The verdict of checking, as writing tells it: a sheet passes if its image is written (0), and also if
-/// all that is wrong is that the image buffer is too short (11). The file of request 2 also has the
+/// all that is wrong is that the image buffer is too short (11). From request 2 on the files also have the
 /// verdict by itself.
 fn verdict(vector: &Object) -> [u64; 2] {
     let [number, place, _] = three(vector, "length");
@@ -87,12 +182,26 @@ fn verdict(vector: &Object) -> [u64; 2] {
 }
 
 #[test]
-fn every_sheet_of_request_2_has_its_verdict() {
-    let (_, file) = FILES[2];
-    let vectors = vectors(file, "compile");
-    assert!(vectors
-        .iter()
-        .all(|vector| vector.numbers("check").is_some()));
+fn from_request_2_on_every_sheet_has_its_verdict() {
+    for file in &FILES[2..] {
+        let vectors = vectors(file, "compile");
+        assert!(vectors
+            .iter()
+            .all(|vector| vector.numbers("check").is_some()));
+    }
+}
+
+/// The file of request 3 has padded sheets, of which some pass.
+#[test]
+fn padded_sheets_come_up_in_request_3() {
+    let vectors = vectors(&FILES[3], "compile");
+    let padded = vectors.iter().filter(|vector| {
+        let sheet = vector.bytes("sheet");
+        fewest_twin(&sheet) != sheet
+    });
+    let (passing, refused): (Vec<&Object>, Vec<&Object>) =
+        padded.partition(|vector| verdict(vector) == [0, 0]);
+    assert!(!passing.is_empty() && !refused.is_empty());
 }
 
 #[test]
@@ -165,7 +274,7 @@ fn read() {
 /// The sheet's own answer gives the same, with no image and no machine.
 #[test]
 fn read_by_the_own_answer() {
-    for vector in FILES.iter().flat_map(|(_, file)| vectors(file, "read")) {
+    for vector in FILES.iter().flat_map(|file| vectors(file, "read")) {
         let sheet = Sheet::read(&vector.bytes("sheet")).expect("it passes");
         let own = answer(&sheet, &vector.bytes("text"));
         let found = [own.number, own.place as u64, own.tokens as u64];

@@ -1,15 +1,16 @@
-//! The wrapper, the builder together with checking and writing, and the limits.
+//! The wrapper, the builder together with checking and writing, patches of stored sheets, and the limits.
 //!
 //! A few sheets with results that are written down; the many sheets are those of the vectors and of the
 //! random comparisons. Without the library, what needs no wrapper is still tested on the reference.
 
 mod common;
 
+use common::numbers::{twin_of_widths, twin_with};
 use common::{engines, full_check, full_run, full_write, pattern, short_out_changes_nothing};
-use vinzagew::builder::{Expression, PartKind, Regex, Sheet, SheetBuilder, Token};
+use vinzagew::builder::{Expression, Field, PartKind, Regex, Sheet, SheetBuilder, Token};
 #[cfg(vinzagew_library)]
 use vinzagew::{check, check_with, run_with, write, write_into, Image, Refusal};
-use vinzagew::{stack_length, CheckRefusal};
+use vinzagew::{patch, stack_length, CheckRefusal, PatchError};
 use vinzagew_reference::image::Image as Parts;
 
 fn builder() -> SheetBuilder {
@@ -191,6 +192,244 @@ fn places_count_bytes() {
         sheet.locate(9).to_string(),
         "expression node 0: (high ∨ high)"
     );
+}
+
+/// A sheet with numbers of one byte and of two.
+fn sheet_of_high_bytes() -> Sheet {
+    let mut builder = SheetBuilder::new();
+    let token = builder.token("high");
+    builder.rule(token, Regex::class(127, 128).or(Regex::class(200, 255)));
+    builder.finish(token.star()).unwrap()
+}
+
+/// A padded sheet has the same parts at the places of its own bytes.
+#[test]
+fn the_builder_pads() {
+    for sheet in [sheet_d(), sheet_of_high_bytes()] {
+        let unpadded = sheet.to_bytes();
+        let words = |sheet: &Sheet| -> Vec<String> {
+            let parts = sheet.parts();
+            parts.iter().map(|part| part.to_string()).collect()
+        };
+        for width in 1..=10 {
+            let padded = sheet.clone().padded(width).unwrap();
+            let bytes = padded.to_bytes();
+            assert_eq!(bytes, twin_of_widths(&unpadded, |_| width));
+            assert_eq!(words(&padded), words(&sheet));
+            let parts = padded.parts();
+            let ends = parts.iter().skip(1).map(|part| part.place);
+            for (part, end) in parts.iter().zip(ends.chain([bytes.len()])) {
+                assert!(end - part.place >= width);
+                let inside = [part.place, end - 1].map(|place| padded.locate(place));
+                assert!(inside.iter().all(
+                    |found| found.place == part.place && found.to_string() == part.to_string()
+                ));
+            }
+            let end = padded.locate(bytes.len());
+            assert_eq!(end.place, bytes.len());
+            assert!(matches!(end.kind, PartKind::End));
+            // The width is the last that was asked for.
+            assert_eq!(padded.padded(1).unwrap().to_bytes(), unpadded);
+        }
+    }
+}
+
+/// The width is the least one: a number that needs more keeps its own.
+#[test]
+fn a_number_that_needs_more_keeps_its_bytes() {
+    let sheet = sheet_of_high_bytes().padded(1).unwrap();
+    let class = [1, 127, 0x80, 1, 1, 0xc8, 1, 0xff, 1];
+    assert_eq!(sheet.as_bytes()[5..14], class);
+    let bytes = sheet.padded(2).unwrap().to_bytes();
+    let class = [0x81, 0, 0xff, 0, 0x80, 1, 0x81, 0, 0xc8, 1, 0xff, 1];
+    assert_eq!(bytes[10..22], class);
+}
+
+#[test]
+fn a_width_that_no_number_has_is_refused() {
+    for width in [0, 11, usize::MAX] {
+        let error = sheet_d().padded(width).unwrap_err();
+        assert_eq!(error.width, width);
+        let words = format!("a number has 1 to 10 bytes, not {width}");
+        assert_eq!(error.to_string(), words);
+    }
+}
+
+/// Padded sheets have the same image, and are refused at the same part.
+#[test]
+fn padded_sheets_are_judged_as_before() {
+    let (number, slash) = tokens();
+    let refused = builder().finish(number.then(slash.star().star())).unwrap();
+    for engine in engines() {
+        let write = |sheet: &Sheet| full_write(engine, sheet.as_bytes(), 65_536, 65_536);
+        for width in 1..=10 {
+            let padded = sheet_d().padded(width).unwrap();
+            assert_eq!(write(&padded), write(&sheet_d()));
+            let padded = refused.clone().padded(width).unwrap();
+            let [number, place] = full_check(engine, padded.as_bytes(), 65_536);
+            assert_eq!([number, place], [9, 23 * width as u64]);
+            assert_eq!(write(&padded), ([9, place, 0], Vec::new()));
+            let part = padded.locate(place as usize);
+            assert_eq!(part.to_string(), "expression node 2: ((S)*)*");
+        }
+    }
+}
+
+/// Hexadecimal 80 00 is zero in a sheet, and 13 in an image, as every padded number is.
+#[test]
+fn a_padded_zero_in_a_sheet_and_in_an_image() {
+    let sheet = sheet_d().to_bytes();
+    let twin = twin_with(&sheet, 16, 2);
+    assert_eq!(twin[16..18], [0x80, 0x00]);
+    assert_eq!(twin.len(), sheet.len() + 1);
+    for engine in engines() {
+        let (written, image) = full_write(engine, &twin, 65_536, 65_536);
+        assert_eq!(written, [0, 0, 48]);
+        assert_eq!(full_write(engine, &sheet, 65_536, 65_536).1, image);
+        assert_eq!(full_run(engine, &image, b"12 /7", 125), [0, 5, 3]);
+        for place in 0..48 {
+            let padded = twin_with(&image, place, 2);
+            assert_eq!(padded[place..place + 2], [0x80 | image[place], 0x00]);
+            let found = full_run(engine, &padded, b"12 /7", 125);
+            assert_eq!(found, [13, place as u64, 0]);
+        }
+    }
+}
+
+/// Up to ten groups and below 2^64, wherever the number stands.
+#[test]
+fn the_longest_numbers() {
+    let sheet = sheet_d().to_bytes();
+    let with = |place: usize, bytes: &[u8]| -> Vec<u8> {
+        [&sheet[..place], bytes, &sheet[place + 1..]].concat()
+    };
+    for engine in engines() {
+        let check = |sheet: &[u8]| full_check(engine, sheet, 65_536);
+        for place in 0..sheet.len() {
+            let mut bytes = [0x80; 11];
+            bytes[0] |= sheet[place];
+            bytes[10] = 0;
+            let refused = |number| [number, place as u64];
+            // Eleven groups, of which all high ones are empty.
+            assert_eq!(check(&with(place, &bytes)), refused(3));
+            for (tenth, expected) in [(0, [0, 0]), (1, refused(4)), (2, refused(3))] {
+                bytes[9] = tenth;
+                assert_eq!(check(&with(place, &bytes[..10])), expected);
+            }
+            for groups in 1..=11 {
+                let cut = [&sheet[..place], &vec![0x80; groups]].concat();
+                assert_eq!(check(&cut), refused(3));
+            }
+        }
+    }
+}
+
+/// The places of the low and the high bytes of a rule's classes.
+fn class_places(sheet: &Sheet, own: usize) -> Vec<usize> {
+    let parts = sheet.parts().into_iter();
+    let of_class = parts.filter(|part| {
+        matches!(part.kind, PartKind::Regex { rule, field: Field::Low | Field::High, .. } if rule == own)
+    });
+    of_class.map(|part| part.place).collect()
+}
+
+/// What a seed counter does: the slash of a stored sheet becomes a comma, and no byte moves.
+#[test]
+fn a_stored_sheet_is_patched_and_run() {
+    for width in 1..=10 {
+        let sheet = sheet_d().padded(width).unwrap();
+        let mut stored = sheet.to_bytes();
+        let places = class_places(&sheet, 1);
+        assert_eq!(places, [14 * width, 15 * width]);
+        for engine in engines() {
+            stored.copy_from_slice(sheet.as_bytes());
+            let read = |stored: &[u8], text: &[u8]| {
+                let (written, image) = full_write(engine, stored, 65_536, 65_536);
+                assert_eq!(written, [0, 0, 48]);
+                full_run(engine, &image, text, stack_length(text.len()))
+            };
+            assert_eq!(read(&stored, b"12/7"), [0, 4, 3]);
+            assert_eq!(read(&stored, b"12,7"), [14, 2, 1]);
+            for &place in &places {
+                patch(&mut stored, place, b','.into()).unwrap();
+            }
+            assert_eq!(stored.len(), 34 * width);
+            assert_eq!(read(&stored, b"12/7"), [14, 2, 1]);
+            assert_eq!(read(&stored, b"12,7"), [0, 4, 3]);
+        }
+    }
+}
+
+/// Whether a patched value is allowed is for checking to say, and a value that does not fit changes nothing.
+#[test]
+fn patches_that_checking_refuses_and_patches_that_do_not_fit() {
+    let sheet = sheet_d().padded(2).unwrap();
+    let place = class_places(&sheet, 1)[1];
+    let mut stored = sheet.to_bytes();
+    patch(&mut stored, place, 255).unwrap();
+    for engine in engines() {
+        assert_eq!(full_check(engine, &stored, 65_536), [0, 0]);
+    }
+    patch(&mut stored, place, 256).unwrap();
+    for engine in engines() {
+        assert_eq!(full_check(engine, &stored, 65_536), [4, place as u64]);
+    }
+    let before = stored.clone();
+    let error = patch(&mut stored, place, 1 << 14).unwrap_err();
+    let expected = PatchError::DoesNotFit {
+        place,
+        value: 1 << 14,
+        needed: 3,
+        width: 2,
+    };
+    assert_eq!(error, expected);
+    let inside = patch(&mut stored, place + 1, 0).unwrap_err();
+    assert_eq!(
+        inside.to_string(),
+        "no number starts at place 31: it is inside the number that starts at place 30"
+    );
+    assert_eq!(stored, before);
+}
+
+/// A sheet with as many numbers as one that passes can have: 32 rules of eight nodes and two classes, and 64
+/// expression nodes with 32 tokens.
+fn sheet_of_515_numbers() -> Sheet {
+    let mut builder = SheetBuilder::new();
+    let token = builder.token("a");
+    for rule in 0..32 {
+        let more = Regex::byte(b'0').optional().optional().star();
+        builder.rule(token, Regex::byte(64 + rule).then(more));
+    }
+    let row = (0..31).fold(Expression::token(token), |row, _| row.then(token));
+    builder.finish(row.star()).unwrap()
+}
+
+/// Padding a sheet that passes breaks the limit of 4,096 bytes from 8 bytes a number on.
+#[test]
+fn the_largest_sheet_is_too_long_if_its_numbers_are() {
+    let sheet = sheet_of_515_numbers();
+    let unpadded = sheet.to_bytes();
+    assert_eq!(unpadded.len(), 515);
+    // 491 × 8 + 24 × 7 bytes are 4,096.
+    let eights = |count| twin_of_widths(&unpadded, |index| if index < count { 8 } else { 7 });
+    assert_eq!(eights(491).len(), 4_096);
+    for engine in engines() {
+        let (written, image) = full_write(engine, &unpadded, 65_536, 65_536);
+        assert_eq!(written[0], 0);
+        for width in 1..=10 {
+            let padded = sheet.clone().padded(width).unwrap();
+            assert_eq!(padded.as_bytes().len(), 515 * width);
+            let found = full_write(engine, padded.as_bytes(), 65_536, 65_536);
+            if width <= 7 {
+                assert_eq!(found, (written, image.clone()));
+            } else {
+                assert_eq!(found, ([2, 0, 0], Vec::new()));
+            }
+        }
+        let found = full_write(engine, &eights(491), 65_536, 65_536);
+        assert_eq!(found, (written, image));
+        assert_eq!(full_check(engine, &eights(492), 65_536), [2, 0]);
+    }
 }
 
 #[test]
@@ -424,10 +663,30 @@ fn the_wrapper_refuses_a_sheet_that_is_too_long() {
 fn images_come_from_readable_bytes_only() {
     let image = write(sheet_d().as_bytes()).unwrap();
     assert_eq!(Image::from_bytes(image.as_bytes()), Ok(image.clone()));
-    let mut bytes = image.into_bytes();
+    let mut bytes = image.clone().into_bytes();
     bytes.push(0);
     let refusal = Image::from_bytes(bytes).unwrap_err();
     assert_eq!((refusal.number, refusal.place), (13, 48));
+    let padded = twin_with(image.as_bytes(), 47, 2);
+    let refusal = Image::from_bytes(padded).unwrap_err();
+    assert_eq!((refusal.number, refusal.place), (13, 47));
+}
+
+/// The slash of a stored sheet becomes a comma.
+#[cfg(vinzagew_library)]
+#[test]
+fn the_wrapper_writes_a_patched_sheet() {
+    let sheet = sheet_d().padded(2).unwrap();
+    let mut stored = sheet.to_bytes();
+    let image = write(&stored).unwrap();
+    assert_eq!(image, write(sheet_d().as_bytes()).unwrap());
+    assert_eq!(image.run(b"12/7"), Ok(3));
+    for place in class_places(&sheet, 1) {
+        patch(&mut stored, place, b','.into()).unwrap();
+    }
+    assert_eq!(check(&stored), Ok(()));
+    assert_eq!(write(&stored).unwrap().run(b"12,7"), Ok(3));
+    assert_eq!(write(&stored).unwrap().run(b"12/7").unwrap_err().number, 14);
 }
 
 /// A variable that is not guarded, found by its place.

@@ -92,6 +92,10 @@ twin-spells {a} {b} {s} t l h =
     let end : r .0 ≡ length b = omega (arith, twin-end (r .2) (omega arith)) in
     record { spelled = rw (← end) (r .1); limits = h .limits; bytes-most = l }
 
+-- Bytes that spell the same sheet are twins.
+pub spelled-twins : {a b : List ℕ} {s : Sheet} → Spells a s → Spells b s → Twins a b
+spelled-twins h k = numbers-twins (h .spelled) (k .spelled)
+
 -- ---- the twin in the fewest bytes
 
 module _ {bytes : List ℕ} where

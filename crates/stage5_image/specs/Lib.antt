@@ -30,4 +30,5 @@ pub mod BufferLaws
 pub mod CheckQuestions
 pub mod CheckNumbers
 pub mod WriteLaws
+pub mod TwinAnswers
 pub mod WriteQuestions

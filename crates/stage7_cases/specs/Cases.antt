@@ -23,6 +23,8 @@ pub data Case : Type 0 where
   checks : List ℕ → ℕ → CheckAnswer → Case
   -- a sheet, a text, and the answer of the sheet's image
   reads : List ℕ → List ℕ → Answer → Case
+  -- an image, a text, and the answer of a run over it
+  runs : List ℕ → List ℕ → Answer → Case
   -- a sheet whose expression denotes no token sequence
   denotes-nothing : List ℕ → Case
 
@@ -40,6 +42,7 @@ Holds (writes sheet c) = written-sheet sheet ≡ c
 Holds (writes-with work room sheet c) = write sheet work room ≡ c
 Holds (checks sheet work a) = check-answer (check sheet work) ≡ a
 Holds (reads sheet text a) = (run-of-sheet sheet text ≡ a) × (s : Sheet) × Spells sheet s × OwnAnswer s text a
+Holds (runs image text a) = run image text (long-enough text) ≡ a
 Holds (denotes-nothing sheet) = (s : Sheet) × Spells sheet s × ((tokens : List ℕ) → Denotes (s .expression) tokens → ⊥)
 
 -- μα.N·α, with D's rules

@@ -1,10 +1,10 @@
--- Every row of the three tables of worked cases holds: what is computed of a row, and, by the demands, what follows for the sheet that
--- its bytes spell. The rows themselves stand in `Cases`, `RepetitionCases` and `CheckCases`.
+-- Every row of the four tables of worked cases holds: what is computed of a row, and, by the demands, what follows for the sheet that
+-- its bytes spell. The rows themselves stand in `Cases`, `RepetitionCases`, `CheckCases` and `PaddingCases`.
 use mathlib.Core.Path.{_≡_, refl, sym, ap, subst, _∙_}
 use mathlib.Core.List.{List, [], _∷_, _++_}
 use Prim.Native.Nat.{ℕ, zero, suc, _+_, _*_, _≤_}
 use native.Mathlib.Omega.{arith}
-use lib.Dec.{T, leb, leb→le}
+use lib.Dec.{T, leb, leb→le, lit≤}
 use lib.ListN.{length}
 use Rattle.stage0_laws.specs.Lists.{All}
 use Rattle.stage0_laws.specs.Members.{_&_}
@@ -17,6 +17,9 @@ use Rattle.stage1_sheet.specs.Reading.{Contents, read-sheet}
 use Rattle.stage1_sheet.specs.ReadingLaws.{SheetAccepted, read-accepted}
 use Rattle.stage1_sheet.specs.Expression.{token, sequence, fixed-point, variable}
 use Rattle.stage1_sheet.specs.SheetD.{sheet-D, bytes-of-D}
+use Rattle.stage1_sheet.specs.Twins.{Twins}
+use Rattle.stage1_sheet.specs.TwinLaws.{spelled-twins}
+use Rattle.stage1_sheet.specs.Examples.{d-spelled}
 use Rattle.stage2_types.specs.Denotation.{Denotes, denotation, iterate}
 use Rattle.stage5_image.specs.Check.{work-bytes, check, check-answer}
 use Rattle.stage5_image.specs.Write.{Written, written, write, written-part}
@@ -28,9 +31,10 @@ use Rattle.stage6_machine.specs.Computing.{computing-machine}
 use Rattle.stage7_demands.specs.Demands.{Demand2, Demand3}
 use Rattle.stage7_demands.specs.Proofs.{demand-2, demand-3}
 use Rattle.stage7_cases.specs.ImageD.{image-D, D-written}
-use Rattle.stage7_cases.specs.Cases.{Case, writes, writes-with, checks, reads, denotes-nothing, written-sheet, run-of-sheet, Holds, endless, cases}
+use Rattle.stage7_cases.specs.Cases.{Case, writes, writes-with, checks, reads, runs, denotes-nothing, written-sheet, run-of-sheet, Holds, endless, cases}
 use Rattle.stage7_cases.specs.RepetitionCases.{image-of-counts, image-of-numbers, repetition-cases}
 use Rattle.stage7_cases.specs.CheckCases.{check-cases}
+use Rattle.stage7_cases.specs.PaddingCases.{in-ten, padding-cases}
 
 -- What is computed of a case: for a reading, the sheet's image and what the machine answers over it.
 abbrev Computes : Case → Type 0
@@ -40,6 +44,7 @@ Computes (checks sheet work a) = check-answer (check sheet work) ≡ a
 Computes (reads sheet text a) =
     (image : List ℕ) × (written-sheet sheet ≡ written image) × (run image text (long-enough text) ≡ a)
     × T (all-bytes sheet) × T (leb (length text) most-text-bytes)
+Computes (runs image text a) = run image text (long-enough text) ≡ a
 Computes (denotes-nothing sheet) =
     (c : Contents) × (read-sheet sheet ≡ got c (length sheet)) × T (all-bytes sheet) × T (leb (length sheet) most-sheet-bytes)
     × ((tokens : List ℕ) → Denotes ((c .sheet) .expression) tokens → ⊥)
@@ -61,6 +66,7 @@ holds (reads sheet text a) h =
           (demand-3 .own-answer sheet bytes work-bytes 65536 (h .0) (h .1) (s .0) spells text (long-enough text)
           (leb→le (length text) most-text-bytes (h .4)) (omega arith)),
     )
+holds (runs image text a) h = h
 holds (denotes-nothing sheet) h =
     let read = read-accepted sheet (tested-bytes sheet (h .2)) (leb→le (length sheet) most-sheet-bytes (h .3)) (h .1) in
     (h .0 .sheet, read .spells, h .4)
@@ -130,6 +136,28 @@ unfolding check-cases computing-machine
 check-computed =
     refl & refl & refl & refl & refl & refl & refl & refl & refl & refl & refl & refl & refl & refl & tt
 
+padding-computed : All Computes padding-cases
+unfolding padding-cases written-sheet computing-machine
+padding-computed =
+    refl
+    & refl
+    & refl
+    & refl
+    & (image-D, refl, refl, tt, tt)
+    & refl
+    & refl
+    & refl
+    & refl
+    & refl
+    & refl
+    & refl
+    & refl
+    & refl
+    & refl
+    & refl
+    & refl
+    & tt
+
 -- Every row holds.
 pub cases-hold : All Holds cases
 cases-hold = all-hold cases all-computed
@@ -139,3 +167,21 @@ repetition-cases-hold = all-hold repetition-cases repetition-computed
 
 pub check-cases-hold : All Holds check-cases
 check-cases-hold = all-hold check-cases check-computed
+
+pub padding-cases-hold : All Holds padding-cases
+padding-cases-hold = all-hold padding-cases padding-computed
+
+-- ---- sheet D and a twin
+
+-- D with every number in ten bytes is read as D, with places ten times as far.
+ten-read : read-sheet (in-ten bytes-of-D) ≡ got (record {
+  sheet = sheet-D;
+  action-places = 30 ∷ 120 ∷ 160 ∷ [];
+  node-places = 200 ∷ 210 ∷ 230 ∷ 240 ∷ 250 ∷ 260 ∷ 270 ∷ 290 ∷ 300 ∷ 320 ∷ [];
+}) 340
+unfolding computing-machine
+ten-read = refl
+
+-- So it is D's twin.
+pub D-twins : Twins bytes-of-D (in-ten bytes-of-D)
+D-twins = spelled-twins d-spelled (read-accepted (in-ten bytes-of-D) (tested-bytes (in-ten bytes-of-D) tt) (lit≤ tt) ten-read .spells)

@@ -1,7 +1,8 @@
 -- The worked cases that are proved from the definitions: sheet D's image (`ImageD`), document 01's cases (`Cases`), those of repetition
--- (`RepetitionCases`), those of checking and writing (`CheckCases`), and that every row holds (`CasesHold`).
+-- (`RepetitionCases`), those of checking and writing (`CheckCases`), those of padded numbers (`PaddingCases`), and that every row holds (`CasesHold`).
 pub mod ImageD
 pub mod Cases
 pub mod RepetitionCases
 pub mod CheckCases
+pub mod PaddingCases
 pub mod CasesHold

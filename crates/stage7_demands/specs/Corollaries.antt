@@ -1,16 +1,19 @@
 -- What follows from the demands and is asked often: when a text is accepted, where it is refused, that a sheet which denotes nothing
--- accepts no text, that a long enough stack never runs out, and that 65,536 bytes are room for the image of every sheet that passes; and
--- demands 2 and 3 with every repetition spelled out: typing and denotation are then the published ones alone, while the sheet's bytes and
+-- accepts no text, that a long enough stack never runs out, that 65,536 bytes are room for the image of every sheet that passes, and that a
+-- sheet and its padded twin give the same image; and demands 2 and 3 with every repetition spelled out: typing and denotation are then the published ones alone, while the sheet's bytes and
 -- its image stay those with tag 7.
-use mathlib.Core.Path.{_≡_, ap, subst}
+use mathlib.Core.Path.{_≡_, ap, subst, _∙_}
 use mathlib.Core.List.{List}
 use mathlib.Core.Logic.{_↔_}
 use Prim.Native.Nat.{ℕ, _≤_}
 use native.Mathlib.Omega.{arith}
 use lib.ListN.{length}
+use Rattle.stage1_sheet.specs.Limits.{most-sheet-bytes}
 use Rattle.stage1_sheet.specs.Sheet.{Sheet}
 use Rattle.stage1_sheet.specs.WellFormed.{Spells}
 use Rattle.stage1_sheet.specs.FieldLaws.{Bytes}
+use Rattle.stage1_sheet.specs.Twins.{Twins}
+use Rattle.stage1_sheet.specs.TwinLaws.{twins-back}
 use Rattle.stage2_types.specs.Denotation.{Denotes}
 use Rattle.stage2_types.specs.Types.{HasType}
 use Rattle.stage2_types.specs.SpelledOut.{spelled-out, spelled-out-sheet}
@@ -87,6 +90,22 @@ module _ (f : Functions) (first : Demand1 f) (second : Demand2 f) (sheet : List 
       let few = image-fits s ((passable .well-formed) .limits) (none-empty (s .rules) .1 (passable .no-empty-text)) ((passable .has-type) .1) in
       let short : length (w .1) ≤ room = omega (arith, few, ap length (readable-written (w .1) (image-of s) readable), enough) in
       (w .1, second .long-buffers sheet work (w .0) (w .1) (w .2) room .1 short)
+
+-- "A sheet and its padded twin of at most 4,096 bytes give the same image": both are accepted or neither is, with every work area and every
+-- image buffer, and the image is one. Of any functions that meet demand 2.
+module _ (f : Functions) (demand : Demand2 f) (work room : ℕ) (image : List ℕ) where
+  twin-image : (a b : List ℕ) → Bytes a → Bytes b → Twins a b → length a ≤ most-sheet-bytes → length b ≤ most-sheet-bytes
+      → f .write a work room ≡ written image → f .write b work room ≡ written image
+  twin-image a b bytes other-bytes twins short other-short e =
+      let passes = demand .some-buffer a work .1 (room, image, e) in
+      demand .twins-pass a b bytes other-bytes twins short other-short work (passes .0) (passes .1) .1 room ∙ e
+
+  pub same-image : (a b : List ℕ) → Bytes a → Bytes b → Twins a b → length a ≤ most-sheet-bytes → length b ≤ most-sheet-bytes
+      → (f .write a work room ≡ written image) ↔ (f .write b work room ≡ written image)
+  same-image a b bytes other-bytes twins short other-short = (
+    twin-image a b bytes other-bytes twins short other-short,
+    twin-image b a other-bytes bytes (twins-back twins) other-short short,
+  )
 
 -- "its expression has a type under the published typing rules", which know no repetition: spelled out it has the published forms alone
 -- (`spelled-out-published`). Of any functions that meet demand 2.

@@ -10,9 +10,11 @@ use mathlib.Core.List.{List, [], _++_}
 use mathlib.Core.Logic.{_↔_, _⊎_}
 use Prim.Native.Nat.{ℕ, _≤_, _<_}
 use lib.ListN.{length, drop, replicate}
+use Rattle.stage1_sheet.specs.Limits.{most-sheet-bytes}
 use Rattle.stage1_sheet.specs.Sheet.{Sheet}
 use Rattle.stage1_sheet.specs.WellFormed.{Spells}
 use Rattle.stage1_sheet.specs.Spelling.{Bytes}
+use Rattle.stage1_sheet.specs.Twins.{Twins, SamePlace}
 use Rattle.stage5_image.specs.Image.{image-of}
 use Rattle.stage5_image.specs.ImageFields.{ReadableAs}
 use Rattle.stage5_image.specs.Unfolding.{StartUnfolds, DenotedRules}
@@ -82,7 +84,7 @@ pub record Demand1 (f : Functions) : Type 0 where
 -- form that document 01 sets out, and its start unfolds to exactly the rule sequences that spell a token sequence which the
 -- expression denotes, each token spelled by any rule that returns it." In `Corollaries`, with repetitions spelled out as the published
 -- rules have it: `spelled-out-passes`, `spelled-out-accepted`, `spelled-out-unfolds`.
--- Accepted means accepted by writing. Checking asks all of it but that the image fits, and the last three fields hold of every work area.
+-- Accepted means accepted by writing. Checking asks all of it but that the image fits, and the last five fields hold of every work area.
 pub record Demand2 (f : Functions) : Type 0 where
   pub passed-exactly : (sheet : List ℕ) → Bytes sheet → (work : ℕ) → work-bytes ≤ work → (s : Sheet)
       → (f .check sheet work ≡ passed s) ↔ Passable sheet s
@@ -101,6 +103,15 @@ pub record Demand2 (f : Functions) : Type 0 where
   -- "writing, which checks again": it refuses by the question that checking names, whatever the image buffer.
   pub checks-again : (sheet : List ℕ) (work room question place : ℕ)
       → (f .write sheet work room ≡ refused question place) ↔ (f .check sheet work ≡ failed question place)
+  -- "A sheet and its padded twin of at most 4,096 bytes give the same image": if the one passes, so does the other, and writing ends the
+  -- same, whatever the image buffer (`Corollaries`: `same-image`).
+  pub twins-pass : (a b : List ℕ) → Bytes a → Bytes b → Twins a b → length a ≤ most-sheet-bytes → length b ≤ most-sheet-bytes
+      → (work : ℕ) (s : Sheet) → f .check a work ≡ passed s
+      → (f .check b work ≡ passed s) × ((room : ℕ) → f .write b work room ≡ f .write a work room)
+  -- If a question fails of the one, it fails of the other, at the place of the same number.
+  pub twins-fail : (a b : List ℕ) → Bytes a → Bytes b → Twins a b → length a ≤ most-sheet-bytes → length b ≤ most-sheet-bytes
+      → (work question place : ℕ) → f .check a work ≡ failed question place
+      → (other : ℕ) × (f .check b work ≡ failed question other) × SamePlace a b place other
 
 -- Demand 3. "Whatever bytes a text holds, for every sheet that demand 2 accepts, running the image fixed there over the text gives
 -- exactly the sheet's own answer .. Only, the text must be within the limit and the stack have at least 1 + 31 × its length entries."

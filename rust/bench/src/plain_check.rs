@@ -125,7 +125,7 @@ impl<'a> Reader<'a> {
         }
     }
 
-    /// A number of several bytes, or one that is missing.
+    /// A number of several bytes, of which the high ones may be empty, or one that is missing.
     #[inline(never)]
     fn long_number(&mut self) -> Option<u64> {
         let mut value = 0;
@@ -135,12 +135,9 @@ impl<'a> Reader<'a> {
                 break;
             }
             value |= group << (7 * index);
-            if byte < 0x80 && group > 0 {
+            if byte < 0x80 {
                 self.place += index + 1;
                 return Some(value);
-            }
-            if byte < 0x80 {
-                break;
             }
         }
         self.refuse(3, self.place)
@@ -379,6 +376,8 @@ fn from_parts(types: &[Type; NODE_LIMIT], index: usize, node: Node) -> Type {
 #[cfg(test)]
 mod tests {
     use super::*;
+    use crate::common::random::for_case;
+    use crate::common::{generate, numbers};
     use crate::sheets;
 
     fn agree(sheet: &[u8], work_length: usize) -> usize {
@@ -403,7 +402,9 @@ mod tests {
             let sheet = case.sheet.as_bytes();
             assert_eq!(agree(sheet, WORK_BYTES), case.number, "{}", case.name);
             met[agree(sheet, WORK_BYTES - 1)] = true;
-            for end in 0..sheet.len() {
+            // The padded sheet is long, and every fourth place is enough: its numbers have 7 bytes, so each
+            // of the 7 comes up.
+            for end in (0..sheet.len()).step_by(1 + sheet.len() / 1_000) {
                 met[agree(&sheet[..end], WORK_BYTES)] = true;
                 let mut damaged = sheet.to_vec();
                 for value in (0..8).chain([24, 25, 127, 128, 129, 255]) {
@@ -417,6 +418,21 @@ mod tests {
         assert_eq!(met, [true; 11]);
     }
 
+    /// The plain check and the reference agree on twins of these sheets, whole and damaged.
+    #[test]
+    fn plain_check_and_reference_agree_on_twins() {
+        for case in sheets::all() {
+            for seed in 0..200 {
+                let random = &mut for_case(1, seed);
+                let twin = numbers::twin(random, case.sheet.as_bytes());
+                let number = agree(&twin, WORK_BYTES);
+                let too_long = twin.len() > SHEET_LIMIT;
+                assert_eq!(number, if too_long { 2 } else { case.number });
+                agree(&generate::damage(random, &twin), WORK_BYTES);
+            }
+        }
+    }
+
     #[test]
     fn long_numbers() {
         let mut longest = [0xff; 10];
@@ -427,5 +443,12 @@ mod tests {
         for sheet in [&[0x80][..], &[0x80, 0], &[0x81, 0], &[0x81, 1], &[0xff; 11]] {
             agree(sheet, WORK_BYTES);
         }
+        // A version of eleven groups, and one of ten, after which the token count is missing.
+        let mut version = [0x80; 11];
+        version[0] = 0x81;
+        version[10] = 0;
+        assert_eq!(agree(&version, WORK_BYTES), 3);
+        version[9] = 0;
+        assert_eq!(check(&version[..10], &mut [0; WORK_BYTES]), [3, 10]);
     }
 }

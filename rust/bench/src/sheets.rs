@@ -31,14 +31,24 @@ pub fn all() -> Vec<Case> {
 /// The library finds the least types by rounds from the last node to the first, in place. The tower has
 /// the deepest expression and takes 4 rounds; with all nodes of a round at once, from the types of the
 /// round before, it would take 126. The chain takes 23, and the refused one 43. The wide one takes 3: it
-/// has alternatives side by side, and rules that are all of one size.
-fn largest() -> [Case; 4] {
+/// has alternatives side by side, and rules that are all of one size. With each number in 7 bytes it is
+/// still within the limit.
+fn largest() -> [Case; 5] {
+    let wide_sheet = |name| sheet(name, wide_rules, wide, 0);
     [
         sheet("largest, tower", deep_rules, tower, 0),
         sheet("largest, chain", deep_rules, chain, 0),
-        sheet("largest, wide", wide_rules, wide, 0),
+        wide_sheet("largest, wide"),
+        padded(wide_sheet("largest, wide, padded"), 7),
         sheet("largest, refused", deep_rules, refused, 9),
     ]
+}
+
+fn padded(case: Case, width: usize) -> Case {
+    Case {
+        sheet: case.sheet.padded(width).expect("a width"),
+        ..case
+    }
 }
 
 fn sheet(

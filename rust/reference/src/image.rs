@@ -122,9 +122,19 @@ impl Image {
     }
 }
 
+/// The next number, which in an image must have the fewest bytes; otherwise its place.
+fn field(reader: &mut Reader) -> Result<Field, usize> {
+    let field = reader.read()?;
+    if field.fewest {
+        Ok(field)
+    } else {
+        Err(field.place)
+    }
+}
+
 /// The next number, if its value is from `low` to `high`; otherwise its place.
 fn number(reader: &mut Reader, low: u64, high: u64) -> Result<u64, usize> {
-    let Field { value, place } = reader.read()?;
+    let Field { value, place, .. } = field(reader)?;
     if (low..=high).contains(&value) {
         Ok(value)
     } else {
@@ -166,7 +176,7 @@ fn read_image(reader: &mut Reader) -> Result<Image, usize> {
         let production_count = number(reader, 0, 32)?;
         let mut productions: Vec<(usize, Vec<usize>)> = Vec::new();
         for _ in 0..production_count {
-            let Field { value, place } = reader.read()?;
+            let Field { value, place, .. } = field(reader)?;
             let rising = productions
                 .last()
                 .map_or(true, |(before, _)| (*before as u64) < value);

@@ -143,7 +143,7 @@ struct Parser<'a> {
 }
 
 impl Parser<'_> {
-    /// The next number: questions 3 and 4.
+    /// The next number: questions 3 and 4. It may be padded.
     fn number(&mut self, allowed: impl Fn(u64) -> bool) -> Result<Field, Refusal> {
         let field = self
             .numbers

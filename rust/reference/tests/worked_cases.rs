@@ -1,5 +1,6 @@
-//! The contract's worked cases, and those of requests 1 and 2 of document 02: no random ones.
+//! The contract's worked cases, and those of requests 1 to 3 of document 02: no random ones.
 
+use vinzagew_reference::number::write_padded;
 use vinzagew_reference::sheet::Sheet;
 use vinzagew_reference::{answer, check, run, stack_length, write, Ran, Refusal, Written};
 
@@ -169,7 +170,130 @@ fn limits() {
         tokens: 0,
     };
     assert_eq!(run(&IMAGE, b"12/7", &mut []), refused);
-    assert_eq!(written(&[0x80, 0x00]).0.number, 3);
+}
+
+/// The sheet with each of its numbers, which all have one byte, in so many bytes.
+fn padded(sheet: &[u8], width: usize) -> Vec<u8> {
+    let mut padded = Vec::new();
+    for &byte in sheet {
+        write_padded(&mut padded, byte.into(), width);
+    }
+    padded
+}
+
+/// The bytes with others for the one at a place.
+fn replaced(bytes: &[u8], place: usize, others: &[u8]) -> Vec<u8> {
+    [&bytes[..place], others, &bytes[place + 1..]].concat()
+}
+
+/// Ten groups, all empty but for the lowest and the tenth.
+fn ten_groups(lowest: u8, tenth: u8) -> [u8; 10] {
+    [0x80 | lowest, 128, 128, 128, 128, 128, 128, 128, 128, tenth]
+}
+
+/// Request 3 of document 02: hexadecimal 80 00 is zero in a sheet, and 13 in an image.
+#[test]
+fn padded_zero_in_a_sheet_and_in_an_image() {
+    let sheet = with_rules(&EXPRESSION);
+    // The action of the rule that skips, the token N, ε, and how far the variable counts.
+    for place in [16, 22, 25, 33] {
+        assert_eq!(sheet[place], 0);
+        let twin = replaced(&sheet, place, &[0x80, 0x00]);
+        assert_eq!(written(&twin).1, IMAGE);
+        assert_eq!(read(&twin, b"12 /7"), (0, 5, 3));
+    }
+    // As the version it is read, and zero is not allowed.
+    assert_eq!(verdict(&[0x80, 0x00]), (4, 0));
+    // In an image no number may be padded, zero or not.
+    for (place, byte) in IMAGE.into_iter().enumerate() {
+        let image = replaced(&IMAGE, place, &[0x80 | byte, 0x00]);
+        let mut stack = [0xa5; 32];
+        let ran = run(&image, b"7", &mut stack);
+        assert_eq!((ran.number, ran.place, ran.tokens), (13, place, 0));
+        assert_eq!(stack, [0xa5; 32]);
+    }
+}
+
+#[test]
+fn a_padded_twin_has_the_same_image() {
+    let sheet = with_rules(&EXPRESSION);
+    for width in 1..=10 {
+        let twin = padded(&sheet, width);
+        assert_eq!(twin.len(), 34 * width);
+        assert_eq!(written(&twin).1, IMAGE);
+        assert_eq!(read(&twin, b"12//7"), (15, 3, 2));
+        // No number of an image may be padded, the version first of all.
+        let ran = run(&padded(&IMAGE, width), b"7", &mut [0xa5; 32]);
+        let expected = if width == 1 { (0, 1) } else { (13, 0) };
+        assert_eq!((ran.number, ran.place), expected);
+    }
+}
+
+/// Places are byte places of the padded sheet.
+#[test]
+fn a_padded_twin_is_refused_at_the_same_number() {
+    for (expression, number, place) in [
+        (&[4, 2, 0, 2, 0][..], 10, 20),
+        (&[3, 4, 0, 2, 0, 2, 1], 9, 20),
+        (&[5, 6, 0], 8, 21),
+        (&[2, 0, 0], 6, 22),
+        (&[2, 2], 4, 21),
+        (&[3, 2, 0], 3, 23),
+    ] {
+        assert_eq!(refusal(expression), (number, place));
+        for width in 1..=10 {
+            let twin = padded(&with_rules(expression), width);
+            assert_eq!(verdict(&twin), (number, place * width));
+            assert_eq!(written(&twin).0.length, 0);
+        }
+    }
+    assert_eq!(verdict(&padded(&[1, 1, 1, 0, 0, 2, 0], 3)), (7, 9));
+    let many = padded(&with_rules(&[5; 65]), 2);
+    assert_eq!(verdict(&many), (5, 2 * (20 + 64)));
+}
+
+/// Up to ten groups, and below 2^64.
+#[test]
+fn the_longest_numbers() {
+    let sheet = with_rules(&EXPRESSION);
+    for place in [0, 6, 20, 33] {
+        let with = |bytes: &[u8]| replaced(&sheet, place, bytes);
+        assert_eq!(written(&with(&ten_groups(sheet[place], 0))).1, IMAGE);
+        // The tenth group's lowest bit is 2^63: a number, but not allowed in any field.
+        assert_eq!(verdict(&with(&ten_groups(sheet[place], 1))), (4, place));
+        assert_eq!(verdict(&with(&ten_groups(sheet[place], 2))), (3, place));
+        let eleven = [&ten_groups(sheet[place], 0x80)[..], &[0]].concat();
+        assert_eq!(verdict(&with(&eleven)), (3, place));
+    }
+    // Cut off: the last number has no last byte.
+    for groups in 1..=12 {
+        let cut = [&sheet[..33], &vec![0x80; groups]].concat();
+        assert_eq!(verdict(&cut), (3, 33));
+    }
+}
+
+/// The largest sheet that passes has 515 numbers; in ten bytes each it is too long.
+#[test]
+fn padding_is_held_by_the_sheets_limit() {
+    // 32 rules of eight regex nodes and two classes: a·(((b ∨ ε) ∨ ε))*.
+    let rule = [1, 2, 1, 97, 97, 4, 3, 3, 1, 98, 98, 0, 0];
+    // A repetition of 32 tokens in a row.
+    let expression = [&[7], &[3, 2, 0].repeat(31)[..], &[2, 0]].concat();
+    let sheet = [&[1, 1, 32], &rule.repeat(32)[..], &expression].concat();
+    assert_eq!(sheet.len(), 515);
+    let (result, image) = written(&sheet);
+    assert_eq!(result.number, 0);
+    for width in [2, 7] {
+        assert_eq!(written(&padded(&sheet, width)).1, image);
+    }
+    for width in [8, 10] {
+        assert_eq!(verdict(&padded(&sheet, width)), (2, 0));
+    }
+    // 491 numbers of eight bytes and 24 of seven are 4,096 bytes.
+    let bytes = |eights| [padded(&sheet[..eights], 8), padded(&sheet[eights..], 7)].concat();
+    assert_eq!(bytes(491).len(), 4_096);
+    assert_eq!(written(&bytes(491)).1, image);
+    assert_eq!(verdict(&bytes(492)), (2, 0));
 }
 
 /// Both leave the work area alike, on every outcome; neither trusts what was done before.

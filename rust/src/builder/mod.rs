@@ -5,8 +5,11 @@
 //! variables, and it leads from the place of a refusal back to the part that was written there: see
 //! [`Sheet::locate`].
 //!
-//! The builder refuses only what cannot be written down, a variable outside its fixed point. Limits,
-//! value ranges and types are the business of checking.
+//! The builder refuses only what cannot be written down: a variable outside its fixed point, and a width
+//! that no number has. Limits, value ranges and types are the business of checking.
+//!
+//! Numbers are written with the fewest bytes. [`Sheet::padded`] gives them room for larger ones, which
+//! [`patch`](crate::patch()) writes into a stored sheet.
 //!
 //! ```
 //! use vinzagew::builder::{Regex, SheetBuilder};
@@ -38,6 +41,7 @@ pub use expression::{Expression, Token, Variable};
 pub use part::{Field, Part, PartKind};
 pub use regex::Regex;
 
+use crate::WIDTH_LIMIT;
 use std::error::Error;
 use std::fmt;
 
@@ -97,10 +101,11 @@ impl SheetBuilder {
             rules: self.rules,
             expression: expression.into(),
             binders: Vec::new(),
+            width: 1,
             bytes: Vec::new(),
         };
         let numbers = part::numbers(&sheet)?;
-        let bytes = numbers.bytes();
+        let bytes = numbers.bytes(sheet.width);
         sheet.binders = numbers.binders;
         sheet.bytes = bytes;
         Ok(sheet)
@@ -115,10 +120,48 @@ pub struct Sheet {
     expression: Expression,
     /// For each expression node that is a variable, the node of its fixed point; for others, itself.
     binders: Vec<usize>,
+    /// How many bytes each number has at least.
+    width: usize,
     bytes: Vec<u8>,
 }
 
 impl Sheet {
+    /// The same sheet with each number padded to `width` bytes, whatever it was padded to before.
+    ///
+    /// The width is the least that a number has: one that needs more keeps its fewest bytes, so 1 takes all
+    /// padding off. Every number of a sheet that passes needs one byte or two.
+    ///
+    /// A padded sheet is judged as before and has the same image, as long as it keeps
+    /// [`SHEET_LIMIT`](crate::SHEET_LIMIT); no sheet that passes and is padded to 7 bytes or less is
+    /// longer. Places, as those of refusals and of [`Sheet::locate`], count the bytes of the padded sheet.
+    ///
+    /// # Errors
+    ///
+    /// A width of 0 or of more than [`WIDTH_LIMIT`].
+    ///
+    /// ```
+    /// # use vinzagew::builder::{Regex, SheetBuilder};
+    /// let mut builder = SheetBuilder::new();
+    /// let a = builder.token("a");
+    /// builder.rule(a, Regex::byte(b'a'));
+    /// let sheet = builder.finish(a)?;
+    /// assert_eq!(sheet.as_bytes(), [1, 1, 1, 1, 1, 97, 97, 2, 0]);
+    /// assert_eq!(sheet.locate(7).to_string(), "expression node 0: a");
+    ///
+    /// let sheet = sheet.padded(2)?;
+    /// assert_eq!(sheet.as_bytes()[..4], [0x81, 0, 0x81, 0]);
+    /// assert_eq!(sheet.locate(14).to_string(), "expression node 0: a");
+    /// # Ok::<(), Box<dyn std::error::Error>>(())
+    /// ```
+    pub fn padded(mut self, width: usize) -> Result<Sheet, WidthOutOfRange> {
+        if !(1..=WIDTH_LIMIT).contains(&width) {
+            return Err(WidthOutOfRange { width });
+        }
+        self.bytes = self.numbers().bytes(width);
+        self.width = width;
+        Ok(self)
+    }
+
     /// The bytes of the sheet.
     pub fn to_bytes(&self) -> Vec<u8> {
         self.bytes.clone()
@@ -149,6 +192,15 @@ impl Sheet {
         part::locate(self, place)
     }
 
+    /// The parts of the sheet in order, one for each number; [`patch`](crate::patch()) needs their places.
+    pub fn parts(&self) -> Vec<Part<'_>> {
+        part::parts(self)
+    }
+
+    fn numbers(&self) -> part::Numbers<'_> {
+        part::numbers(self).expect("the variables were looked up when the sheet was made")
+    }
+
     /// The name of a token, or its number if it has no name here.
     fn token_name(&self, token: Token) -> String {
         match self.tokens.get(token.0) {
@@ -176,3 +228,22 @@ impl fmt::Display for UnboundVariable {
 }
 
 impl Error for UnboundVariable {}
+
+/// A width that no number has: 0, or more than [`WIDTH_LIMIT`].
+#[derive(Clone, Copy, Debug, PartialEq, Eq)]
+pub struct WidthOutOfRange {
+    /// The width.
+    pub width: usize,
+}
+
+impl fmt::Display for WidthOutOfRange {
+    fn fmt(&self, formatter: &mut fmt::Formatter) -> fmt::Result {
+        write!(
+            formatter,
+            "a number has 1 to {WIDTH_LIMIT} bytes, not {}",
+            self.width
+        )
+    }
+}
+
+impl Error for WidthOutOfRange {}

@@ -1,6 +1,7 @@
 //! The numbers of a sheet, and the way back from a place to the part that was written there.
 
 use super::{Expression, Regex, Sheet, UnboundVariable, Variable};
+use crate::number;
 use std::fmt;
 
 /// A part of a sheet.
@@ -180,14 +181,31 @@ impl<'a> Numbers<'a> {
         Ok(())
     }
 
-    /// The bytes of the numbers.
-    pub(super) fn bytes(&self) -> Vec<u8> {
+    /// The bytes of the numbers, each in at least so many bytes.
+    pub(super) fn bytes(&self, width: usize) -> Vec<u8> {
         let mut bytes = Vec::new();
         for (value, _) in &self.list {
-            write_number(&mut bytes, *value);
+            let start = bytes.len();
+            bytes.resize(start + own_width(*value, width), 0);
+            number::fill(&mut bytes[start..], *value);
         }
         bytes
     }
+
+    /// The place and the kind of each number's part, if each has at least so many bytes.
+    fn places(self, width: usize) -> impl Iterator<Item = (usize, PartKind<'a>)> {
+        let mut next = 0;
+        self.list.into_iter().map(move |(value, kind)| {
+            let place = next;
+            next += own_width(value, width);
+            (place, kind)
+        })
+    }
+}
+
+/// How many bytes a number has in a sheet where each has at least so many.
+fn own_width(value: u64, width: usize) -> usize {
+    number::fewest_bytes(value).max(width)
 }
 
 /// How many open fixed points lie between a variable and its own, and the node of its own.
@@ -219,34 +237,26 @@ fn expression_tag(expression: &Expression) -> u64 {
     }
 }
 
-/// Writes a number in groups of seven bits, lowest group first.
-fn write_number(bytes: &mut Vec<u8>, mut value: u64) {
-    while value >= 0x80 {
-        bytes.push(value as u8 | 0x80);
-        value >>= 7;
-    }
-    bytes.push(value as u8);
-}
-
 /// The part whose number stands at a place.
 pub(super) fn locate(sheet: &Sheet, place: usize) -> Part<'_> {
-    let numbers = numbers(sheet).expect("the variables were looked up when the sheet was made");
-    let mut bytes = Vec::new();
-    for (value, kind) in numbers.list {
-        let start = bytes.len();
-        write_number(&mut bytes, value);
-        if place < bytes.len() {
-            return Part {
-                place: start,
-                kind,
-                words: words(sheet, kind),
-            };
-        }
-    }
+    let end = (sheet.bytes.len(), PartKind::End);
+    let places = sheet.numbers().places(sheet.width).chain([end]);
+    let found = places.take_while(|(start, _)| *start <= place).last();
+    named(sheet, found.expect("the first number starts at place 0"))
+}
+
+/// The parts of a sheet in order, one for each number.
+pub(super) fn parts(sheet: &Sheet) -> Vec<Part<'_>> {
+    let places = sheet.numbers().places(sheet.width);
+    places.map(|found| named(sheet, found)).collect()
+}
+
+/// The part of this kind at a place.
+fn named<'a>(sheet: &Sheet, (place, kind): (usize, PartKind<'a>)) -> Part<'a> {
     Part {
-        place: bytes.len(),
-        kind: PartKind::End,
-        words: words(sheet, PartKind::End),
+        place,
+        kind,
+        words: words(sheet, kind),
     }
 }
 

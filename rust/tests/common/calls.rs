@@ -4,7 +4,7 @@
 //! is not said here: the reference is asked only for images to run and for lengths that matter.
 
 use super::random::Random;
-use super::{generate, hexadecimal, image_of, Engine, REFERENCE};
+use super::{generate, hexadecimal, image_of, numbers, Engine, REFERENCE};
 use std::fmt;
 use vinzagew::stack_length;
 
@@ -94,8 +94,21 @@ impl fmt::Display for Call {
     }
 }
 
-/// A sheet of any kind, passing or not.
+/// A sheet of any kind, passing or not. Some are padded, and of these some are damaged thereafter.
 pub fn sheet(random: &mut Random) -> Vec<u8> {
+    let sheet = unpadded_sheet(random);
+    match random.below(16) {
+        0..=2 => numbers::twin(random, &sheet),
+        3 => {
+            let twin = numbers::twin(random, &sheet);
+            generate::damage(random, &twin)
+        }
+        _ => sheet,
+    }
+}
+
+/// A sheet of any kind, passing or not, with no number padded but by damage.
+fn unpadded_sheet(random: &mut Random) -> Vec<u8> {
     match random.below(27) {
         0..=7 => generate::passing_sheet(random).to_bytes(),
         8 => generate::long_tailed_sheet(random).to_bytes(),
@@ -246,6 +259,7 @@ fn run_call(random: &mut Random) -> Call {
         0 => generate::damage(random, &image.to_bytes()),
         1 => generate::damage_field(random, &image),
         2 if random.once_in(2) => generate::stretch_tail(random, &image).to_bytes(),
+        3 if random.once_in(2) => numbers::twin_with_one_padded(random, &image.to_bytes()),
         _ => image.to_bytes(),
     };
     let entries = match random.below(8) {

@@ -3,12 +3,13 @@
 //! Nothing is called and nothing is compared here. What a sheet is made to be, such as one that passes
 //! checking, is only a promise of its function: the tests see whether it is kept.
 
+use super::numbers::numbers;
 use super::random::Random;
 use vinzagew::builder::{Expression, Regex, Sheet, SheetBuilder, Token};
 use vinzagew::TAIL_LIMIT;
 use vinzagew_reference::image::{Image, Row};
 use vinzagew_reference::lexer::Position;
-use vinzagew_reference::number;
+use vinzagew_reference::number::{self, WIDTH_LIMIT};
 use vinzagew_reference::sheet::{CLASS_LIMIT, NODE_LIMIT, REGEX_NODE_LIMIT};
 
 /// The bytes that most classes are made of: few, so that rules compete.
@@ -777,47 +778,62 @@ pub fn damage_field(random: &mut Random, image: &Image) -> Vec<u8> {
     bytes
 }
 
+/// Changes one number, or takes, adds or moves one. A number whose value is changed keeps its width, if that
+/// is enough.
 fn damage_numbers(random: &mut Random, bytes: &[u8]) -> Vec<u8> {
-    let mut fields = Vec::new();
-    let mut place = 0;
-    while let Some((value, after)) = number::read(bytes, place) {
-        fields.push(value);
-        place = after;
-    }
-    if fields.is_empty() {
+    let (found, end) = numbers(bytes);
+    if found.is_empty() {
         return bytes.to_vec();
     }
-    let chosen = random.below(fields.len());
-    let value = fields[chosen];
-    let mut padded = None;
-    match random.below(12) {
+    let chosen = random.below(found.len());
+    if random.once_in(6) {
+        let (place, number) = found[chosen];
+        return stretch(random, bytes, place, number.width);
+    }
+    // Values and widths.
+    let mut fields: Vec<(u64, usize)> = found
+        .into_iter()
+        .map(|(_, number)| (number.value, number.width))
+        .collect();
+    let (value, _) = fields[chosen];
+    match random.below(10) {
         0 => drop(fields.remove(chosen)),
-        1 => fields.insert(chosen, random.below(8) as u64),
-        2 => fields[chosen] = random.next() >> random.below(64),
-        3 => fields[chosen] = value.wrapping_add(1),
-        4 => fields[chosen] = value.wrapping_sub(1),
-        5 => fields[chosen] = *random.pick(&[23, 24, 25, 31, 32, 33, 63, 64, 65, 255, 256]),
-        6 => fields[chosen] = value ^ 1 << random.below(64),
+        1 => fields.insert(chosen, (random.below(8) as u64, 1)),
+        2 => fields[chosen].0 = random.next() >> random.below(64),
+        3 => fields[chosen].0 = value.wrapping_add(1),
+        4 => fields[chosen].0 = value.wrapping_sub(1),
+        5 => fields[chosen].0 = *random.pick(&[23, 24, 25, 31, 32, 33, 63, 64, 65, 255, 256]),
+        6 => fields[chosen].0 = value ^ 1 << random.below(64),
         7 => fields.truncate(chosen),
-        8 => padded = Some(chosen),
-        9 => {
+        8 => {
             let other = random.below(fields.len());
             fields.swap(chosen, other);
         }
-        _ => fields[chosen] = random.below(8) as u64,
+        _ => fields[chosen].0 = random.below(8) as u64,
     }
     let mut damaged = Vec::new();
-    for (index, &value) in fields.iter().enumerate() {
-        number::write(&mut damaged, value);
-        if padded == Some(index) {
-            let last = damaged.len() - 1;
-            damaged[last] |= 0x80;
-            damaged.resize(last + random.range(1, 10), 0x80);
-            damaged.push(random.below(3) as u8);
-        }
+    for (value, width) in fields {
+        number::write_padded(&mut damaged, value, width);
     }
-    damaged.extend(&bytes[place..]);
+    damaged.extend(&bytes[end..]);
     damaged
+}
+
+/// Adds groups to the number of this width at a place. Often it has then as many as can be, or one more; the
+/// last group is empty or nearly.
+fn stretch(random: &mut Random, bytes: &[u8], place: usize, width: usize) -> Vec<u8> {
+    let (before, after) = bytes.split_at(place + width);
+    let mut stretched = before.to_vec();
+    stretched[place + width - 1] |= 0x80;
+    let groups = match random.below(3) {
+        0 => WIDTH_LIMIT,
+        1 => WIDTH_LIMIT + 1,
+        _ => random.range(2, 2 * WIDTH_LIMIT),
+    };
+    stretched.resize(before.len().max(place + groups - 1), 0x80);
+    stretched.push(random.below(3) as u8);
+    stretched.extend(after);
+    stretched
 }
 
 /// Changes a byte, or takes or adds some.

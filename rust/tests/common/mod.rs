@@ -8,6 +8,7 @@
 pub mod calls;
 pub mod generate;
 pub mod json_lines;
+pub mod numbers;
 pub mod random;
 
 use vinzagew_reference::image::{self, Image};
@@ -61,7 +62,10 @@ pub fn hexadecimal(bytes: &[u8]) -> String {
 
 /// What a buffer holds before a call: no zero, and a byte that is moved by less than 251 places shows.
 pub fn pattern(length: usize) -> Vec<u8> {
-    (0..length).map(|place| (place % 251 + 1) as u8).collect()
+    let piece: Vec<u8> = (1..=251).collect();
+    let mut pattern = piece.repeat(length / 251 + 1);
+    pattern.truncate(length);
+    pattern
 }
 
 /// The numbers that `out` holds before a call; more than are written.
