@@ -6,8 +6,9 @@
  *
  * A sheet and an image are numbers in groups of seven bits, lowest group first, one byte a group, with
  * bit 7 set when another group follows. In a sheet a number may be padded with empty high groups, up to
- * ten bytes. As long as the sheet has at most 4,096 bytes, padding changes neither its verdict nor its
- * image; places count the bytes of the sheet as it is. In an image every number has the fewest bytes.
+ * ten bytes. As long as the sheet has at most 4,096 bytes, padding changes neither the number that
+ * answers it nor its image; a place counts the bytes of the sheet as it is. In an image every number has
+ * the fewest bytes.
  *
  * Every buffer is a pointer to its first byte (or number) and a length. All buffers must be valid for
  * their length, pointers must not be null (any address that is not null will do for a length of 0),

@@ -12,6 +12,7 @@ pub(crate) fn fewest_bytes(value: u64) -> usize {
 /// Writes a number into all of `bytes`, which must be as many as it needs at least: high groups that it
 /// does not need are empty.
 pub(crate) fn fill(bytes: &mut [u8], mut value: u64) {
+    debug_assert!(fewest_bytes(value) <= bytes.len());
     for byte in bytes.iter_mut() {
         *byte = value as u8 | 0x80;
         value >>= 7;

@@ -1,4 +1,5 @@
-//! Patches one number of a stored sheet and moves no byte.
+//! Patches one number of a stored sheet and moves no byte. Whether the sheet passes, before or after, is
+//! not asked here.
 
 use crate::number;
 use std::error::Error;
@@ -11,7 +12,8 @@ use std::fmt;
 /// more bytes than stand there is refused; [`Sheet::padded`](crate::builder::Sheet::padded) makes a sheet
 /// whose numbers have room. With an error the sheet is as it was.
 ///
-/// Only the number is looked at. Whether the value is allowed in its field, and whether the sheet passes, is
+/// Only the number is looked at, and where it starts is told by the bytes alone: after one whose bit 7 is not
+/// set. So a number can be patched also where what stands before it is none. Whether the value is allowed in its field, and whether the sheet passes, is
 /// the business of [`check`](crate::check()). An image is not patched like this: in an image a padded number
 /// is refused with 13.
 ///
@@ -83,11 +85,11 @@ pub enum PatchError {
         /// How many bytes the sheet has.
         length: usize,
     },
-    /// The byte at the place is one of a number that starts before it.
+    /// The byte at the place goes on with groups that start before it, a number or too many of them.
     InsideNumber {
         /// The place.
         place: usize,
-        /// Where that number starts.
+        /// Where they start.
         start: usize,
     },
     /// The bytes from the place on are no number: it is cut off, has more than ten bytes, or is 2^64 or more.
@@ -228,12 +230,14 @@ mod tests {
         );
     }
 
-    /// Eleven groups are no number, and neither is 2^64.
+    /// Eleven groups are no number, and neither is 2^64. What stands after them is patched all the same.
     #[test]
     fn bytes_that_are_no_number() {
-        let mut bytes = [0x80; 11];
+        let mut bytes = [0x80; 12];
         bytes[10] = 0;
+        bytes[11] = 7;
         assert_eq!(refused(&bytes, 0, 0), PatchError::NotANumber { place: 0 });
+        assert_eq!(patched(&bytes, 11, 9)[9..], [0x80, 0, 9]);
         bytes[9] = 2;
         assert_eq!(refused(&bytes, 0, 0), PatchError::NotANumber { place: 0 });
     }

@@ -1,10 +1,9 @@
 //! The test vectors, against the reference and, if it was linked, the library.
 //!
 //! The vectors come from elsewhere and say what is right; nothing is made up here. Where a vector names a
-//! length, that much is lent; where it names none, enough.
-//!
-//! The files before that of request 3 were written when a padded number was refused in sheets too. The
-//! vectors that say so are told apart by [`padded_place`], and counted for each file.
+//! length, that much is lent; where it names none, enough. Only, the files before that of request 3 were
+//! written when a padded number was refused in sheets too: the vectors that say so are told apart by
+//! [`padded_place`], counted for each file, and held against their twins in the fewest bytes.
 
 mod common;
 

@@ -1,10 +1,10 @@
--- Lemmas behind `Laws`: what the groups at the front of some bytes are, and what an accepted number says of them.
--- Nothing here is meant to be cited by other crates.
+-- Lemmas behind `Laws`: what the groups at the front of some bytes are, what an accepted number says of them, and which bytes are groups of
+-- a number, with how many there are. Nothing here is meant to be cited by other crates.
 use Prim.Native.Nat.{ℕ, zero, suc, _+_, _*_, _^_, _/_, _%_, _≤_, _<_}
 use mathlib.Core.Path.{_≡_, refl, sym, ap, ap₂, subst, _∙_}
 use mathlib.Core.List.{List, [], _∷_, _++_}
 use mathlib.Core.Bool.{Bool, true, false, cond, _||_}
-use mathlib.Core.Logic.{_⊎_, inl, inr, ⊎-elim}
+use mathlib.Core.Logic.{⊎-elim}
 use native.Mathlib.Omega.{arith}
 use lib.Pow.{shr-lt}
 use lib.Dec.{leb, ltb, eqb}
@@ -268,15 +268,13 @@ front-small [] gs e = cut-whole e
 front-small (b ∷ rest) gs e = small-step b rest (front-small rest) (start b rest e)
 
 -- The test for the fewest bytes tells whether there are as many groups as are written.
-pub fewest-width : (k : ℕ) (gs : Groups) → Small gs → count gs ≤ k → (highest gs ≡ 0 → count gs ≡ 1) → count gs ≡ length (encode-in k (value gs))
+pub fewest-as-many : (k : ℕ) (gs : Groups) → Small gs → count gs ≤ k → (highest gs ≡ 0 → count gs ≡ 1) → count gs ≡ length (encode-in k (value gs))
 unfolding count value highest
-fewest-width zero gs s l f = absurd (omega (arith, count-positive gs))
-fewest-width (suc k) (last g) s l f = sym (ap length (encode-last k g s))
-fewest-width (suc k) (more g gs) s l f =
-    let more-than-one = count-positive gs in
-    let top : (h : ℕ) → (h ≡ 0 → suc (count gs) ≡ 1) → 0 < h = λ h z. positive h z in
-    let n : 0 < highest gs = top (highest gs) f in
-    ap suc (fewest-width k gs (s .1) (omega arith) (λ z. absurd (omega arith)))
+fewest-as-many zero gs s l f = absurd (omega (arith, count-positive gs))
+fewest-as-many (suc k) (last g) s l f = sym (ap length (encode-last k g s))
+fewest-as-many (suc k) (more g gs) s l f =
+    let n : 0 < highest gs = positive (highest gs) f in
+    ap suc (fewest-as-many k gs (s .1) (omega arith) (λ z. absurd (omega arith)))
     ∙ sym (width-more k g (value gs) (s .0) (omega (arith, highest-value gs)))
   where
     positive : (h : ℕ) → (h ≡ 0 → suc (count gs) ≡ 1) → 0 < h
@@ -288,11 +286,11 @@ unfolding count value highest
 one-group (last g) e = refl
 one-group (more g gs) e = absurd (omega (arith, count-positive gs))
 
-pub width-fewest : (k : ℕ) (gs : Groups) → Small gs → count gs ≤ k → count gs ≡ length (encode-in k (value gs)) → highest gs ≡ 0 → count gs ≡ 1
+pub as-many-fewest : (k : ℕ) (gs : Groups) → Small gs → count gs ≤ k → count gs ≡ length (encode-in k (value gs)) → highest gs ≡ 0 → count gs ≡ 1
 unfolding count value highest
-width-fewest zero gs s l e z = absurd (omega (arith, count-positive gs))
-width-fewest (suc k) (last g) s l e z = refl
-width-fewest (suc k) (more g gs) s l e z = absurd (go (value gs) refl (width-fewest k gs (s .1) (omega arith)))
+as-many-fewest zero gs s l e z = absurd (omega (arith, count-positive gs))
+as-many-fewest (suc k) (last g) s l e z = refl
+as-many-fewest (suc k) (more g gs) s l e z = absurd (go (value gs) refl (as-many-fewest k gs (s .1) (omega arith)))
   where
     go : (v : ℕ) → value gs ≡ v → (count gs ≡ length (encode-in k (value gs)) → highest gs ≡ 0 → count gs ≡ 1) → ⊥
     go zero h ih =

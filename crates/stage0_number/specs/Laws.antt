@@ -1,19 +1,19 @@
 -- The laws of numbers, for readers of the definitions and for other crates to cite: reading finds just what is written in groups, and
 -- tells whether the bytes were the fewest; nothing past the end is looked at, and no two numbers share their bytes. What writing leaves
 -- in a buffer is in `Splice`.
-use Prim.Native.Nat.{ℕ, zero, suc, _+_, _-_, _^_, _≤_, _<_}
+use Prim.Native.Nat.{ℕ, zero, suc, _+_, _^_, _≤_, _<_}
 use mathlib.Core.Path.{_≡_, refl, sym, ap, ap₂, subst, _∙_}
-use mathlib.Core.Bool.{Bool, true, false, cond}
+use mathlib.Core.Bool.{Bool, true, false}
 use mathlib.Core.List.{List, [], _++_}
 use mathlib.Core.Logic.{_↔_, ⊎-elim}
 use native.Mathlib.Omega.{arith}
 use lib.ListN.{length, getD, take, drop, length-take, length-drop, take-append-drop}
-use lib.Seq.{drop-append-add, take-append-seam, getD-drop, length-take-le}
+use lib.Seq.{drop-append-add, getD-drop, length-take-le}
 use Rattle.stage0_laws.specs.Order.{lt-or-le}
-use Rattle.stage0_number.specs.Number.{InGroups, count, value, highest, front, fewest, number-from, decode, unpadded, decode-fewest, encode-in, encode}
+use Rattle.stage0_number.specs.Number.{InGroups, whole, count, value, highest, front, fewest, number-from, decode, unpadded, decode-fewest, encode-in, encode}
 use Rattle.stage0_number.specs.Groups.{count-positive, judged-read, refused-read, fewest-alone, fewest-is, found}
-use Rattle.stage0_number.specs.Groups.{front-within, front-kept, front-small, groups-in-front, front-in-groups, groups-some, groups-same, one-wider}
-use Rattle.stage0_number.specs.Groups.{encode-in-groups, encode-in-fewest, fewest-width, width-fewest, length-encode-in, encode-in-there, encode-in-bytes}
+use Rattle.stage0_number.specs.Groups.{front-within, front-kept, front-small, groups-in-front, front-in-groups, groups-same, one-wider}
+use Rattle.stage0_number.specs.Groups.{encode-in-groups, encode-in-fewest, fewest-as-many, as-many-fewest, length-encode-in, encode-in-there, encode-in-bytes}
 use Rattle.stage0_number.specs.declared.Number.{Number}
 use Rattle.stage0_number.specs.declared.Number.the-variants.{Read, Refused}
 
@@ -55,14 +55,14 @@ any-width n (suc more) h =
 
 -- ---- which bytes a reading looks at
 
+-- A part of some bytes has the length that was asked for, where so many are there.
+pub length-part : (s : List ℕ) (at n : ℕ) → at + n ≤ length s → length (take n (drop at s)) ≡ n
+length-part s at n h = length-take-le n (drop at s) (omega (arith, length-drop at s))
+
 -- Only those from the place on.
 pub decode-from : (p s : List ℕ) (k : ℕ) → decode (p ++ s) (length p + k) ≡ decode s k
 unfolding decode
 decode-from p s k = rw (drop-append-add p s k)
-
-pub decode-drop : (s : List ℕ) (at : ℕ) → decode s at ≡ decode (drop at s) 0
-unfolding decode
-decode-drop s at = refl
 
 -- What is read lies within the bytes, has one to ten of them, and is below 2^64.
 pub record Within (s : List ℕ) (at v n : ℕ) : Type 0 where
@@ -98,7 +98,7 @@ decode-kept s at t k {v} {n} {p} e h =
 
 -- ---- reading what is in groups
 
--- Whatever is read is in groups, and these are the fewest exactly if the answer says so.
+-- Whatever is read is in groups.
 pub decode-groups : (s : List ℕ) (at : ℕ) {v n : ℕ} {p : Bool} → ((i : ℕ) → getD s i 0 < 256) → decode s at ≡ Read v n p
     → InGroups v (take n (drop at s))
 unfolding decode
@@ -108,17 +108,29 @@ decode-groups s at {v} {n} hb e =
     subst (λ (w : ℕ). InGroups v (take w (drop at s))) (sym (f .passed .is-count))
     (subst (λ (x : ℕ). InGroups x (take (count (f .gs)) (drop at s))) (sym (f .passed .is-value)) g)
 
-pub fewest-exactly : (s : List ℕ) (at : ℕ) {v n : ℕ} {p : Bool} → decode s at ≡ Read v n p → (p ≡ true) ↔ (n ≡ length (encode v))
+-- The answer says whether they are as many as are written.
+fewest-as-written : (s : List ℕ) (at : ℕ) {v n : ℕ} {p : Bool} → decode s at ≡ Read v n p → (p ≡ true) ↔ (n ≡ length (encode v))
 unfolding decode encode
-fewest-exactly s at {v} {n} {p} e =
+fewest-as-written s at {v} {n} {p} e =
     let f = found (drop at s) e in
     let small = front-small (drop at s) (f .gs) (f .at-front) in
     let ten = f .passed .ten in
     let same : length (encode-in 10 (value (f .gs))) ≡ length (encode-in 10 v) = ap (λ (x : ℕ). length (encode-in 10 x)) (sym (f .passed .is-value)) in
     let many = f .passed .is-count in
     let flag = f .passed .is-fewest in (
-      λ t. many ∙ fewest-width 10 (f .gs) small ten (fewest-alone (count (f .gs)) (highest (f .gs)) (sym flag ∙ t)) ∙ same,
-      λ w. flag ∙ fewest-is (count (f .gs)) (highest (f .gs)) (width-fewest 10 (f .gs) small ten (sym many ∙ w ∙ sym same)),
+      λ t. many ∙ fewest-as-many 10 (f .gs) small ten (fewest-alone (count (f .gs)) (highest (f .gs)) (sym flag ∙ t)) ∙ same,
+      λ w. flag ∙ fewest-is (count (f .gs)) (highest (f .gs)) (as-many-fewest 10 (f .gs) small ten (sym many ∙ w ∙ sym same)),
+    )
+
+-- So it says whether the bytes read were the fewest: no groups of that number are fewer.
+pub fewest-exactly : (s : List ℕ) (at : ℕ) {v n : ℕ} {p : Bool} → ((i : ℕ) → getD s i 0 < 256) → decode s at ≡ Read v n p
+    → (p ≡ true) ↔ ((bytes : List ℕ) → InGroups v bytes → n ≤ length bytes)
+fewest-exactly s at {v} {n} {p} hb e =
+    let same = fewest-as-written s at e in
+    let w = decode-within s at e in
+    let l = length-part s at n (w .inside) in (
+      λ t bytes g. omega (arith, same .0 t, encode-fewest g),
+      λ f. same .1 (omega (arith, f (encode v) (encode-groups v (w .below)), encode-fewest (decode-groups s at hb e))),
     )
 
 -- Whatever stands in at most ten groups and is below 2^64 is read, at any place of any bytes.
@@ -128,7 +140,7 @@ unfolding decode number-from
 groups-decode s at k {n} g inside ten below =
     let rest = drop k (drop at s) in
     let f = groups-in-front g rest in
-    let l : length (take k (drop at s)) ≡ k = length-take-le k (drop at s) (omega (arith, length-drop at s)) in
+    let l = length-part s at k inside in
     let there = ap front (sym (take-append-drop k (drop at s))) ∙ f .at-front in
     let many : count (f .gs) ≡ k = f .is-count ∙ l in
     let p = fewest (count (f .gs)) (highest (f .gs)) in (
@@ -170,14 +182,13 @@ module _ (s : List ℕ) (at : ℕ) {v n : ℕ} {p : Bool} (e : decode-fewest s a
   fewest-within = decode-within s at decode-unpadded
 
   -- It takes as many bytes as writing it would, and they are the bytes of its value: a padded number is never read there.
-  pub fewest-width-is : n ≡ length (encode v)
-  fewest-width-is = fewest-exactly s at decode-unpadded .0 refl
+  pub fewest-width : n ≡ length (encode v)
+  fewest-width = fewest-as-written s at decode-unpadded .0 refl
 
   pub fewest-bytes : ((i : ℕ) → getD s i 0 < 256) → take n (drop at s) ≡ encode v
   fewest-bytes hb =
       let w = fewest-within in
-      let l : length (take n (drop at s)) ≡ n = length-take-le n (drop at s) (omega (arith, length-drop at s, w .inside)) in
-      groups-once (decode-groups s at hb decode-unpadded) (encode-groups v (w .below)) (l ∙ fewest-width-is)
+      groups-once (decode-groups s at hb decode-unpadded) (encode-groups v (w .below)) (length-part s at n (w .inside) ∙ fewest-width)
 
 -- Where the bytes of a number stand, that number is read.
 pub decode-there : (s : List ℕ) (at n : ℕ) → n < 2 ^ 64 → take (length (encode n)) (drop at s) ≡ encode n
@@ -186,7 +197,7 @@ decode-there s at n h e =
     let w = encode-ten n in
     let i : at + length (encode n) ≤ length s = omega (arith, ap length e, length-take (length (encode n)) (drop at s), length-drop at s, encode-there n) in
     let r = groups-decode s at (length (encode n)) (subst (InGroups n) (sym e) (encode-groups n h)) i w h in
-    r .1 ∙ ap (λ (p : Bool). Read n (length (encode n)) p) (fewest-exactly s at (r .1) .1 refl)
+    r .1 ∙ ap (λ (p : Bool). Read n (length (encode n)) p) (fewest-as-written s at (r .1) .1 refl)
 
 pub fewest-there : (s : List ℕ) (at n : ℕ) → n < 2 ^ 64 → take (length (encode n)) (drop at s) ≡ encode n
     → decode-fewest s at ≡ Read n (length (encode n)) true
@@ -195,13 +206,25 @@ fewest-there s at n h e = rw (decode-there s at n h e)
 
 -- ---- no two numbers share their bytes
 
--- No number's bytes are the beginning of another's.
+-- No number's groups are the beginning of another's, or of the same number's in another count.
+pub groups-prefix : {m n : ℕ} {x y : List ℕ} (a b : List ℕ) → InGroups m x → InGroups n y → x ++ a ≡ y ++ b → (m ≡ n) × (x ≡ y)
+groups-prefix {m} {n} {x} {y} a b g h e =
+    let f = groups-in-front g a in
+    let k = groups-in-front h b in
+    let same : whole (f .gs) ≡ whole (k .gs) = sym (f .at-front) ∙ ap front e ∙ k .at-front in
+    let groups : f .gs ≡ k .gs = cc in
+    let number : m ≡ n = sym (f .is-value) ∙ ap value groups ∙ k .is-value in
+    (number, groups-same g h number (sym (f .is-count) ∙ ap count groups ∙ k .is-count))
+
 pub encode-prefix : (m n : ℕ) (a b : List ℕ) → m < 2 ^ 64 → n < 2 ^ 64 → encode m ++ a ≡ encode n ++ b → m ≡ n
-encode-prefix m n a b hm hn e =
-    let p : decode (encode m ++ a) 0 ≡ Read m (length (encode m)) true = decode-there (encode m ++ a) 0 m hm (take-append-seam (encode m) a) in
-    let q : decode (encode n ++ b) 0 ≡ Read n (length (encode n)) true = decode-there (encode n ++ b) 0 n hn (take-append-seam (encode n) b) in
-    let r : decode (encode m ++ a) 0 ≡ decode (encode n ++ b) 0 = ap (λ (l : List ℕ). decode l 0) e in
-    cc
+encode-prefix m n a b hm hn e = groups-prefix a b (encode-groups m hm) (encode-groups n hn) e .0
+
+-- Padded groups of a number do not begin with the bytes of any number.
+pub padded-apart : {n : ℕ} {x : List ℕ} → InGroups n x → length (encode n) < length x → (m : ℕ) (a b : List ℕ) → m < 2 ^ 64
+    → x ++ a ≡ encode m ++ b → ⊥
+padded-apart {n} {x} g l m a b h e =
+    let same = groups-prefix a b g (encode-groups m h) e in
+    omega (arith, ap length (same .1), ap (λ (k : ℕ). length (encode k)) (same .0))
 
 pub encode-injective : (m n : ℕ) → m < 2 ^ 64 → n < 2 ^ 64 → encode m ≡ encode n → m ≡ n
 encode-injective m n hm hn e = encode-prefix m n [] [] hm hn (ap (λ (l : List ℕ). l ++ []) e)

@@ -1,6 +1,6 @@
 -- What a number is, as bytes, and what writing one leaves. Definitions only: the laws are in `Laws` and `Splice`.
 -- The page: "A number is written in groups of seven bits, lowest group first, one byte a group, with bit 7 set when another
--- group follows. It uses the fewest bytes and lies below 2^64 (ten groups at most)." From request [3] on, sheets ask for no fewest bytes.
+-- group follows. It uses the fewest bytes and lies below 2^64 (ten groups at most)." From request [3] on it need not use the fewest in a sheet.
 use Prim.Native.Nat.{ℕ, zero, suc, _+_, _*_, _^_, _/_, _%_, _<_}
 use mathlib.Core.List.{List, [], _∷_, _++_}
 use mathlib.Core.Bool.{Bool, cond, _||_}
@@ -15,7 +15,7 @@ pub data InGroups : ℕ → List ℕ → Type 0 where
   last-group : {g : ℕ} → g < 128 → InGroups g (g ∷ [])
   then-groups : {g n : ℕ} {bytes : List ℕ} → g < 128 → InGroups n bytes → InGroups (g + 128 * n) ((128 + g) ∷ bytes)
 
--- The same as a reader finds them: a last group, or a group that others follow.
+-- The groups that a reader finds: a last group, or a group that others follow.
 pub data Groups : Type 0 where
   last : ℕ → Groups
   more : ℕ → Groups → Groups
@@ -70,7 +70,7 @@ decode bytes at = number-from (front (drop at bytes))
 
 -- The same where a number "uses the fewest bytes", as in an image: a padded number is none.
 unfoldable pub unpadded : Number → Number
-unpadded (Read n groups fewest) = cond fewest (Read n groups fewest) Refused
+unpadded (Read n groups are-fewest) = cond are-fewest (Read n groups are-fewest) Refused
 unpadded Refused = Refused
 
 unfoldable pub decode-fewest : List ℕ → ℕ → Number

@@ -66,7 +66,7 @@ pub fn read_number(bytes: &[u8], at: usize) -> Number
     }
 }
 
-// How many bytes a number takes.
+// The fewest bytes of a number, which writing takes.
 pub fn number_width(n: u64) -> usize
     ensures { λ r. ⌜ r ≡ length (encode n) ⌝ }
 {

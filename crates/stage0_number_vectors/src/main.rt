@@ -1,5 +1,6 @@
 // Reads the file `numbers`, a vector a line as hexadecimal bytes, and prints what the reader makes of each: value, bytes used and whether
-// they are the same as are written or padded; or `refused`. Nothing is promised here: what reading and writing do is in the contracts of `stage0_number`.
+// they are the same as are written or padded; or `refused`. Nothing is promised here: what reading and writing do is in the contracts of
+// `stage0_number`.
 use libc::STDOUT_FILENO;
 ghost use Prim.Native.Nat.{_+_, _≤_, _<_};
 ghost use lib.ListN.{length};
@@ -98,7 +99,8 @@ fn comes_back(bytes: &[u8], value: u64, used: usize) -> bool
     check::same(&image[start..], &bytes[..used])
 }
 
-// Prints whether the bytes are the same as are written, or padded; `different` where what the reader said and what was written disagree.
+// Prints whether the bytes are the same as are written, or padded; `different` where what the reader said and what was written
+// disagree.
 fn report_fewest(fewest: bool, back: bool) {
     if fewest {
         if back {

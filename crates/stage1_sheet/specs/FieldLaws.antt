@@ -1,4 +1,4 @@
--- The laws of fields: the ways through one, several in a row, and where numbers in their one encoding stand, as an image has them.
+-- The laws of fields: the ways through one, several in a row, and where numbers in their fewest bytes stand, as an image has them.
 -- Where the numbers of a sheet stand is said in NumberLaws.
 use mathlib.Core.Path.{_≡_, refl, sym, ap, ap₂, subst, _∙_}
 use mathlib.Core.Bool.{Bool, true, false, cond, _&&_}
@@ -11,7 +11,7 @@ use lib.ListN.{length, take, drop, length-append, take-append-drop}
 use lib.Seq.{drop-length, drop-append-seam, take-append-seam, drop-drop}
 use Rattle.stage0_laws.specs.Truth.{holds-true, true-holds, and-both, and-first, and-second, and-true-first, and-true-second}
 use Rattle.stage0_number.specs.Number.{encode, decode-fewest}
-use Rattle.stage0_number.specs.Laws.{fewest-within, fewest-there, fewest-bytes, fewest-width-is}
+use Rattle.stage0_number.specs.Laws.{fewest-within, fewest-there, fewest-bytes, fewest-width}
 use Rattle.stage0_number.specs.declared.Number.{Number}
 use Rattle.stage0_number.specs.declared.Number.the-variants.{Read, Refused}
 use Rattle.stage1_sheet.specs.Spelling.{spell}
@@ -34,7 +34,7 @@ tested-bytes (b ∷ l) t (suc i) = tested-bytes l (and-second (ltb b 256) (all-b
 abbrev pub after : ℕ → List ℕ → ℕ
 after at ns = at + length (spell ns)
 
--- From a place to an end, the bytes are those of the numbers.
+-- From a place to an end, the bytes are those of the numbers, the fewest of each.
 pub record Stands (bytes : List ℕ) (at : ℕ) (ns : List ℕ) (end : ℕ) : Type 0 where
   pub there : drop at bytes ≡ spell ns ++ drop end bytes
   pub until : end ≡ after at ns
@@ -165,7 +165,7 @@ module _ (unreadable forbidden : ℕ) (allowed : ℕ → Bool) (bytes : List ℕ
   unfolding spell
   number-stands b v used fewest e =
       let w = fewest-within bytes at e in
-      let same : used ≡ length (encode v) = fewest-width-is bytes at e in
+      let same : used ≡ length (encode v) = fewest-width bytes at e in
       let none : encode v ++ [] ≡ encode v = append-nil (encode v) in record {
         there = sym (take-append-drop used (drop at bytes)) ∙ ap₂ _++_ (fewest-bytes bytes at e b ∙ sym none) (drop-drop used at bytes);
         until = omega (arith, ap length none);

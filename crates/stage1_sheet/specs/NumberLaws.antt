@@ -1,32 +1,41 @@
 -- Numbers among bytes: reading finds a number exactly where its bytes stand, so that a place has one number at most; and several
 -- one after the other. Only the laws of one number know which bytes are written for it.
-use mathlib.Core.Path.{_≡_, refl, sym, ap, subst, _∙_}
+use mathlib.Core.Path.{_≡_, refl, sym, ap₂, subst, _∙_}
 use mathlib.Core.Bool.{Bool}
 use mathlib.Core.List.{List, [], _∷_, _++_}
 use mathlib.Core.Logic.{_↔_}
 use Prim.Native.Nat.{ℕ, _+_, _-_, _^_, _≤_, _<_}
 use native.Mathlib.Omega.{arith}
-use lib.ListN.{length, take, drop, length-drop}
-use lib.Seq.{length-take-le}
+use lib.ListN.{length, take, drop, length-take}
 use Rattle.stage0_number.specs.Number.{encode, decode}
-use Rattle.stage0_number.specs.Groups.{groups-some}
-use Rattle.stage0_number.specs.Laws.{encode-fewest, groups-once, any-width, decode-within, decode-groups, groups-decode}
+use Rattle.stage0_number.specs.Laws.{encode-there, encode-ten, encode-groups, encode-fewest, groups-once, any-width}
+use Rattle.stage0_number.specs.Laws.{length-part, decode-within, decode-groups, groups-decode}
 use Rattle.stage0_number.specs.declared.Number.the-variants.{Read}
 use Rattle.stage1_sheet.specs.Spelling.{Bytes, NumberBytes, NumberAt, NumbersAt, no-more, one-more}
 
 -- ---- one number
 
+-- In its fewest bytes a number is written.
+pub encode-written : (n : ℕ) → n < 2 ^ 64 → NumberBytes n (encode n)
+encode-written n below = record { groups = encode-groups n below; ten = encode-ten n; below = below }
+
+-- Where it stands, it has at least as many.
+pub number-fewest : {bytes : List ℕ} {at n next : ℕ} → NumberAt bytes at n next → at + length (encode n) ≤ next
+number-fewest {bytes} {at} {n} {next} h =
+    let fewest = encode-fewest (h .written .groups) in
+    let some = encode-there n in
+    omega (arith, length-take (next - at) (drop at bytes))
+
 -- A number that stands somewhere is read there, in fewest bytes or not, and takes at least one byte.
 pub number-read : {bytes : List ℕ} {at n next : ℕ} → NumberAt bytes at n next
     → (fewest : Bool) × (decode bytes at ≡ Read n (next - at) fewest) × (at < next)
 number-read {bytes} {at} {n} {next} h =
-    let i = h .inside in
     let w = h .written in
-    let whole : length (take (next - at) (drop at bytes)) ≡ next - at =
-    length-take-le (next - at) (drop at bytes) (omega (arith, length-drop at bytes)) in
-    let some : 1 ≤ next - at = omega (arith, groups-some (w .groups)) in
-    let r = groups-decode bytes at (next - at) (w .groups) (omega arith) (omega (arith, w .ten)) (w .below) in
-    (r .0, r .1, omega arith)
+    let wide = number-fewest h in
+    let inside : at + (next - at) ≤ length bytes = omega (arith, h .inside, encode-there n) in
+    let whole = length-part bytes at (next - at) inside in
+    let r = groups-decode bytes at (next - at) (w .groups) inside (omega (arith, w .ten)) (w .below) in
+    (r .0, r .1, omega (arith, encode-there n))
 
 -- Whatever is read stands there.
 pub read-number : (bytes : List ℕ) (at : ℕ) {n used : ℕ} {fewest : Bool} → Bytes bytes → decode bytes at ≡ Read n used fewest
@@ -34,8 +43,7 @@ pub read-number : (bytes : List ℕ) (at : ℕ) {n used : ℕ} {fewest : Bool} �
 read-number bytes at {n} {used} b e =
     let w = decode-within bytes at e in
     let width : at + used - at ≡ used = omega arith in
-    let whole : length (take used (drop at bytes)) ≡ used =
-    length-take-le used (drop at bytes) (omega (arith, length-drop at bytes, w .inside)) in
+    let whole = length-part bytes at used (w .inside) in
     record {
       inside = w .inside;
       written = rw width (record { groups = decode-groups bytes at b e; ten = omega (arith, w .ten); below = w .below });
@@ -96,3 +104,16 @@ module _ {bytes : List ℕ} where
       let f = first-stands t in
       let same = number-once n (f .1) .1 in
       numbers-once rest (subst (λ (p : ℕ). NumbersAt bytes p ns y) (sym same) (f .2))
+
+  -- They lead forward, and those between two places are one list.
+  pub numbers-forward : {at end : ℕ} {ns : List ℕ} → NumbersAt bytes at ns end → at ≤ end
+  numbers-forward no-more = omega arith
+  numbers-forward (one-more n rest) = omega (arith, number-read n .2, numbers-forward rest)
+
+  pub numbers-between : {at end : ℕ} {ms ns : List ℕ} → NumbersAt bytes at ms end → NumbersAt bytes at ns end → ms ≡ ns
+  numbers-between no-more no-more = refl
+  numbers-between no-more (one-more n rest) = absurd (omega (arith, number-read n .2, numbers-forward rest))
+  numbers-between (one-more n rest) no-more = absurd (omega (arith, number-read n .2, numbers-forward rest))
+  numbers-between {end = end} (one-more {ns = ms} m rest) (one-more {ns = ns} n others) =
+      let same = number-once m n in
+      ap₂ (λ (i : ℕ) (l : List ℕ). i ∷ l) (same .0) (numbers-between rest (subst (λ (p : ℕ). NumbersAt bytes p ns end) (sym (same .1)) others))

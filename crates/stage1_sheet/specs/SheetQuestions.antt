@@ -94,8 +94,8 @@ pub data Reaches (bytes : List ℕ) (to : Due) (to-left : LimitsLeft) (place : �
   onward : {due : Due} {left : LimitsLeft} {at v next : ℕ} → NumberAt bytes at v next → AllowedValue due v → LimitsKept left due v
       → Reaches bytes to to-left place (due-after due v) (left-after left due v) next → Reaches bytes to to-left place due left at
 
--- The question that fails where this is due: 3, no number is there; 4, its value is not allowed; 5, a limit is not kept; 6, the sheet
--- does not end.
+-- The question that fails where this is due: 3, no number is there ("Is this number present, whole .. and below 2^64?"); 4, its value is
+-- not allowed; 5, a limit is not kept; 6, the sheet does not end.
 pub data QuestionFails (bytes : List ℕ) (due : Due) (left : LimitsLeft) (place : ℕ) : ℕ → Type 0 where
   no-number : (due ≡ nothing-due → ⊥) → ((v next : ℕ) → NumberAt bytes place v next → ⊥) → QuestionFails bytes due left place 3
   not-allowed : (v next : ℕ) → (due ≡ nothing-due → ⊥) → NumberAt bytes place v next → (AllowedValue due v → ⊥)

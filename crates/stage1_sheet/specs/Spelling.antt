@@ -1,6 +1,5 @@
 -- How a sheet is written: "A sheet is numbers only", one after the other, in the order of the page's list. Which bytes are written
 -- for a number is said once, by a relation, and so are the places of numbers among bytes. How bytes are read is not said here.
-use mathlib.Core.Path.{_≡_}
 use mathlib.Core.List.{List, [], _∷_, _++_}
 use Prim.Native.Nat.{ℕ, _-_, _^_, _≤_, _<_}
 use lib.ListN.{length, getD, take, drop}
@@ -30,7 +29,7 @@ pub data NumbersAt (bytes : List ℕ) : ℕ → List ℕ → ℕ → Type 0 wher
   no-more : {at : ℕ} → NumbersAt bytes at [] at
   one-more : {at n next end : ℕ} {ns : List ℕ} → NumberAt bytes at n next → NumbersAt bytes next ns end → NumbersAt bytes at (n ∷ ns) end
 
--- Numbers in their one encoding, one after the other, as an image has them.
+-- Numbers in their fewest bytes, one after the other, as an image has them.
 unfoldable pub spell : List ℕ → List ℕ
 spell [] = []
 spell (n ∷ ns) = encode n ++ spell ns

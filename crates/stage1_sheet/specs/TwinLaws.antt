@@ -6,18 +6,18 @@ use mathlib.Core.Logic.{⊎-elim}
 use Prim.Native.Nat.{ℕ, _+_, _-_, _^_, _≤_, _<_}
 use native.Mathlib.Omega.{arith}
 use lib.ListN.{length, take, drop, length-append, length-drop}
-use lib.Seq.{drop-drop, drop-length, take-append-seam, length-take-le}
+use lib.Seq.{drop-drop, drop-length, take-append-seam}
 use Rattle.stage0_laws.specs.Order.{lt-or-le}
 use Rattle.stage0_number.specs.Number.{encode}
-use Rattle.stage0_number.specs.Laws.{encode-ten, encode-groups, encode-fewest}
 use Rattle.stage1_sheet.specs.Limits.{most-sheet-bytes}
 use Rattle.stage1_sheet.specs.Sheet.{Sheet}
 use Rattle.stage1_sheet.specs.Spelling.{NumberBytes, NumberAt, NumbersAt, no-more, one-more, spell, sheet-numbers}
 use Rattle.stage1_sheet.specs.WellFormed.{Spells}
 use Rattle.stage1_sheet.specs.Twins.{SameNumbers, same-rest, same-number, Twins, SamePlace}
 use Rattle.stage1_sheet.specs.FieldLaws.{Stands, stands-first, stands-rest, stands-whole}
-use Rattle.stage1_sheet.specs.NumberLaws.{number-read, number-once, none-stand, first-stands, numbers-inside}
-use Rattle.stage1_sheet.specs.SheetQuestions.{Due, nothing-due, LimitsLeft, sheet-due, all-left, Reaches, arrived, onward}
+use Rattle.stage1_sheet.specs.NumberLaws.{encode-written, number-fewest, number-read, number-once}
+use Rattle.stage1_sheet.specs.NumberLaws.{none-stand, first-stands, numbers-inside, numbers-once, numbers-between}
+use Rattle.stage1_sheet.specs.SheetQuestions.{Due, LimitsLeft, Reaches, arrived, onward}
 use Rattle.stage1_sheet.specs.SheetQuestions.{QuestionFails, no-number, not-allowed, not-kept, left-over, SheetRefused}
 
 -- ---- one number
@@ -105,28 +105,23 @@ module _ {bytes : List ℕ} where
   fewest-stand {at = at} {end = end} no-more s = let e : end ≡ at = omega (arith, s .until) in rw e no-more
   fewest-stand {at = at} {end = end} (one-more {n = n} {ns = ns} h r) s =
       let first = stands-first bytes at (n ∷ []) ns end s in
-      one-more (number-stands n (h .written .below) first) (fewest-stand r (stands-rest bytes at (n ∷ []) ns end s))
+      one-more (fewest-at n (h .written .below) first) (fewest-stand r (stands-rest bytes at (n ∷ []) ns end s))
     where
-      number-stands : (n : ℕ) → n < 2 ^ 64 → {mid : ℕ} → Stands bytes at (n ∷ []) mid → NumberAt bytes at n mid
-      number-stands n below {mid} f =
+      fewest-at : (n : ℕ) → n < 2 ^ 64 → {mid : ℕ} → Stands bytes at (n ∷ []) mid → NumberAt bytes at n mid
+      fewest-at n below {mid} f =
           let none : encode n ++ [] ≡ encode n = append-nil (encode n) in
           let width : mid - at ≡ length (encode n) = omega (arith, f .until, ap length none) in
           let there : drop at bytes ≡ encode n ++ drop mid bytes = f .there ∙ ap (λ (l : List ℕ). l ++ drop mid bytes) none in
           let same : take (mid - at) (drop at bytes) ≡ encode n =
           ap (λ (k : ℕ). take k (drop at bytes)) width ∙ ap (take (length (encode n))) there ∙ take-append-seam (encode n) (drop mid bytes) in
-          record {
-            inside = f .inside;
-            written = rw same (record { groups = encode-groups n below; ten = encode-ten n; below = below });
-          }
+          record { inside = f .inside; written = rw same (encode-written n below) }
 
   -- They are no more than any other bytes of the same numbers.
   fewest-no-longer : {at end : ℕ} {ns : List ℕ} → NumbersAt bytes at ns end → at + length (spell ns) ≤ end
   unfolding spell
   fewest-no-longer no-more = omega arith
-  fewest-no-longer {at} {end} (one-more {n = n} {next = next} {ns = ns} h r) =
-      let l : length (take (next - at) (drop at bytes)) ≡ next - at =
-      length-take-le (next - at) (drop at bytes) (omega (arith, length-drop at bytes, h .inside)) in
-      omega (arith, number-read h .2, encode-fewest (h .written .groups), length-append (encode n) (spell ns), fewest-no-longer r)
+  fewest-no-longer (one-more {n = n} {ns = ns} h r) =
+      omega (arith, number-fewest h, length-append (encode n) (spell ns), fewest-no-longer r)
 
 -- A well-formed sheet has a twin in the fewest bytes, which spells the same sheet.
 pub fewest-twin : (bytes : List ℕ) (s : Sheet) → Spells bytes s
@@ -171,3 +166,7 @@ pub twin-refused : {a b : List ℕ} {question place : ℕ} → Twins a b → She
 twin-refused t r =
     let s = twin-reaches t (r .reached) in
     (s .0, record { due = r .due; left = r .left; reached = s .1; fails = twin-fails (s .2) (r .fails) }, s .3)
+
+-- A place of the one has one such place of the other.
+pub same-place-once : (a b : List ℕ) {p q r : ℕ} → SamePlace a b p q → SamePlace a b p r → q ≡ r
+same-place-once a b {q = q} {r = r} s t = numbers-once (s .2) (subst (λ (ns : List ℕ). NumbersAt b 0 ns r) (numbers-between (t .1) (s .1)) (t .2))

@@ -10,8 +10,8 @@ use lib.Dec.{eqb, ltb, leb}
 use lib.ListN.{length, getD, take, drop, length-append, length-drop, take-append-drop}
 use lib.Seq.{drop-length, drop-drop, drop-append-seam, take-append-seam, drop-cons}
 use borrow.Author.Tests.{eqb-true, eqb-false, eq-eqb}
-use Rattle.stage0_number.specs.Number.{encode, decode-fewest}
-use Rattle.stage0_number.specs.Laws.{fewest-within, fewest-there, fewest-bytes, fewest-width-is, encode-prefix}
+use Rattle.stage0_number.specs.Number.{InGroups, encode, decode-fewest}
+use Rattle.stage0_number.specs.Laws.{fewest-within, fewest-there, fewest-bytes, fewest-width, encode-prefix, padded-apart}
 use Rattle.stage0_number.specs.declared.Number.{Number}
 use Rattle.stage0_number.specs.declared.Number.the-variants.{Read, Refused}
 use Rattle.stage1_sheet.specs.Limits.{most-rules, most-byte}
@@ -248,7 +248,7 @@ module _ (bytes : List ℕ) where
             spelled = goes-past ∙ ap (λ (l : List ℕ). encode v ++ l) (s .spelled) ∙ sym (append-assoc (encode v) (spell (s .numbers)) (s .rest));
             allowed = one-filled (fewest-within bytes at e .below) h (s .allowed);
             offends = s .offends;
-            place-is = (let p = s .place-is in omega (arith, length-append (encode v) (spell (s .numbers)), fewest-width-is bytes at e));
+            place-is = (let p = s .place-is in omega (arith, length-append (encode v) (spell (s .numbers)), fewest-width bytes at e));
           })
       longer (accepted u end f) =
           accepted u end (record {
@@ -340,3 +340,17 @@ readable-written bytes i r = readable-ranges bytes (subst Bytes (sym (r .1)) (sp
 -- An image in range is readable from its bytes.
 pub image-readable : (i : Image) → InRange i → ReadableAs (image-bytes i) i
 image-readable i g = readable-ranges (image-bytes i) (image-are-bytes i) i .1 (g, refl)
+
+-- "still 13 in an image": where the numbers before it are allowed, a padded number offends, at its first byte, whatever its value.
+pub padded-offends : {ns : List ℕ} {allowed : ℕ → Bool} {next : ℕ → Fields Image} → Fills image-fields ns (field allowed next)
+    → {n : ℕ} {padded : List ℕ} → InGroups n padded → length (encode n) < length padded → (more : List ℕ)
+    → FirstOffence (spell ns ++ (padded ++ more)) (length (spell ns))
+padded-offends {ns} {allowed} {next} f {n} {padded} g l more = record {
+  numbers = ns;
+  rest = padded ++ more;
+  left = field allowed next;
+  spelled = refl;
+  allowed = f;
+  offends = none-allowed (λ m rest s e a. padded-apart g l m more rest s e);
+  place-is = refl;
+}

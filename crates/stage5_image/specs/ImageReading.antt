@@ -14,7 +14,7 @@ use Rattle.stage4_lexer.specs.Positions.{Position}
 use Rattle.stage5_image.specs.Image.{Image}
 use Rattle.stage5_image.specs.ImageFields.{most-positions, most-nonterminals, most-productions}
 
--- A number of an image, in the fewest bytes: 13 where it is not readable, padded or not allowed.
+-- A number of an image, in the fewest bytes: 13 where it is not readable, padded (FieldsLaws: `padded-offends`) or not allowed.
 unfoldable pub image-field : (ℕ → Bool) → List ℕ → ℕ → Reading ℕ
 image-field = read-field decode-fewest 13 13
 

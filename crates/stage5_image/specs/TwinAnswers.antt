@@ -15,7 +15,8 @@ use Rattle.stage5_image.specs.Checks.{Checks, short-work, long-sheet, no
 use Rattle.stage5_image.specs.CheckQuestions.{check-answers, checks-only, passable-passes, passed-passable}
 use Rattle.stage5_image.specs.Write.{after-checking, write}
 
-module _ (a b : List ℕ) (twins : Twins a b) (short : length a ≤ most-sheet-bytes) (other-short : length b ≤ most-sheet-bytes) where
+module _ (a b : List ℕ) (bytes : Bytes a) (other-bytes : Bytes b) (twins : Twins a b) (short : length a ≤ most-sheet-bytes)
+    (other-short : length b ≤ most-sheet-bytes) where
   -- The place of a number of the one, in the other.
   moved-place : {ns : List ℕ} {place : ℕ} → NumbersAt a 0 ns place → (other : ℕ) × NumbersAt b 0 ns other × SamePlace a b place other
   moved-place {ns} s = let r = twin-numbers twins s in (r .0, r .1, (ns, s, r .1))
@@ -45,7 +46,7 @@ module _ (a b : List ℕ) (twins : Twins a b) (short : length a ≤ most-sheet-b
       let r = moved-place n in fails-as e (r .0, untyped s node q (r .0) w (twin-spells twins other-short h) m x (r .1), r .2)
   other-fails (passes s w p) e = let z : _≡_ {A = ℕ} 0 1 = cc in absurd (omega arith)
 
-  module _ (bytes : Bytes a) (other-bytes : Bytes b) (work : ℕ) where
+  module _ (work : ℕ) where
     -- The same question, at the place of the same number.
     pub twins-refused : (question place : ℕ) → check a work ≡ failed question place
         → (other : ℕ) × (check b work ≡ failed question other) × SamePlace a b place other
@@ -54,7 +55,7 @@ module _ (a b : List ℕ) (twins : Twins a b) (short : length a ≤ most-sheet-b
         (r .0, checks-only other-bytes (r .1), r .2)
 
     -- The same sheet passes.
-    pub twins-passed : (s : Sheet) → check a work ≡ passed s → check b work ≡ passed s
+    twins-passed : (s : Sheet) → check a work ≡ passed s → check b work ≡ passed s
     twins-passed s e =
         let p = passed-passable a bytes work s e in
         passable-passes b work (p .0) s (record {
@@ -63,7 +64,7 @@ module _ (a b : List ℕ) (twins : Twins a b) (short : length a ≤ most-sheet-b
           has-type = p .1 .has-type;
         })
 
-    -- So writing ends the same, whatever the image buffer.
-    pub twins-written : (s : Sheet) → check a work ≡ passed s → (room : ℕ) → write b work room ≡ write a work room
+    -- And writing ends the same, whatever the image buffer.
+    pub twins-written : (s : Sheet) → check a work ≡ passed s → (check b work ≡ passed s) × ((room : ℕ) → write b work room ≡ write a work room)
     unfolding write
-    twins-written s e room = ap (after-checking room) (twins-passed s e ∙ sym e)
+    twins-written s e = let p = twins-passed s e in (p, (λ room. ap (after-checking room) (p ∙ sym e)))

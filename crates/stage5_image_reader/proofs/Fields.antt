@@ -12,7 +12,7 @@ use Rattle.stage0_laws.specs.Truth.{and-true-first, and-true-second}
 use Rattle.stage0_laws.specs.Order.{lt-or-le}
 use mathlib.Core.Logic.{⊎-elim}
 use Rattle.stage0_number.specs.Number.{decode-fewest, encode, encode-in}
-use Rattle.stage0_number.specs.Laws.{fewest-within, fewest-bytes, fewest-width-is}
+use Rattle.stage0_number.specs.Laws.{fewest-within, fewest-bytes, fewest-width}
 use Rattle.stage0_number.specs.declared.Number.{Number}
 use Rattle.stage0_number.specs.declared.Number.the-variants as number
 use Rattle.stage1_sheet.specs.Field.{Reading, stop, got, between, field-of, read-field}
@@ -148,7 +148,7 @@ pub field-one-byte : (p : ℕ → Bool) (bytes : List ℕ) (at : ℕ) {v next : 
 field-one-byte p bytes at {v} {next} hb e h =
     let g = field-got p bytes at e in
     let w = fewest-within bytes at (g .number) in
-    let u : g .used ≡ 1 = fewest-width-is bytes at (g .number) ∙ ap length (encode-small v h) in
+    let u : g .used ≡ 1 = fewest-width bytes at (g .number) ∙ ap length (encode-small v h) in
     let t : take (g .used) (drop at bytes) ≡ v ∷ [] = fewest-bytes bytes at (g .number) hb ∙ encode-small v h in
     let s : take 1 (drop at bytes) ≡ v ∷ [] = sym (ap (λ (n : ℕ). take n (drop at bytes)) u) ∙ t in
     let l : at < length bytes = omega (arith, w .inside) in

@@ -12,6 +12,7 @@ use Rattle.stage5_image.specs.Write.{Written, refused, written, write, written-
 use Rattle.stage6_machine.specs.Answer.{Answer, answer}
 use Rattle.stage6_machine.specs.Run.{run, long-enough}
 use Rattle.stage6_machine.specs.OwnAnswer.{OwnAnswer}
+use Rattle.stage6_machine.specs.Runs.{Runs}
 use Rattle.stage7_cases.specs.ImageD.{rules-of-image-D, image-D}
 
 pub data Case : Type 0 where
@@ -36,13 +37,14 @@ written-sheet sheet = write sheet work-bytes 65536
 unfoldable pub run-of-sheet : List ℕ → List ℕ → Answer
 run-of-sheet sheet text = run (written-part (written-sheet sheet)) text (long-enough text)
 
--- A reading holds as what the machine answers and as the own answer of the sheet that the bytes spell.
+-- A reading holds as what the machine answers and as the own answer of the sheet that the bytes spell; a run as what is answered and as
+-- what the page's questions fix.
 abbrev pub Holds : Case → Type 0
 Holds (writes sheet c) = written-sheet sheet ≡ c
 Holds (writes-with work room sheet c) = write sheet work room ≡ c
 Holds (checks sheet work a) = check-answer (check sheet work) ≡ a
 Holds (reads sheet text a) = (run-of-sheet sheet text ≡ a) × (s : Sheet) × Spells sheet s × OwnAnswer s text a
-Holds (runs image text a) = run image text (long-enough text) ≡ a
+Holds (runs image text a) = (run image text (long-enough text) ≡ a) × Runs image text (long-enough text) a
 Holds (denotes-nothing sheet) = (s : Sheet) × Spells sheet s × ((tokens : List ℕ) → Denotes (s .expression) tokens → ⊥)
 
 -- μα.N·α, with D's rules

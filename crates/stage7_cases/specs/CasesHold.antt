@@ -27,9 +27,10 @@ use Rattle.stage5_image.specs.Writes.{Acceptable}
 use Rattle.stage6_machine.specs.Answer.{Answer, answer}
 use Rattle.stage6_machine.specs.Run.{most-text-bytes, run, long-enough}
 use Rattle.stage6_machine.specs.OwnAnswer.{OwnAnswer}
+use Rattle.stage6_machine.specs.Runs.{Runs}
 use Rattle.stage6_machine.specs.Computing.{computing-machine}
-use Rattle.stage7_demands.specs.Demands.{Demand2, Demand3}
-use Rattle.stage7_demands.specs.Proofs.{demand-2, demand-3}
+use Rattle.stage7_demands.specs.Demands.{Demand1, Demand2, Demand3}
+use Rattle.stage7_demands.specs.Proofs.{demand-1, demand-2, demand-3}
 use Rattle.stage7_cases.specs.ImageD.{image-D, D-written}
 use Rattle.stage7_cases.specs.Cases.{Case, writes, writes-with, checks, reads, runs, denotes-nothing, written-sheet, run-of-sheet, Holds, endless, cases}
 use Rattle.stage7_cases.specs.RepetitionCases.{image-of-counts, image-of-numbers, repetition-cases}
@@ -44,7 +45,7 @@ Computes (checks sheet work a) = check-answer (check sheet work) ≡ a
 Computes (reads sheet text a) =
     (image : List ℕ) × (written-sheet sheet ≡ written image) × (run image text (long-enough text) ≡ a)
     × T (all-bytes sheet) × T (leb (length text) most-text-bytes)
-Computes (runs image text a) = run image text (long-enough text) ≡ a
+Computes (runs image text a) = (run image text (long-enough text) ≡ a) × T (all-bytes image)
 Computes (denotes-nothing sheet) =
     (c : Contents) × (read-sheet sheet ≡ got c (length sheet)) × T (all-bytes sheet) × T (leb (length sheet) most-sheet-bytes)
     × ((tokens : List ℕ) → Denotes ((c .sheet) .expression) tokens → ⊥)
@@ -66,7 +67,8 @@ holds (reads sheet text a) h =
           (demand-3 .own-answer sheet bytes work-bytes 65536 (h .0) (h .1) (s .0) spells text (long-enough text)
           (leb→le (length text) most-text-bytes (h .4)) (omega arith)),
     )
-holds (runs image text a) h = h
+holds (runs image text a) h =
+    (h .0, subst (Runs image text (long-enough text)) (h .0) (demand-1 .running image text (tested-bytes image (h .1)) (long-enough text)))
 holds (denotes-nothing sheet) h =
     let read = read-accepted sheet (tested-bytes sheet (h .2)) (leb→le (length sheet) most-sheet-bytes (h .3)) (h .1) in
     (h .0 .sheet, read .spells, h .4)
@@ -140,8 +142,8 @@ padding-computed : All Computes padding-cases
 unfolding padding-cases written-sheet computing-machine
 padding-computed =
     refl
-    & refl
-    & refl
+    & (refl, tt)
+    & (refl, tt)
     & refl
     & (image-D, refl, refl, tt, tt)
     & refl

@@ -1,5 +1,5 @@
 -- The worked cases that are proved from the definitions: sheet D's image (`ImageD`), document 01's cases (`Cases`), those of repetition
--- (`RepetitionCases`), those of checking and writing (`CheckCases`), those of padded numbers (`PaddingCases`), and that every row holds (`CasesHold`).
+-- (`RepetitionCases`), of checking and writing (`CheckCases`) and of padded numbers (`PaddingCases`), and that every row holds (`CasesHold`).
 pub mod ImageD
 pub mod Cases
 pub mod RepetitionCases

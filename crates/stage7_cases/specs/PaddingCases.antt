@@ -17,8 +17,8 @@ in-ten [] = []
 in-ten (n ∷ ns) = (128 + n) ∷ (replicate 8 128 ++ 0 ∷ in-ten ns)
 
 -- Sheet D with other bytes for its last number, which is 0.
-abbrev pub with-last : List ℕ → List ℕ
-with-last bytes = take 33 bytes-of-D ++ bytes
+abbrev D-ending-with : List ℕ → List ℕ
+D-ending-with bytes = take 33 bytes-of-D ++ bytes
 
 -- Sheet D's image with other bytes for its third number, which is 0.
 abbrev image-with-third : List ℕ → List ℕ
@@ -27,7 +27,7 @@ image-with-third bytes = take 2 image-D ++ (bytes ++ drop 3 image-D)
 unfoldable pub padding-cases : List Case
 padding-cases =
     -- "Hexadecimal 80 00 is then zero in a sheet, still 13 in an image"; the image is D's where its third number is written in one byte
-    writes (with-last (128 ∷ 0 ∷ [])) (written image-D)
+    writes (D-ending-with (128 ∷ 0 ∷ [])) (written image-D)
     ∷ runs (image-with-third (128 ∷ 0 ∷ [])) [] (answer 13 2 0)
     ∷ runs (image-with-third (0 ∷ [])) [] (answer 16 0 0)
     -- every number in ten bytes: the same image, the same reading of `12 /7`, the same length needed
@@ -41,11 +41,11 @@ padding-cases =
     ∷ writes (in-ten (with-expression (3 ∷ []))) (refused 3 210)
     ∷ writes (in-ten (bytes-of-D ++ 0 ∷ [])) (refused 6 340)
     -- ten groups with a tenth byte of 1 are 2^63, of 2 no number; eleven groups are none, the high ones all empty
-    ∷ writes (with-last (replicate 9 128 ++ 1 ∷ [])) (refused 4 33)
-    ∷ writes (with-last (replicate 9 128 ++ 2 ∷ [])) (refused 3 33)
-    ∷ writes (with-last (replicate 10 128 ++ 0 ∷ [])) (refused 3 33)
-    -- 4,096 bytes: 409 numbers of ten bytes are within, 410 and 515 are not
-    ∷ checks (in-ten (replicate 409 1)) work-bytes (record { number = 6; place = 80 })
-    ∷ checks (in-ten (replicate 410 1)) work-bytes (record { number = 2; place = 0 })
+    ∷ writes (D-ending-with (replicate 9 128 ++ 1 ∷ [])) (refused 4 33)
+    ∷ writes (D-ending-with (replicate 9 128 ++ 2 ∷ [])) (refused 3 33)
+    ∷ writes (D-ending-with (replicate 10 128 ++ 0 ∷ [])) (refused 3 33)
+    -- the limit of 4,096 bytes: 409 numbers of ten bytes and one of six are within, with one of seven they are not; and 515 of ten bytes
+    ∷ checks (in-ten (replicate 409 1) ++ (129 ∷ (replicate 4 128 ++ 0 ∷ []))) work-bytes (record { number = 6; place = 80 })
+    ∷ checks (in-ten (replicate 409 1) ++ (129 ∷ (replicate 5 128 ++ 0 ∷ []))) work-bytes (record { number = 2; place = 0 })
     ∷ checks (in-ten (replicate 515 1)) work-bytes (record { number = 2; place = 0 })
     ∷ []

@@ -1,7 +1,7 @@
 -- What follows from the demands and is asked often: when a text is accepted, where it is refused, that a sheet which denotes nothing
 -- accepts no text, that a long enough stack never runs out, that 65,536 bytes are room for the image of every sheet that passes, and that a
--- sheet and its padded twin give the same image; and demands 2 and 3 with every repetition spelled out: typing and denotation are then the published ones alone, while the sheet's bytes and
--- its image stay those with tag 7.
+-- sheet and its padded twin give the same image; and demands 2 and 3 with every repetition spelled out: typing and denotation are then the
+-- published ones alone, while the sheet's bytes and its image stay those with tag 7.
 use mathlib.Core.Path.{_≡_, ap, subst, _∙_}
 use mathlib.Core.List.{List}
 use mathlib.Core.Logic.{_↔_}
@@ -91,8 +91,8 @@ module _ (f : Functions) (first : Demand1 f) (second : Demand2 f) (sheet : List 
       let short : length (w .1) ≤ room = omega (arith, few, ap length (readable-written (w .1) (image-of s) readable), enough) in
       (w .1, second .long-buffers sheet work (w .0) (w .1) (w .2) room .1 short)
 
--- "A sheet and its padded twin of at most 4,096 bytes give the same image": both are accepted or neither is, with every work area and every
--- image buffer, and the image is one. Of any functions that meet demand 2.
+-- `twins-pass` both ways: with every work area and every image buffer, a sheet and its padded twin are both accepted, with one image, or
+-- neither is. Of any functions that meet demand 2.
 module _ (f : Functions) (demand : Demand2 f) (work room : ℕ) (image : List ℕ) where
   twin-image : (a b : List ℕ) → Bytes a → Bytes b → Twins a b → length a ≤ most-sheet-bytes → length b ≤ most-sheet-bytes
       → f .write a work room ≡ written image → f .write b work room ≡ written image

@@ -108,7 +108,9 @@ pub record Demand2 (f : Functions) : Type 0 where
   pub twins-pass : (a b : List ℕ) → Bytes a → Bytes b → Twins a b → length a ≤ most-sheet-bytes → length b ≤ most-sheet-bytes
       → (work : ℕ) (s : Sheet) → f .check a work ≡ passed s
       → (f .check b work ≡ passed s) × ((room : ℕ) → f .write b work room ≡ f .write a work room)
-  -- If a question fails of the one, it fails of the other, at the place of the same number.
+  -- If a question from 1 to 10 but 2 fails of the one, it fails of the other, and the same numbers stand before the two places. They are
+  -- those of the same number; with 3 and 6, where no number need stand, those after the same numbers, and with 1 both are 0. Writing
+  -- refuses alike, by `checks-again`.
   pub twins-fail : (a b : List ℕ) → Bytes a → Bytes b → Twins a b → length a ≤ most-sheet-bytes → length b ≤ most-sheet-bytes
       → (work question place : ℕ) → f .check a work ≡ failed question place
       → (other : ℕ) × (f .check b work ≡ failed question other) × SamePlace a b place other

@@ -27,7 +27,7 @@ use Rattle.stage5_image.specs.CheckQuestions.{check-answers, checks-one, passab
 use Rattle.stage5_image.specs.Write.{Written, refused, too-long, written, write, write-answer, written-part, image-after}
 use Rattle.stage5_image.specs.Writes.{Acceptable}
 use Rattle.stage5_image.specs.WriteLaws.{written-passed, passes-exactly, written-from, refused-exactly}
-use Rattle.stage5_image.specs.TwinAnswers.{twins-refused, twins-passed, twins-written}
+use Rattle.stage5_image.specs.TwinAnswers.{twins-refused, twins-written}
 use Rattle.stage5_image.specs.WriteQuestions.{passable-readable, write-answers, writes-one, acceptable-written, written-acceptable}
 use Rattle.stage5_image.specs.BufferLaws.{checked-answers, written-answers, handed-back, image-buffer, work-short, work-cleared}
 use Rattle.stage6_machine.specs.Answer.{Answer}
@@ -134,9 +134,8 @@ demand-2 = record {
   some-buffer = passes-exactly;
   long-buffers = written-from;
   checks-again = refused-exactly;
-  twins-pass = λ a b bytes other-bytes twins short other-short work s e.
-      (twins-passed a b twins short other-short bytes other-bytes work s e, twins-written a b twins short other-short bytes other-bytes work s e);
-  twins-fail = λ a b bytes other-bytes twins short other-short work. twins-refused a b twins short other-short bytes other-bytes work;
+  twins-pass = twins-written;
+  twins-fail = twins-refused;
 }
 
 -- ---- demand 3

@@ -80,7 +80,7 @@ impl<'a> Reader<'a> {
     ///
     /// # Errors
     ///
-    /// The place where it should start, if it is missing, not whole or not below 2^64.
+    /// The place where it should start, if it is missing, not whole within ten bytes, or not below 2^64.
     pub fn read(&mut self) -> Result<Field, usize> {
         let place = self.place;
         let number = read(self.bytes, place).ok_or(place)?;

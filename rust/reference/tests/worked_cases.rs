@@ -274,7 +274,7 @@ fn the_longest_numbers() {
 
 /// The largest sheet that passes has 515 numbers; in ten bytes each it is too long.
 #[test]
-fn padding_is_held_by_the_sheets_limit() {
+fn padded_sheets_keep_the_limit() {
     // 32 rules of eight regex nodes and two classes: a·(((b ∨ ε) ∨ ε))*.
     let rule = [1, 2, 1, 97, 97, 4, 3, 3, 1, 98, 98, 0, 0];
     // A repetition of 32 tokens in a row.
