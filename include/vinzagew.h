@@ -1,7 +1,7 @@
 /*
  * Vinzagew: a proved grammar compiler, and the machine that reads by its images.
  *
- * The functions of the static library libvinzagew.a. Their contract is document 01 with requests 1 to 3
+ * The functions of the static library libvinzagew.a. Their contract is document 01 with requests 1 to 4
  * of document 02; the numbers and places below are the contract's.
  *
  * A sheet and an image are numbers in groups of seven bits, lowest group first, one byte a group, with
@@ -9,6 +9,10 @@
  * ten bytes. As long as the sheet has at most 4,096 bytes, padding changes neither the number that
  * answers it nor its image; a place counts the bytes of the sheet as it is. In an image every number has
  * the fewest bytes.
+ *
+ * At each place of a text the longest match over all rules wins. Of equally long ones that of a word rule
+ * wins over any other, and of two of a kind that of the lower rule in the sheet. A word rule has only
+ * empty words, sequences and classes with low = high in its regex, whether it skips or not.
  *
  * Every buffer is a pointer to its first byte (or number) and a length. All buffers must be valid for
  * their length, pointers must not be null (any address that is not null will do for a length of 0),
@@ -90,8 +94,9 @@ void sheet_check(const uint8_t *sheet, size_t sheet_len,
  * out[2]  length: the bytes written on success, the bytes needed after 11, otherwise 0
  *
  * On success the first out[2] bytes of `image` are the image, and the rest are as before; a refusal
- * leaves `image` as it was. `work` ends as after checking. Numbers of `out` past the third do not
- * change. If out_len is below 3, nothing happens and nothing changes.
+ * leaves `image` as it was. The image numbers the word rules first, then all others, each kind in the
+ * order of the sheet. `work` ends as after checking. Numbers of `out` past the third do not change. If
+ * out_len is below 3, nothing happens and nothing changes.
  */
 void sheet_write(const uint8_t *sheet, size_t sheet_len,
                  uint8_t *work, size_t work_len,
@@ -106,8 +111,10 @@ void sheet_write(const uint8_t *sheet, size_t sheet_len,
  *         number or leftover byte; of 14 to 17 a place in the text; of 12, 0
  * out[2]  count: the tokens taken
  *
- * `stack` ends all zero, except after 12 and 13, when it is as it was. Numbers of `out` past the third
- * do not change. If out_len is below 3, nothing happens and nothing changes.
+ * Of equally long matches that of the image's lowest rule wins: a word rule, if the image is one that
+ * sheet_write made and a word rule matches as far. `stack` ends all zero, except after 12 and 13, when it
+ * is as it was. Numbers of `out` past the third do not change. If out_len is below 3, nothing happens and
+ * nothing changes.
  */
 void image_run(const uint8_t *image, size_t image_len,
                const uint8_t *text, size_t text_len,

@@ -22,6 +22,19 @@
  *
  * prints `0 0 0` and `0 4 3`. A number of the sheet may be padded: with '\201\200\0' for a '\1' it
  * prints the same.
+ *
+ * A sheet for the word `if` and a name. The name pattern stands above the word and matches it too, and
+ * the word wins; a longer name wins over the word:
+ *
+ *   printf '\1\2\3' >sheet
+ *   printf '\1\2\1\141\172\4\1\141\172' >>sheet
+ *   printf '\2\2\1\151\151\1\146\146' >>sheet
+ *   printf '\0\1\40\40' >>sheet
+ *   printf '\3\2\1\2\0' >>sheet
+ *   printf 'if iffy' >text
+ *   ./read sheet text
+ *
+ * prints `0 7 2`.
  */
 #include <inttypes.h>
 #include <stdio.h>

@@ -3,7 +3,7 @@
 //! A *sheet* has lexer rules and one typed context-free expression. [`check`](check()) says whether a
 //! sheet passes, [`write`](write()) turns it into an [`Image`], and [`Image::run`] reads a text by
 //! it. All three call a static library whose code is proved to meet its contract, document 01 with
-//! requests 1 to 3 of document 02; this package links it and lends it the buffers that it needs. The
+//! requests 1 to 4 of document 02; this package links it and lends it the buffers that it needs. The
 //! places and numbers in this documentation are those of the contract.
 //!
 //! [`builder`] writes sheets as Rust code. A number of a sheet may be padded with empty high groups, and
@@ -198,6 +198,9 @@ pub fn run_with(image: &[u8], text: &[u8], stack: &mut [u8]) -> Result<usize, Re
 }
 
 /// A readable image.
+///
+/// Its rules may have other numbers than in the sheet: see
+/// [`Sheet::image_rules`](builder::Sheet::image_rules).
 #[derive(Clone, Debug, PartialEq, Eq)]
 pub struct Image {
     bytes: Vec<u8>,
@@ -230,12 +233,33 @@ impl Image {
 
     /// Runs the image over a text on a long enough stack, and gives how many tokens were taken.
     ///
-    /// For an image that writing made, this is the sheet's own answer. The stack is long enough for
-    /// every readable image: a tail has at most [`TAIL_LIMIT`] members, and replaces one.
+    /// For an image that writing made, this is the sheet's own answer. The longest match wins. Of two rules
+    /// that match equally far, a word rule wins over any other, so that a word which stands below a name
+    /// pattern is read as the word; of two of a kind the lower in the sheet wins.
+    ///
+    /// The stack is long enough for every readable image: a tail has at most [`TAIL_LIMIT`] members, and
+    /// replaces one.
     ///
     /// # Errors
     ///
     /// The first of questions 12 to 16 that is answered with no.
+    #[cfg_attr(vinzagew_library, doc = "```")]
+    #[cfg_attr(not(vinzagew_library), doc = "```no_run")]
+    /// use vinzagew::builder::{Regex, SheetBuilder};
+    ///
+    /// let mut builder = SheetBuilder::new();
+    /// let name = builder.token("name");
+    /// let word = builder.token("if");
+    /// builder.rule(name, Regex::class(b'a', b'z').plus());
+    /// builder.rule(word, Regex::literal(b"if"));
+    /// builder.skip(Regex::byte(b' '));
+    /// let sheet = builder.finish(word.then(name))?;
+    ///
+    /// let image = vinzagew::write(sheet.as_bytes())?;
+    /// assert_eq!(image.run(b"if iffy"), Ok(2));
+    /// assert_eq!(image.run(b"if if").unwrap_err().place, 3);
+    /// # Ok::<(), Box<dyn std::error::Error>>(())
+    /// ```
     pub fn run(&self, text: &[u8]) -> Result<usize, Refusal> {
         // A text over the limit is refused before the stack is looked at.
         let room = if text.len() > TEXT_LIMIT {

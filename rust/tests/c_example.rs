@@ -171,6 +171,21 @@ fn the_example_reads_numbers_between_slashes() {
     );
 }
 
+/// The second sheet of the example's comment: a word below a name pattern is read as the word.
+#[test]
+#[cfg_attr(not(vinzagew_library), ignore = "the static library was not found")]
+fn the_example_reads_a_word_below_a_name_pattern() {
+    let folder = build("c-example-words");
+    let sheet = [
+        1, 2, 3, 1, 2, 1, 97, 122, 4, 1, 97, 122, 2, 2, 1, 105, 105, 1, 102, 102, 0, 1, 32, 32, 3,
+        2, 1, 2, 0,
+    ];
+    let read = |text: &[u8]| read(&folder, &sheet, Some(text));
+    assert_eq!(read(b"if iffy"), ("0 7 2".to_owned(), Some(0)));
+    assert_eq!(read(b"if if"), ("15 3 1".to_owned(), Some(1)));
+    assert_eq!(read(b"iffy"), ("15 0 0".to_owned(), Some(1)));
+}
+
 /// The status is 2, and nothing is printed, if a file is missing and if the usage is wrong.
 #[test]
 #[cfg_attr(not(vinzagew_library), ignore = "the static library was not found")]

@@ -11,6 +11,7 @@ mod common;
 
 use common::calls;
 use common::random::{for_case, seed_and_cases, Random};
+use common::words::{pattern_above_word, place_without_words, without_words, words_first};
 use common::{
     engines, full_check, full_run, full_write, generate, hexadecimal, image_of, numbers, pattern,
     Engine, LIBRARY, REFERENCE,
@@ -18,7 +19,9 @@ use common::{
 use std::collections::BTreeMap;
 use vinzagew::builder::{self, Expression, Part, PartKind};
 use vinzagew::{patch, stack_length, PatchError, SHEET_LIMIT, TAIL_LIMIT, WIDTH_LIMIT};
+use vinzagew_reference::answer::{longest_front, word_lengths};
 use vinzagew_reference::image::Image;
+use vinzagew_reference::lexer::nullable;
 use vinzagew_reference::number;
 use vinzagew_reference::sheet::{Kind, Node, Regex, Sheet};
 use vinzagew_reference::types::least_types;
@@ -553,6 +556,289 @@ fn patches_move_no_byte() {
     }
     println!("seed {seed}, {cases} cases: {tally:?}");
     assert!(cases < 5_000 || tally.len() == 5, "{tally:?}");
+}
+
+/// Of a sheet that is refused with 7, what kind of rule is to blame, and whether a bad one of the other kind
+/// stands below it.
+fn bad_rule(sheet: &Sheet) -> &'static str {
+    let bad = sheet.rules.iter().filter(|rule| nullable(&rule.regex));
+    let is_word: Vec<bool> = bad.map(|rule| rule.regex.is_word()).collect();
+    match is_word[..] {
+        [false, ..] if is_word.contains(&true) => "a pattern above a word rule",
+        [false, ..] => "a pattern",
+        _ => "a word rule",
+    }
+}
+
+/// Checking knows no kinds of rules: a sheet and the same without word rules have the same verdict, at the
+/// place of the same number of the sheet.
+#[test]
+fn checking_knows_no_kinds_of_rules() {
+    let (seed, cases) = seed_and_cases(3_000);
+    let mut tally = BTreeMap::new();
+    for case in 0..cases {
+        let random = &mut for_case(seed, case);
+        let sheet = match random.below(3) {
+            0 => generate::nearly_passing_sheet(random).to_bytes(),
+            1 => generate::untyped_sheet(random).to_bytes(),
+            _ => calls::sheet(random),
+        };
+        let parts = match Sheet::read(&sheet) {
+            Ok(parts) if sheet.len() <= SHEET_LIMIT => parts,
+            _ => continue,
+        };
+        let without = without_words(&sheet);
+        // Some have too many nodes then, or too many bytes.
+        if Sheet::read(&without).is_err() || without.len() > SHEET_LIMIT {
+            continue;
+        }
+        let context = format!("seed {seed}, case {case}: sheet {}", hexadecimal(&sheet));
+        for engine in engines() {
+            let [number, place] = full_check(engine, &sheet, 65_536);
+            let place = place_without_words(&sheet, place as usize) as u64;
+            let found = full_check(engine, &without, 65_536);
+            assert_eq!(found, [number, place], "{context}, {}", engine.name);
+            let bad = if number == 7 { bad_rule(&parts) } else { "" };
+            *tally.entry((number, bad)).or_insert(0) += 1;
+        }
+    }
+    println!("seed {seed}, {cases} cases: {tally:?}");
+    // 0, 8, 9 and 10, and 7 in three ways.
+    assert!(cases < 3_000 || tally.len() == 7, "{tally:?}");
+}
+
+/// The places of a text where a tie is decided by kind: without word rules a pattern wins there, and with them
+/// a word rule that stands below it and matches as far. At every place the matches are equally long.
+fn decided_by_kind(sheet: &[u8], text: &[u8], context: &str) -> Vec<usize> {
+    let parts = Sheet::read(sheet).expect("readable");
+    let without = Sheet::read(&without_words(sheet)).expect("readable");
+    let mut decided = Vec::new();
+    let mut place = 0;
+    while let Some((rule, length)) = longest_front(&parts, &text[place..]) {
+        let rest = &text[place..];
+        let (other, same) = longest_front(&without, rest).expect("a match as long");
+        assert_eq!(length, same, "{context}");
+        if rule != other {
+            assert!(other < rule, "{context}");
+            let [word, pattern] = [rule, other].map(|rule| &parts.rules[rule].regex);
+            assert!(word.is_word() && !pattern.is_word(), "{context}");
+            for regex in [word, pattern] {
+                let longest = word_lengths(regex, rest, 0).last().copied();
+                assert_eq!(longest, Some(length), "{context}");
+            }
+            decided.push(place);
+        }
+        place += length;
+    }
+    assert_eq!(longest_front(&without, &text[place..]), None, "{context}");
+    decided
+}
+
+/// By every engine the sheet, which passes, gives its own answer for a text. It is given.
+fn own_answer_of_all(sheet: &[u8], text: &[u8], context: &str) -> [u64; 3] {
+    let own = own_answer(sheet, text);
+    for engine in engines() {
+        let (written, image) = full_write(engine, sheet, 65_536, 65_536);
+        assert_eq!(written[0], 0, "{context}, {}", engine.name);
+        let found = full_run(engine, &image, text, stack_length(text.len()));
+        assert_eq!(found, own, "{context}, {}", engine.name);
+    }
+    own
+}
+
+/// Whether a reading of a text reached a place where a tie is decided by kind, and whether it differs from
+/// that without word rules. Only then may it differ.
+fn ties_and_readings(sheet: &[u8], text: &[u8], context: &str) -> &'static str {
+    let decided = decided_by_kind(sheet, text, context);
+    let new = own_answer_of_all(sheet, text, context);
+    let old = own_answer_of_all(&without_words(sheet), text, context);
+    let nearest = new[1].min(old[1]);
+    match decided.first() {
+        Some(&place) if place as u64 <= nearest && old == new => "same reading",
+        Some(&place) if place as u64 <= nearest => "other reading",
+        _ => {
+            assert_eq!(old, new, "{context}");
+            "no tie"
+        }
+    }
+}
+
+/// A reading differs from that without word rules, which it was before request 4, only if it reached a place
+/// where a pattern stands above a word rule and both match equally far.
+#[test]
+fn a_reading_changes_only_where_a_tie_is_decided_by_kind() {
+    let (seed, cases) = seed_and_cases(2_000);
+    let mut tally = BTreeMap::new();
+    for case in 0..cases {
+        let random = &mut for_case(seed, case);
+        let sheet = generate::competing_sheet(random).to_bytes();
+        if image_of(&without_words(&sheet)).is_err() {
+            continue;
+        }
+        let image = image_of(&sheet).expect("it passes");
+        for _ in 0..4 {
+            let size = random.range(1, 6);
+            let mut text = match random.below(4) {
+                0 => generate::text(random, &image),
+                _ => generate::derived_text(random, &image, size),
+            };
+            text.truncate(24);
+            let context = format!(
+                "seed {seed}, case {case}: sheet {} text {}",
+                hexadecimal(&sheet),
+                hexadecimal(&text)
+            );
+            *tally
+                .entry(ties_and_readings(&sheet, &text, &context))
+                .or_insert(0) += 1;
+        }
+    }
+    println!("seed {seed}, {cases} cases: {tally:?}");
+    let often = tally.len() == 3 && tally.values().all(|&count| count >= cases / 4);
+    assert!(cases < 2_000 || often, "{tally:?}");
+}
+
+/// A sheet that passes, with its rules as they were made or in the order of the image.
+fn sheet_in_any_order(random: &mut Random) -> Vec<u8> {
+    let sheet = match random.below(4) {
+        0 => generate::passing_sheet(random),
+        1 => generate::long_tailed_sheet(random),
+        _ => generate::competing_sheet(random),
+    };
+    match random.below(3) {
+        0 => words_first(sheet.as_bytes()),
+        _ => sheet.to_bytes(),
+    }
+}
+
+/// Where no pattern stands above a word rule, an image numbers the rules as they stand: it is that of the
+/// sheet without word rules, byte for byte.
+#[test]
+fn an_image_changes_only_with_a_pattern_above_a_word_rule() {
+    let (seed, cases) = seed_and_cases(2_000);
+    let mut tally = BTreeMap::new();
+    for case in 0..cases {
+        let sheet = sheet_in_any_order(&mut for_case(seed, case));
+        let without = without_words(&sheet);
+        let image = match image_of(&without) {
+            Ok(image) => image,
+            // It has too many nodes.
+            Err(_) => continue,
+        };
+        let same = image_of(&sheet).as_ref() == Ok(&image);
+        let above = pattern_above_word(&Sheet::read(&sheet).expect("it passes").rules);
+        let context = format!("seed {seed}, case {case}: sheet {}", hexadecimal(&sheet));
+        assert!(same || above, "{context}");
+        for engine in engines() {
+            let write = |sheet: &[u8]| full_write(engine, sheet, 65_536, 65_536);
+            let (_, found) = write(&without);
+            assert_eq!(found, image.to_bytes(), "{context}, {}", engine.name);
+            assert_eq!(write(&sheet).1 == found, same, "{context}, {}", engine.name);
+        }
+        let most_rules = image.skips.len() == 32;
+        *tally.entry((above, same, most_rules)).or_insert(0) += 1;
+    }
+    println!("seed {seed}, {cases} cases: {tally:?}");
+    let [none_above, changed, changed_at_the_limit] = [
+        (false, true, false),
+        (true, false, false),
+        (true, false, true),
+    ]
+    .map(|kind| tally.get(&kind).copied().unwrap_or(0));
+    let often = none_above.min(changed) >= cases / 4 && changed_at_the_limit > 0;
+    assert!(cases < 2_000 || often, "{tally:?}");
+}
+
+/// Both sheets pass, and by every engine they have the same image.
+fn same_image(sheet: &[u8], other: &[u8], context: &str) {
+    for engine in engines() {
+        let write = |sheet: &[u8]| full_write(engine, sheet, 65_536, 65_536);
+        let (written, image) = write(sheet);
+        assert_eq!(written[0], 0, "{context}, {}", engine.name);
+        assert_eq!(write(other), (written, image), "{context}, {}", engine.name);
+    }
+}
+
+/// With its rules put into the order of the image by hand, a sheet has the same image and the same readings.
+#[test]
+fn rules_in_the_order_of_the_image() {
+    let (seed, cases) = seed_and_cases(2_000);
+    let mut tally = BTreeMap::new();
+    for case in 0..cases {
+        let random = &mut for_case(seed, case);
+        let is_large = random.once_in(5);
+        let sheet = match is_large {
+            true => generate::large_sheet(random).to_bytes(),
+            false => sheet_in_any_order(random),
+        };
+        let ordered = words_first(&sheet);
+        let context = format!("seed {seed}, case {case}: sheet {}", hexadecimal(&sheet));
+        same_image(&sheet, &ordered, &context);
+        *tally.entry((is_large, sheet != ordered)).or_insert(0) += 1;
+        // The own answer takes too long for the stars in stars of a large sheet.
+        if !is_large {
+            let image = image_of(&sheet).expect("it passes");
+            let mut text = generate::text(random, &image);
+            text.truncate(24);
+            let own = own_answer_of_all(&sheet, &text, &context);
+            assert_eq!(
+                own_answer_of_all(&ordered, &text, &context),
+                own,
+                "{context}"
+            );
+        }
+    }
+    println!("seed {seed}, {cases} cases: {tally:?}");
+    let often = tally.len() == 4 && tally.values().all(|&count| count >= cases / 50);
+    assert!(cases < 2_000 || often, "{tally:?}");
+}
+
+/// The classes of a regex, from the left.
+fn classes(regex: &builder::Regex) -> Vec<(u8, u8)> {
+    match regex {
+        builder::Regex::Empty => Vec::new(),
+        builder::Regex::Class { low, high } => vec![(*low, *high)],
+        builder::Regex::Star(part) => classes(part),
+        builder::Regex::Sequence(left, right) | builder::Regex::Alternative(left, right) => {
+            [classes(left), classes(right)].concat()
+        }
+    }
+}
+
+/// The builder knows which rule of the sheet is which of the image: it has the same action and the same
+/// classes.
+#[test]
+fn the_builder_knows_the_rules_of_the_image() {
+    let (seed, cases) = seed_and_cases(2_000);
+    let mut moved = 0;
+    for case in 0..cases {
+        let random = &mut for_case(seed, case);
+        let sheet = match random.below(3) {
+            0 => generate::large_sheet(random),
+            1 => generate::passing_sheet(random),
+            _ => generate::competing_sheet(random),
+        };
+        let rules = sheet.image_rules();
+        for engine in engines() {
+            let context = format!("seed {seed}, case {case}, {}", engine.name);
+            let (_, image) = full_write(engine, sheet.as_bytes(), 65_536, 65_536);
+            let image = Image::read(&image).expect("written");
+            assert_eq!(rules.len(), image.skips.len(), "{context}");
+            for (number, &rule) in rules.iter().enumerate() {
+                let own = &sheet.rules()[rule];
+                assert_eq!(own.token.is_none(), image.skips[number], "{context}");
+                let positions = image.positions.iter();
+                let found: Vec<(u8, u8)> = positions
+                    .filter(|position| position.rule == number)
+                    .map(|position| (position.low, position.high))
+                    .collect();
+                assert_eq!(classes(&own.regex), found, "{context}");
+            }
+        }
+        moved += usize::from(rules.windows(2).any(|pair| pair[0] > pair[1]));
+    }
+    println!("seed {seed}, {cases} cases: {moved} with other numbers");
+    assert!(cases < 2_000 || moved >= cases / 4, "{moved}");
 }
 
 /// Whatever its length, an image buffer changes nothing for a sheet that is refused.

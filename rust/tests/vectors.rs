@@ -1,14 +1,19 @@
 //! The test vectors, against the reference and, if it was linked, the library.
 //!
 //! The vectors come from elsewhere and say what is right; nothing is made up here. Where a vector names a
-//! length, that much is lent; where it names none, enough. Only, the files before that of request 3 were
-//! written when a padded number was refused in sheets too: the vectors that say so are told apart by
-//! [`padded_place`], counted for each file, and held against their twins in the fewest bytes.
+//! length, that much is lent; where it names none, enough. Two requests changed what older files say:
+//!
+//! - Before request 3 a padded number was refused in sheets too. The vectors that say so are told apart by
+//!   [`padded_place`], counted for each file, and held against their twins in the fewest bytes.
+//! - Before request 4 the lower of two rules won, whatever their kinds, and images numbered the rules as they
+//!   stand. The vectors to which this matters are told apart by [`order_matters`], counted for each file, and
+//!   held against the same sheets without word rules, of which it is still so.
 
 mod common;
 
 use common::json_lines::{self, Object};
 use common::numbers::{fewest_twin, place_in_twin};
+use common::words::{pattern_above_word, without_words};
 use common::{
     engines, full_check, full_run, full_write, short_out_changes_nothing, Engine, REFERENCE,
 };
@@ -22,30 +27,59 @@ struct File {
     name: &'static str,
     lines: &'static str,
     /// How many of its vectors refuse a padded number of a sheet with 3, which request 3 changes.
+    padded: usize,
+    /// Whether it was written when word rules won over patterns.
+    words_win: bool,
+    /// To how many of its vectors it matters that word rules win over patterns: how many images, lengths that
+    /// are needed, readings and lines differ. In the files before that of request 4 it changes these.
+    order_matters: [usize; 4],
+    /// How many of its vectors say something else than what is right now. One of the base and one of request 1
+    /// both requests change.
     changed: usize,
 }
 
 /// The files of vectors: of the base; of request 1, which has sheets with tag 7; of request 2, from which on
-/// sheets come with the verdict of checking; and of request 3, which has sheets with padded numbers.
-const FILES: [File; 4] = [
+/// sheets come with the verdict of checking; of request 3, which has sheets with padded numbers; and of
+/// request 4, by which word rules win over patterns.
+const FILES: [File; 5] = [
     File {
         name: "base",
         lines: include_str!("data/base.jsonl"),
-        changed: 5,
+        padded: 5,
+        words_win: false,
+        order_matters: [88, 30, 16, 8],
+        changed: 146,
     },
     File {
         name: "request 1",
         lines: include_str!("data/request-01.jsonl"),
-        changed: 3,
+        padded: 3,
+        words_win: false,
+        order_matters: [91, 25, 12, 4],
+        changed: 134,
     },
     File {
         name: "request 2",
         lines: include_str!("data/request-02.jsonl"),
-        changed: 3,
+        padded: 3,
+        words_win: false,
+        order_matters: [82, 25, 9, 5],
+        changed: 124,
     },
     File {
         name: "request 3",
         lines: include_str!("data/request-03.jsonl"),
+        padded: 0,
+        words_win: false,
+        order_matters: [96, 41, 14, 14],
+        changed: 165,
+    },
+    File {
+        name: "request 4",
+        lines: include_str!("data/request-04.jsonl"),
+        padded: 0,
+        words_win: true,
+        order_matters: [91, 20, 11, 8],
         changed: 0,
     },
 ];
@@ -70,13 +104,13 @@ fn vectors(file: &File, kind: &str) -> Vec<Object> {
 }
 
 /// Holds every vector of a kind that request 3 does not change, from all files, against every engine.
-fn compare(kind: &str, differs: impl Fn(Engine, &Object) -> Option<String>) {
+fn compare(kind: &str, differs: impl Fn(&File, Engine, &Object) -> Option<String>) {
     for file in &FILES {
         let mut vectors = vectors(file, kind);
         vectors.retain(|vector| padded_place(vector).is_none());
         for engine in engines() {
             let differences = vectors.iter().filter_map(|vector| {
-                let difference = differs(engine, vector)?;
+                let difference = differs(file, engine, vector)?;
                 Some(format!("case {}: {difference}", vector.number("case")))
             });
             let differences: Vec<String> = differences.collect();
@@ -136,7 +170,7 @@ fn padded_numbers_are_no_longer_3() {
             .iter()
             .filter_map(|vector| Some((vector, padded_place(vector)?)))
             .collect();
-        assert_eq!(changed.len(), file.changed, "{}", file.name);
+        assert_eq!(changed.len(), file.padded, "{}", file.name);
         for (vector, place) in changed {
             for engine in engines() {
                 let case = vector.number("case");
@@ -205,7 +239,7 @@ fn padded_sheets_come_up_in_request_3() {
 
 #[test]
 fn check() {
-    compare("compile", |engine, vector| {
+    compare("compile", |_, engine, vector| {
         let (sheet, work_length, _) = lent(vector);
         unequal(full_check(engine, &sheet, work_length), verdict(vector))
     });
@@ -214,7 +248,7 @@ fn check() {
 /// Every sheet that a text is read by passes.
 #[test]
 fn check_of_sheets_that_are_read_by() {
-    compare("read", |engine, vector| {
+    compare("read", |_, engine, vector| {
         let found = full_check(engine, &vector.bytes("sheet"), 65_536);
         unequal(found, [0, 0])
     });
@@ -233,24 +267,151 @@ fn verdict_of_line(line: &str) -> [u64; 2] {
 
 #[test]
 fn check_of_the_programs_sheets() {
-    compare("program", |engine, vector| {
+    compare("program", |_, engine, vector| {
         let found = full_check(engine, &vector.bytes("sheet"), 65_536);
         unequal(found, verdict_of_line(vector.text("line")))
     });
 }
 
+/// What a vector says, or what was found for it.
+#[derive(Debug, PartialEq, Eq)]
+enum Outcome {
+    /// Of writing: number, place and length, and the image.
+    Written([u64; 3], Vec<u8>),
+    /// Of running: number, place and count.
+    Ran([u64; 3]),
+    /// Of the program: its line.
+    Printed(String),
+}
+
+/// What a vector says.
+fn told(vector: &Object) -> Outcome {
+    match vector.text("kind") {
+        "compile" => Outcome::Written(three(vector, "length"), vector.bytes("image")),
+        "program" => Outcome::Printed(vector.text("line").to_owned()),
+        _ => Outcome::Ran(three(vector, "count")),
+    }
+}
+
+/// What an engine gives for a vector with this sheet for its own.
+fn outcome(engine: Engine, vector: &Object, sheet: &[u8]) -> Outcome {
+    match vector.text("kind") {
+        "compile" => {
+            let (_, work_length, image_length) = lent(vector);
+            let (numbers, image) = full_write(engine, sheet, work_length, image_length);
+            Outcome::Written(numbers, image)
+        }
+        "program" => Outcome::Printed(program_line(engine, sheet, &vector.bytes("text"))),
+        _ => {
+            let text = vector.bytes("text");
+            let (_, image) = full_write(engine, sheet, 65_536, 65_536);
+            Outcome::Ran(full_run(engine, &image, &text, stack_length(text.len())))
+        }
+    }
+}
+
+/// Whether it matters to a vector that word rules win over patterns, and have the lower numbers in images: its
+/// sheet passes, and the reference gives something else if it has no word rule.
+fn order_matters(vector: &Object) -> bool {
+    let sheet = &vector.bytes("sheet");
+    let passes = |sheet: &[u8]| full_check(REFERENCE, sheet, 65_536) == [0, 0];
+    if !passes(sheet) {
+        return false;
+    }
+    let without = &without_words(sheet);
+    assert!(passes(without), "case {}", vector.number("case"));
+    outcome(REFERENCE, vector, sheet) != outcome(REFERENCE, vector, without)
+}
+
+/// The sheet that a vector is held against: its own, but for an older vector to which it matters that word
+/// rules win now.
+fn held_against(file: &File, vector: &Object) -> Vec<u8> {
+    let sheet = vector.bytes("sheet");
+    if !file.words_win && order_matters(vector) {
+        without_words(&sheet)
+    } else {
+        sheet
+    }
+}
+
+/// Holds what every vector of a kind says against every engine, with the sheet of [`held_against`].
+fn compare_outcomes(kind: &str) {
+    compare(kind, |file, engine, vector| {
+        let sheet = held_against(file, vector);
+        unequal(outcome(engine, vector, &sheet), told(vector))
+    });
+}
+
+/// Which count of [`File::order_matters`] a vector is in.
+fn count_of(vector: &Object) -> usize {
+    match told(vector) {
+        Outcome::Written([11, ..], _) => 1,
+        Outcome::Written(..) => 0,
+        Outcome::Ran(_) => 2,
+        Outcome::Printed(_) => 3,
+    }
+}
+
+/// All vectors with a sheet.
+fn vectors_with_sheets(file: &File) -> Vec<Object> {
+    let kinds = ["compile", "read", "program"];
+    kinds.iter().flat_map(|kind| vectors(file, kind)).collect()
+}
+
+/// The vectors to which it matters that word rules win are as many as each file says. In the sheet of each a
+/// pattern stands above a word rule. For what they say see [`held_against`]; now every engine gives for them
+/// what the reference gives.
+#[test]
+fn word_rules_win_over_patterns() {
+    for file in &FILES {
+        let mut counts = [0; 4];
+        for vector in vectors_with_sheets(file).into_iter().filter(order_matters) {
+            counts[count_of(&vector)] += 1;
+            let sheet = &vector.bytes("sheet");
+            let context = format!("{}, case {}", file.name, vector.number("case"));
+            let rules = Sheet::read(sheet).expect("it passes").rules;
+            assert!(pattern_above_word(&rules), "{context}");
+            let expected = outcome(REFERENCE, &vector, sheet);
+            for engine in engines() {
+                let found = outcome(engine, &vector, sheet);
+                assert_eq!(found, expected, "{context}, {}", engine.name);
+            }
+        }
+        assert_eq!(counts, file.order_matters, "{}", file.name);
+    }
+}
+
+/// The vectors that say something else than what is right now are as many as each file says, and each is one
+/// that request 3 or request 4 changes.
+#[test]
+fn nothing_else_changed() {
+    for file in &FILES {
+        let vectors = vectors_with_sheets(file);
+        let changed: Vec<&Object> = vectors
+            .iter()
+            .filter(|vector| told(vector) != outcome(REFERENCE, vector, &vector.bytes("sheet")))
+            .collect();
+        assert_eq!(changed.len(), file.changed, "{}", file.name);
+        for vector in changed {
+            let by_a_request = padded_place(vector).is_some() || order_matters(vector);
+            assert!(
+                by_a_request,
+                "{}, case {}",
+                file.name,
+                vector.number("case")
+            );
+        }
+    }
+}
+
 #[test]
 fn write() {
-    compare("compile", |engine, vector| {
-        let (sheet, work_length, image_length) = lent(vector);
-        let found = full_write(engine, &sheet, work_length, image_length);
-        unequal(found, (three(vector, "length"), vector.bytes("image")))
-    });
+    compare_outcomes("compile");
 }
 
 #[test]
 fn check_and_write_with_a_short_out() {
-    compare("compile", |engine, vector| {
+    compare("compile", |_, engine, vector| {
         let (sheet, work_length, image_length) = lent(vector);
         short_out_changes_nothing(engine, &sheet, work_length, image_length);
         None
@@ -259,48 +420,39 @@ fn check_and_write_with_a_short_out() {
 
 #[test]
 fn read() {
-    compare("read", |engine, vector| {
-        let text = vector.bytes("text");
-        let (written, image) = full_write(engine, &vector.bytes("sheet"), 65_536, 65_536);
-        if written[0] != 0 {
-            return Some(format!("the sheet is refused: {written:?}"));
-        }
-        let found = full_run(engine, &image, &text, stack_length(text.len()));
-        unequal(found, three(vector, "count"))
-    });
+    compare_outcomes("read");
 }
 
 /// The sheet's own answer gives the same, with no image and no machine.
 #[test]
 fn read_by_the_own_answer() {
-    for vector in FILES.iter().flat_map(|file| vectors(file, "read")) {
-        let sheet = Sheet::read(&vector.bytes("sheet")).expect("it passes");
-        let own = answer(&sheet, &vector.bytes("text"));
-        let found = [own.number, own.place as u64, own.tokens as u64];
-        let case = vector.number("case");
-        assert_eq!(found, three(&vector, "count"), "case {case}");
+    for file in &FILES {
+        for vector in vectors(file, "read") {
+            let sheet = Sheet::read(&held_against(file, &vector)).expect("it passes");
+            let own = answer(&sheet, &vector.bytes("text"));
+            let found = [own.number, own.place as u64, own.tokens as u64];
+            let case = vector.number("case");
+            assert_eq!(Outcome::Ran(found), told(&vector), "case {case}");
+        }
     }
 }
 
 #[test]
 fn run() {
-    compare("run", |engine, vector| {
+    compare("run", |_, engine, vector| {
         let found = full_run(
             engine,
             &vector.bytes("image"),
             &vector.bytes("text"),
             vector.number("stack_len") as usize,
         );
-        unequal(found, three(vector, "count"))
+        unequal(Outcome::Ran(found), told(vector))
     });
 }
 
 #[test]
 fn program() {
-    compare("program", |engine, vector| {
-        let line = program_line(engine, &vector.bytes("sheet"), &vector.bytes("text"));
-        unequal(line.as_str(), vector.text("line"))
-    });
+    compare_outcomes("program");
 }
 
 /// The line that the program prints.

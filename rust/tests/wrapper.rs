@@ -51,6 +51,118 @@ fn the_builder_writes_sheet_d() {
     assert_eq!(sheet_d().to_bytes(), expected);
 }
 
+/// Its slash is rule 0 of the image, the blank rule 1 and the number rule 2.
+#[test]
+fn sheet_d_has_its_image() {
+    let expected = [
+        1, 3, 0, 1, 0, 4, 47, 47, 0, 1, 0, 32, 32, 1, 1, 0, 48, 57, 2, 1, 8, 48, 57, 2, 1, 8, 7, 4,
+        0, 1, 2, 1, 1, 1, 1, 0, 1, 2, 0, 1, 2, 1, 3, 1, 1, 0, 1, 2,
+    ];
+    for engine in engines() {
+        let (written, image) = full_write(engine, sheet_d().as_bytes(), 65_536, 65_536);
+        assert_eq!(written, [0, 0, 48], "{}", engine.name);
+        assert_eq!(image, expected, "{}", engine.name);
+    }
+    assert_eq!(sheet_d().image_rules(), [1, 2, 0]);
+}
+
+#[test]
+fn regexes_of_word_rules() {
+    let word = Regex::literal(b"word");
+    for regex in [
+        Regex::empty(),
+        Regex::byte(0),
+        Regex::byte(255),
+        word.clone(),
+        Regex::empty().then(word.clone()),
+        word.clone().then(Regex::empty().then(Regex::empty())),
+        Regex::one_of(b"a"),
+    ] {
+        assert!(regex.is_word(), "{regex}");
+    }
+    let nothing = Regex::empty().star();
+    for regex in [
+        Regex::class(b'a', b'b'),
+        Regex::class(0, 255),
+        word.clone().then(Regex::class(b'a', b'b')),
+        word.clone().star(),
+        word.clone().plus(),
+        word.clone().optional(),
+        word.clone().or(word.clone()),
+        nothing.clone().then(word.clone()),
+        word.then(nothing),
+    ] {
+        assert!(!regex.is_word(), "{regex}");
+    }
+}
+
+/// Names, and words below them: `if` is a token and `rem` is skipped, as blanks are.
+fn sheet_with_words() -> Sheet {
+    let mut builder = SheetBuilder::new();
+    let name = builder.token("name");
+    let word = builder.token("if");
+    builder.rule(name, Regex::class(b'a', b'z').plus());
+    builder.skip(Regex::byte(b' ').plus());
+    builder.rule(word, Regex::literal(b"if"));
+    builder.skip(Regex::literal(b"rem"));
+    // Of two words of equal text the lower wins, so that this one never does.
+    builder.rule(name, Regex::literal(b"if").then(Regex::empty()));
+    builder.finish(word.then(name.star()).star()).unwrap()
+}
+
+/// Words below a name pattern are read as words.
+#[test]
+fn words_below_a_name_pattern_are_read() {
+    let sheet = sheet_with_words();
+    assert_eq!(sheet.image_rules(), [2, 3, 4, 0, 1]);
+    for engine in engines() {
+        let (written, image) = full_write(engine, sheet.as_bytes(), 65_536, 65_536);
+        assert_eq!(written[0], 0);
+        let read = |text: &[u8]| full_run(engine, &image, text, stack_length(text.len()));
+        assert_eq!(read(b"if"), [0, 2, 1], "{}", engine.name);
+        assert_eq!(read(b"if iffy"), [0, 7, 2]);
+        assert_eq!(read(b"iffy"), [15, 0, 0]);
+        assert_eq!(read(b"if rem  remark if"), [0, 17, 3]);
+        assert_eq!(read(b"rem"), [0, 3, 0]);
+        assert_eq!(read(b"remif"), [15, 0, 0]);
+        // The blanks are a pattern, and no word.
+        assert_eq!(read(b"if if a"), [0, 7, 3]);
+    }
+}
+
+/// Where people read of a rule it is the sheet's, whatever its number in the image.
+#[test]
+fn rules_are_named_by_their_numbers_in_the_sheet() {
+    let sheet = sheet_with_words();
+    let rules: Vec<String> = sheet
+        .parts()
+        .iter()
+        .filter(|part| matches!(part.kind, PartKind::Action { .. }))
+        .map(|part| part.to_string())
+        .collect();
+    let expected = [
+        "action of rule 0 (returns name)",
+        "action of rule 1 (skips)",
+        "action of rule 2 (returns if)",
+        "action of rule 3 (skips)",
+        "action of rule 4 (returns name)",
+    ];
+    assert_eq!(rules, expected);
+
+    // Both the pattern and the word match the empty word, and the pattern comes first.
+    let mut builder = builder();
+    let (number, slash) = tokens();
+    builder.rule(number, Regex::byte(b'a').star());
+    builder.rule(slash, Regex::empty());
+    let sheet = builder.finish(number).unwrap();
+    for engine in engines() {
+        let [number, place] = full_check(engine, sheet.as_bytes(), 65_536);
+        assert_eq!(number, 7, "{}", engine.name);
+        let part = sheet.locate(place as usize).to_string();
+        assert_eq!(part, "action of rule 3 (returns N)", "{}", engine.name);
+    }
+}
+
 #[test]
 fn places_lead_back_to_parts() {
     let sheet = sheet_d();
@@ -586,6 +698,14 @@ fn the_wrapper_writes_and_runs() {
     assert_eq!(run_with(image.as_bytes(), b"1", &mut [1]), Ok(1));
     let refusal = run_with(image.as_bytes(), b"1", &mut []).unwrap_err();
     assert_eq!(refusal.number, 17);
+}
+
+#[cfg(vinzagew_library)]
+#[test]
+fn the_wrapper_reads_a_word_below_a_name_pattern() {
+    let image = write(sheet_with_words().as_bytes()).unwrap();
+    assert_eq!(image.run(b"if iffy rem if"), Ok(3));
+    assert_eq!(image.run(b"iffy").unwrap_err().number, 15);
 }
 
 /// A refusal of writing or running that names no place.

@@ -1,7 +1,7 @@
--- Lists: what holds of every member, and sums over the members; the first answer of two; and a step that is taken until nothing
--- changes. The laws of lists themselves are the library's.
-use mathlib.Core.Bool.{Bool, true, false, _&&_}
-use mathlib.Core.List.{List, [], _∷_}
+-- Lists: what holds of every member, and sums over the members; the members that pass a test; the first answer of two; and a step that
+-- is taken until nothing changes. The laws of lists themselves are the library's.
+use mathlib.Core.Bool.{Bool, true, false, not, _&&_}
+use mathlib.Core.List.{List, [], _∷_, _++_}
 use mathlib.Core.Option.{Option, none, some}
 use Prim.Native.Nat.{ℕ, zero, suc, _+_}
 
@@ -14,6 +14,15 @@ All P (a ∷ l) = P a × All P l
 abbrev pub sum : {A : Type 0} → (A → ℕ) → List A → ℕ
 sum f [] = 0
 sum f (a ∷ l) = f a + sum f l
+
+-- The members that pass a test, in their order.
+unfoldable pub filter : {A : Type 0} → (A → Bool) → List A → List A
+filter p [] = []
+filter p (a ∷ l) = elim (p a) [ true ↦ a ∷ filter p l | false ↦ filter p l ]
+
+-- A stable partition: the members that pass a test, then the others, both in their order.
+unfoldable pub partition : {A : Type 0} → (A → Bool) → List A → List A
+partition p l = filter p l ++ filter (λ a. not (p a)) l
 
 -- The first answer, or the second where there is none.
 abbrev pub or-else : {A : Type 0} → Option A → Option A → Option A

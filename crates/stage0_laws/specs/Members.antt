@@ -1,12 +1,13 @@
--- What holds of every member of a list: by membership, of joined lists and of mapped ones. Laws of lists in general.
-use mathlib.Core.Path.{refl, sym, subst}
+-- What holds of every member of a list: by membership, of joined lists and of mapped ones; and the sum over joined lists. Laws of lists in
+-- general.
+use mathlib.Core.Path.{_≡_, refl, sym, subst}
 use mathlib.Core.List.{List, [], _∷_, _++_, map, flatMap, List·Memᴰ, List·Memᴰ·head, List·Memᴰ·tail, List·Memᴰ·not-nil, List·Memᴰ·cases-cons, List·Memᴰ·append-cases}
 use mathlib.Core.Logic.{⊎-elim}
-use Prim.Native.Nat.{ℕ, zero, suc, _<_}
+use Prim.Native.Nat.{ℕ, zero, suc, _+_, _<_}
 use native.Mathlib.Omega.{arith}
 use native.Mathlib.Nat.{not-suc-le-zero}
 use lib.ListN.{getD, length}
-use Rattle.stage0_laws.specs.Lists.{All}
+use Rattle.stage0_laws.specs.Lists.{All, sum}
 
 -- The first member's fact, and those of the members after it.
 infixr 20 _&_
@@ -16,6 +17,10 @@ _&_ x y = (x, y)
 pub all-append : {A : Type 0} (P : A → Type 0) (k l : List A) → All P k → All P l → All P (k ++ l)
 all-append P [] l a b = b
 all-append P (x ∷ k) l a b = (a .0, all-append P k l (a .1) b)
+
+pub sum-append : {A : Type 0} (f : A → ℕ) (k l : List A) → sum f (k ++ l) ≡ sum f k + sum f l
+sum-append f [] l = omega arith
+sum-append f (a ∷ k) l = omega (arith, sum-append f k l)
 
 -- By membership, both ways.
 pub all-of : {A : Type 0} (P : A → Type 0) (l : List A) → ((a : A) → List·Memᴰ a l → P a) → All P l

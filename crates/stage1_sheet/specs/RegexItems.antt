@@ -6,13 +6,14 @@ use Prim.Native.Nat.{ℕ, zero, suc, _+_, _≤_}
 use native.Mathlib.Omega.{arith}
 use lib.ListN.{length, length-append}
 use Rattle.stage0_laws.specs.Lists.{All, sum}
+use Rattle.stage0_laws.specs.Members.{sum-append}
 use Rattle.stage1_sheet.specs.Limits.{most-byte}
 use Rattle.stage1_sheet.specs.Regex.{Regex, empty, class, concat, union, star, regex-nodes, class-count}
 use Rattle.stage1_sheet.specs.Spelling.{regex-numbers}
 use Rattle.stage1_sheet.specs.WellFormed.{BytesInRange}
 use Rattle.stage1_sheet.specs.Items.{RegexItem, empty-item, class-item, concat-item, union-item, star-item, regex-parts}
 use Rattle.stage1_sheet.specs.Items.{item-classes, regex-before, regexes}
-use Rattle.stage1_sheet.specs.ListLaws.{flatMap-append, sum-append}
+use Rattle.stage1_sheet.specs.ListLaws.{flatMap-append}
 
 -- ---- definitions
 

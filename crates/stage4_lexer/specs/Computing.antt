@@ -1,9 +1,10 @@
 -- One name that opens every definition of this stage and of the stages below it, for theorems that compute.
+use Rattle.stage4_lexer.specs.RuleOrder.{is-word, word-rule, words-first, words-first-sheet}
 use Rattle.stage4_lexer.specs.Positions.{nullable, first, last, follow, part-positions, positions-from, positions, first-from, first-positions, empty-match}
 use Rattle.stage4_lexer.specs.Match.{longer}
 use Rattle.stage4_lexer.specs.Walk.{has-byte, keep, follows, lower, ended, walk, longest-match}
 use Rattle.stage1_sheet.specs.Computing.{computing-sheet}
 
 unfoldable pub computing-lexer : Unit {0}
-unfolding nullable first last follow part-positions positions-from positions first-from first-positions empty-match longer has-byte keep follows lower ended walk longest-match computing-sheet
+unfolding is-word word-rule words-first words-first-sheet nullable first last follow part-positions positions-from positions first-from first-positions empty-match longer has-byte keep follows lower ended walk longest-match computing-sheet
 computing-lexer = tt

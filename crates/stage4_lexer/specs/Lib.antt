@@ -1,6 +1,9 @@
 -- The words of a regex, the positions of a sheet's rules, and the walk that finds the longest match: first the definitions,
 -- then the laws.
 pub mod Words
+pub mod RuleOrder
+pub mod LongestMatch
+pub mod RuleOrderLaws
 pub mod Positions
 pub mod Match
 pub mod Walk
@@ -13,6 +16,8 @@ pub mod Chains
 pub mod PositionList
 pub mod WalkLaws
 pub mod LongestMatchLaws
+pub mod OrderedMatches
 pub mod PositionBounds
 pub mod LowestPosition
 pub mod MatchExamples
+pub mod OrderExamples

@@ -12,7 +12,10 @@ use lib.ListN.{length, take}
 use Rattle.stage0_laws.specs.Lists.{All}
 use Rattle.stage0_laws.specs.Order.{compare-cases}
 use Rattle.stage1_sheet.specs.Sheet.{Rule}
-use Rattle.stage4_lexer.specs.Words.{WordOf, LongestMatch, NoMatch}
+use Rattle.stage4_lexer.specs.Words.{WordOf}
+use Rattle.stage4_lexer.specs.RuleOrder.{Order, by-number, lower}
+use Rattle.stage4_lexer.specs.LongestMatch.{LongestMatch, NoMatch}
+use Rattle.stage4_lexer.specs.RuleOrderLaws.{one-wins, lower-number}
 use Rattle.stage4_lexer.specs.Positions.{Position, positions, first-positions, empty-match}
 use Rattle.stage4_lexer.specs.Match.{Match, no-match, matched, longer}
 use Rattle.stage4_lexer.specs.Walk.{keep, follows, ended, walk, longest-match}
@@ -132,17 +135,18 @@ words-best rules text =
 -- What a match is to be at the front of the text.
 abbrev pub Right : List Rule → List ℕ → Match → Type 0
 Right rules text no-match = NoMatch rules text
-Right rules text (matched k n) = LongestMatch rules text k n × (0 < n)
+Right rules text (matched k n) = LongestMatch by-number rules text k n × (0 < n)
 
 best-longest : (rules : List Rule) (text : List ℕ) (k n : ℕ) → Best (λ j m. WordOf rules j (take m text)) (length text) (matched k n)
-    → LongestMatch rules text k n × (0 < n)
-best-longest rules text k n h = (record { within = h .1; matches = h .2; longest = h .3; lowest = h .4 }, h .0)
+    → LongestMatch by-number rules text k n × (0 < n)
+best-longest rules text k n h =
+    (record { within = h .1; matches = h .2; longest = h .3; wins = λ j w x. h .4 j (lower-number w) x }, h .0)
 
 -- A match that is found is the longest, also where a rule matches the empty word; where none is found, no front of one byte or more
 -- is a word.
 pub matched-right : (rules : List Rule) (text : List ℕ) (k n : ℕ)
     → longest-match (positions rules) (first-positions rules) text ≡ matched k n
-    → LongestMatch rules text k n × (0 < n)
+    → LongestMatch by-number rules text k n × (0 < n)
 matched-right rules text k n e =
     best-longest rules text k n (subst (Best (λ j m. WordOf rules j (take m text)) (length text)) e (words-best rules text))
 
@@ -163,21 +167,27 @@ match-right rules e text = go (longest-match (positions rules) (first-positions 
         front j (suc m) l x = h j (suc m) (omega arith) l x
     go (matched k n) h = best-longest rules text k n h
 
--- There is one longest match at most, and none where no front is a word.
-pub longest-one : {rules : List Rule} {text : List ℕ} {k n j m : ℕ} → LongestMatch rules text k n → LongestMatch rules text j m
-    → (k ≡ j) × (n ≡ m)
-longest-one {rules} {text} {k} {n} {j} {m} g h =
-    let e : n ≡ m =
+-- Longest matches have one length, by whatever orders.
+pub same-length : {order other : Order} {rules : List Rule} {text : List ℕ} {k n j m : ℕ}
+    → LongestMatch order rules text k n → LongestMatch other rules text j m → n ≡ m
+same-length {k = k} {n = n} {j = j} {m = m} g h =
     ⊎-elim (λ l. absurd (g .longest j m l (h .within) (h .matches)))
-    (⊎-elim (λ e. e) (λ l. absurd (h .longest k n l (g .within) (g .matches)))) (compare-cases n m) in
+    (⊎-elim (λ e. e) (λ l. absurd (h .longest k n l (g .within) (g .matches)))) (compare-cases n m)
+
+-- There is one longest match at most by an order, and none where no front is a word.
+pub longest-one : {order : Order} {rules : List Rule} {text : List ℕ} {k n j m : ℕ}
+    → LongestMatch order rules text k n → LongestMatch order rules text j m → (k ≡ j) × (n ≡ m)
+longest-one {order} {rules} {text} {k} {n} {j} {m} g h =
+    let e : n ≡ m = same-length g h in
     let f : k ≡ j =
     ⊎-elim
-    (λ l. absurd (h .lowest k l (subst (λ (x : ℕ). WordOf rules k (take x text)) e (g .matches))))
-    (⊎-elim (λ e. e) (λ l. absurd (g .lowest j l (subst (λ (x : ℕ). WordOf rules j (take x text)) (sym e) (h .matches)))))
-    (compare-cases k j) in
+    (λ l. absurd (h .wins k l (subst (λ (x : ℕ). WordOf rules k (take x text)) e (g .matches))))
+    (⊎-elim (λ e. e) (λ l. absurd (g .wins j l (subst (λ (x : ℕ). WordOf rules j (take x text)) (sym e) (h .matches)))))
+    (one-wins order ((g .matches) .1) ((h .matches) .1)) in
     (f, e)
 
-pub longest-not-none : {rules : List Rule} {text : List ℕ} {k n : ℕ} → LongestMatch rules text k n → NoMatch rules text → ⊥
+pub longest-not-none : {order : Order} {rules : List Rule} {text : List ℕ} {k n : ℕ}
+    → LongestMatch order rules text k n → NoMatch rules text → ⊥
 longest-not-none {k = k} {n = n} g h = h k n (g .within) (g .matches)
 
 pub right-one : (rules : List Rule) (text : List ℕ) (a b : Match) → Right rules text a → Right rules text b → a ≡ b
@@ -187,7 +197,7 @@ right-one rules text (matched k n) no-match g h = absurd (longest-not-none (g .0
 right-one rules text (matched k n) (matched j m) g h = let e = longest-one (g .0) (h .0) in ap₂ matched (e .0) (e .1)
 
 -- Hence the walk's answer is given by the words alone.
-pub longest-found : (rules : List Rule) → empty-match rules 0 ≡ none → (text : List ℕ) (k n : ℕ) → LongestMatch rules text k n
+pub longest-found : (rules : List Rule) → empty-match rules 0 ≡ none → (text : List ℕ) (k n : ℕ) → LongestMatch by-number rules text k n
     → longest-match (positions rules) (first-positions rules) text ≡ matched k n
 longest-found rules e text k n g =
     right-one rules text (longest-match (positions rules) (first-positions rules) text) (matched k n) (match-right rules e text)

@@ -1,10 +1,9 @@
 -- "A regex's words: the empty word; one byte of the class, low and high included; a word of the first part, then one of the
 -- second; a word of either part; for a star, any number of its part's words in a row."
--- And what the lexer is to find: the longest front of a text that is a word of any rule, and the lowest rule that has it.
+-- Rules by their numbers, and question 7. What the lexer is to find in a text is said in LongestMatch.
 use mathlib.Core.Path.{_≡_}
 use mathlib.Core.List.{List, [], _∷_, _++_}
 use Prim.Native.Nat.{ℕ, zero, suc, _≤_, _<_}
-use lib.ListN.{length, take}
 use Rattle.stage1_sheet.specs.Regex.{Regex, empty, class, concat, union, star}
 use Rattle.stage1_sheet.specs.Sheet.{Rule}
 
@@ -25,17 +24,6 @@ pub data RuleAt : List Rule → ℕ → Rule → Type 0 where
 -- w is a word of rule k.
 abbrev pub WordOf : List Rule → ℕ → List ℕ → Type 0
 WordOf rules k w = (r : Rule) × RuleAt rules k r × Word (r .regex) w
-
--- The first n bytes are the longest front of the text that is a word of any rule, and k is the lowest rule that has it.
-pub record LongestMatch (rules : List Rule) (text : List ℕ) (k n : ℕ) : Type 0 where
-  pub within : n ≤ length text
-  pub matches : WordOf rules k (take n text)
-  pub longest : (j m : ℕ) → n < m → m ≤ length text → WordOf rules j (take m text) → ⊥
-  pub lowest : (j : ℕ) → j < k → WordOf rules j (take n text) → ⊥
-
--- No front of the text is a word of any rule.
-abbrev pub NoMatch : List Rule → List ℕ → Type 0
-NoMatch rules text = (j m : ℕ) → m ≤ length text → WordOf rules j (take m text) → ⊥
 
 -- "Does every rule match only non-empty words?" No: rule k is the first that has the empty one.
 pub record FirstEmptyRule (rules : List Rule) (k : ℕ) : Type 0 where

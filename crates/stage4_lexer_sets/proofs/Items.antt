@@ -7,10 +7,10 @@ use native.Mathlib.Omega.{arith}
 use lib.ListN.{length, take, drop, getD, length-drop}
 use lib.Seq.{drop-cons, getD-take}
 use Rattle.stage0_laws.specs.Lists.{sum}
+use Rattle.stage0_laws.specs.Members.{sum-append}
 use Rattle.stage1_sheet.specs.Regex.{Regex, empty, class, concat, union, star, class-count}
 use Rattle.stage1_sheet.specs.Items.{RegexItem, empty-item, class-item, concat-item, union-item, star-item, regex-parts, item-classes}
 use Rattle.stage1_sheet.specs.Items.{regex-before, regexes}
-use Rattle.stage1_sheet.specs.ListLaws.{sum-append}
 use Rattle.stage1_sheet.specs.RegexItems.{regex-items-of, regex-tag, items-classes, regexes-items}
 use Rattle.stage4_lexer_sets.specs.Stacks.{TagsHeld, parts-of}
 

@@ -8,6 +8,7 @@ use Rattle.stage1_sheet.specs.Sheet.{Rule, Sheet}
 use Rattle.stage1_sheet.specs.Spelling.{spell}
 use Rattle.stage3_normal_form.specs.Productions.{Production, Row}
 use Rattle.stage3_normal_form.specs.NormalForm.{normal-form}
+use Rattle.stage4_lexer.specs.RuleOrder.{words-first-sheet}
 use Rattle.stage4_lexer.specs.Positions.{Position, positions, first-positions}
 use Rattle.stage5_image.specs.Fusion.{fused}
 use Rattle.stage5_image.specs.Numbering.{numbered}
@@ -22,15 +23,20 @@ pub record Image : Type 0 where
 unfoldable pub skips-rule : Rule → Bool
 skips-rule r = eqb (r .action) 0
 
--- The image of a sheet. Its rows are the normal form with dead tails dropped, fused, reached from the start and numbered, in this
--- order.
-unfoldable pub image-of : Sheet → Image
-image-of s = record {
+-- The image of a sheet whose rules are numbered as they stand. Its rows are the normal form with dead tails dropped, fused, reached from
+-- the start and numbered, in this order.
+unfoldable pub plain-image : Sheet → Image
+plain-image s = record {
   skips = map skips-rule (s .rules);
   positions = positions (s .rules);
   first = first-positions (s .rules);
   rows = numbered (fused (s .rules) (normal-form (s .expression)));
 }
+
+-- The image of a sheet. "Images number the word rules first, each kind in sheet order, positions and the order of productions and
+-- nonterminals following"
+unfoldable pub image-of : Sheet → Image
+image-of s = plain-image (words-first-sheet s)
 
 unfoldable pub flag : Bool → ℕ
 flag b = cond b 1 0

@@ -9,7 +9,7 @@ use native.Mathlib.Omega.{arith}
 use lib.ListN.{length, length-map}
 use Rattle.stage0_laws.specs.Lists.{All}
 use Rattle.stage1_sheet.specs.Expression.{Expression, size}
-use Rattle.stage1_sheet.specs.Sheet.{Sheet}
+use Rattle.stage1_sheet.specs.Sheet.{Rule, Sheet}
 use Rattle.stage1_sheet.specs.WellFormed.{WithinLimits, Closed}
 use Rattle.stage1_sheet.specs.Field.{got}
 use Rattle.stage2_types.specs.Types.{LanguageType, _⊢_∶_}
@@ -19,16 +19,19 @@ use Rattle.stage3_normal_form.specs.NormalFormLaws.{normal-form-fits}
 use Rattle.stage3_normal_form.specs.KeptRows.{normal-form-length}
 use Rattle.stage3_normal_form.specs.Expansion.{normalization-sound}
 use Rattle.stage3_normal_form.specs.Tails.{sequence-count-bound, normal-form-in-range, tails-at-most}
+use Rattle.stage4_lexer.specs.RuleOrder.{words-first-sheet, WordsAbove}
+use Rattle.stage4_lexer.specs.RuleOrderLaws.{order-kept}
+use Rattle.stage4_lexer.specs.OrderedMatches.{ordered-empty-match, ordered-limits}
 use Rattle.stage4_lexer.specs.Positions.{Position, positions, empty-match}
 use Rattle.stage4_lexer.specs.PositionBounds.{ByteClass, positions-in-range}
-use Rattle.stage5_image.specs.Image.{image-of, image-bytes, skips-rule}
+use Rattle.stage5_image.specs.Image.{plain-image, image-of, image-bytes, skips-rule}
 use Rattle.stage5_image.specs.ImageRanges.{PositionInRange, InRange}
 use Rattle.stage5_image.specs.ImageReading.{read-image}
 use Rattle.stage5_image.specs.ImageRoundTrip.{read-back}
 use Rattle.stage0_laws.specs.Members.{all-member}
 use Rattle.stage5_image.specs.NumberingLaws.{TailsInside, of-tail-members}
 use Rattle.stage5_image.specs.RowRanges.{TailsShort, rows-in-range, some-image-rows, image-row-count}
-use Rattle.stage5_image.specs.Unfolding.{StartUnfolds, DenotedRules}
+use Rattle.stage5_image.specs.Unfolding.{StartUnfolds, SpellDenoted, DenotedRules}
 use Rattle.stage5_image.specs.UnfoldingLaws.{OnePerToken, image-unfolds}
 
 -- ---- the normal form as fusion and numbering want it
@@ -47,16 +50,22 @@ normal-form-one d n p q m k h = ap (λ (r : Production). r .tail) ((normal-form-
 
 -- ---- what the start unfolds to
 
--- The image's start unfolds to exactly the rule sequences that spell a token sequence which the expression denotes.
-pub image-denotes : (s : Sheet) {a : LanguageType} → Closed (s .tokens) 0 (s .expression) → [] ⊢ s .expression ∶ a → (ks : List ℕ)
-    → StartUnfolds ((image-of s) .rows) ks ↔ DenotedRules s ks
-unfolding image-of
-image-denotes s c d ks =
+-- With the rules numbered as they stand.
+plain-denotes : (s : Sheet) {a : LanguageType} → Closed (s .tokens) 0 (s .expression) → [] ⊢ s .expression ∶ a → (ks : List ℕ)
+    → StartUnfolds ((plain-image s) .rows) ks ↔ SpellDenoted (s .rules) (s .expression) ks
+unfolding plain-image
+plain-denotes s c d ks =
     let e = s .expression in
     let image = image-unfolds (s .rules) (normal-form e) (normal-form-inside e (s .tokens) c) (normal-form-some e) (normal-form-one d) ks in (
       λ u. let r = image .0 u in (r .0, normalization-sound d (r .0) .1 (r .1), r .2),
       λ r. image .1 (r .0, normalization-sound d (r .0) .0 (r .1), r .2),
     )
+
+-- The image's start unfolds to exactly the rule sequences that spell a token sequence which the expression denotes.
+pub image-denotes : (s : Sheet) {a : LanguageType} → Closed (s .tokens) 0 (s .expression) → [] ⊢ s .expression ∶ a → (ks : List ℕ)
+    → StartUnfolds ((image-of s) .rows) ks ↔ DenotedRules s ks
+unfolding image-of words-first-sheet
+image-denotes s c d ks = plain-denotes (words-first-sheet s) c d ks
 
 -- ---- ranges
 
@@ -69,10 +78,10 @@ position-ranges rules count (p ∷ ps) b r f = (
   position-ranges rules count ps (b .1) (r .1) (f .1),
 )
 
-pub image-in-range : (s : Sheet) {a : LanguageType} → WithinLimits s → empty-match (s .rules) 0 ≡ none → [] ⊢ s .expression ∶ a
-    → InRange (image-of s)
-unfolding image-of
-image-in-range s w m d =
+pub plain-in-range : (s : Sheet) {a : LanguageType} → WithinLimits s → empty-match (s .rules) 0 ≡ none → [] ⊢ s .expression ∶ a
+    → InRange (plain-image s)
+unfolding plain-image
+plain-in-range s w m d =
     let e = s .expression in
     let l = length-map (s .rules) skips-rule in
     let rl = w .rules-least in
@@ -95,6 +104,18 @@ image-in-range s w m d =
       row-count = omega (arith, normal-form-length e);
       rows-in-range = rows-in-range (s .rules) (normal-form e) inside (normal-form-some e) short rm;
     }
+
+pub image-in-range : (s : Sheet) {a : LanguageType} → WithinLimits s → empty-match (s .rules) 0 ≡ none → [] ⊢ s .expression ∶ a
+    → InRange (image-of s)
+unfolding image-of words-first-sheet
+image-in-range s w m d = plain-in-range (words-first-sheet s) (ordered-limits s w) (ordered-empty-match (s .rules) m) d
+
+-- ---- the order of the rules
+
+-- Where no other rule stands above a word rule, the image is the one with the rules numbered as they stand.
+pub numbering-kept : (s : Sheet) → WordsAbove (s .rules) → image-of s ≡ plain-image s
+unfolding image-of words-first-sheet
+numbering-kept s h = ap (λ (rules : List Rule). plain-image (record { tokens = s .tokens; rules = rules; expression = s .expression })) (order-kept (s .rules) h)
 
 -- ---- the bytes
 

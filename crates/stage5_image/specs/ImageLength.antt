@@ -23,12 +23,14 @@ use Rattle.stage2_types.specs.Types.{LanguageType, _⊢_∶_}
 use Rattle.stage3_normal_form.specs.Productions.{Production, Row, row-of, most-tail}
 use Rattle.stage3_normal_form.specs.NormalForm.{normal-form}
 use Rattle.stage3_normal_form.specs.TailNodes.{tail-nodes, tails-within, tail-nodes-few}
+use Rattle.stage4_lexer.specs.RuleOrder.{words-first-sheet}
+use Rattle.stage4_lexer.specs.OrderedMatches.{ordered-empty-match, ordered-limits}
 use Rattle.stage4_lexer.specs.Positions.{Position, empty-match}
 use Rattle.stage5_image.specs.DistinctNodes.{distinct-few}
 use Rattle.stage5_image.specs.MetNodes.{first-met-member}
 use Rattle.stage5_image.specs.Fusion.{fused}
-use Rattle.stage5_image.specs.Image.{Image, image-of, flag, flag-numbers, position-numbers, production-numbers, row-numbers, image-numbers, image-bytes}
-use Rattle.stage5_image.specs.ImageLaws.{normal-form-inside, normal-form-some, image-in-range}
+use Rattle.stage5_image.specs.Image.{Image, plain-image, image-of, flag, flag-numbers, position-numbers, production-numbers, row-numbers, image-numbers, image-bytes}
+use Rattle.stage5_image.specs.ImageLaws.{normal-form-inside, normal-form-some, plain-in-range}
 use Rattle.stage5_image.specs.ImageNumbers.{all-numbers, flag-number, one-position-numbers, one-production-numbers, one-row-numbers, flags-are, positions-are, productions-are, rows-are}
 use Rattle.stage5_image.specs.ImageRanges.{PositionInRange, ProductionInRange, RowInRange, InRange}
 use Rattle.stage0_laws.specs.Members.{all-member, of-flatMap}
@@ -208,9 +210,9 @@ reached-within rules e tokens c n m =
         (subst (List·Memᴰ n) (f .same-tail) (p .2))
 
 -- At most the start and the nodes that stand in tails.
-pub nonterminals-few : (s : Sheet) → Closed (s .tokens) 0 (s .expression) → length ((image-of s) .rows) ≤ 1 + length (tail-nodes (s .expression) 0)
-unfolding image-of
-nonterminals-few s c =
+plain-few : (s : Sheet) → Closed (s .tokens) 0 (s .expression) → length ((plain-image s) .rows) ≤ 1 + length (tail-nodes (s .expression) 0)
+unfolding plain-image
+plain-few s c =
     let e = s .expression in
     let rows = fused (s .rules) (normal-form e) in
     let r = reached-fused (s .rules) (normal-form e) (normal-form-inside e (s .tokens) c) (normal-form-some e) in
@@ -218,17 +220,25 @@ nonterminals-few s c =
     omega (arith, numbered-count rows)
 
 -- So at most 32 nonterminals.
-pub nonterminals-at-most : (s : Sheet) {a : LanguageType} → WithinLimits s → [] ⊢ s .expression ∶ a → length ((image-of s) .rows) ≤ 32
-nonterminals-at-most s w d =
+plain-at-most : (s : Sheet) {a : LanguageType} → WithinLimits s → [] ⊢ s .expression ∶ a → length ((plain-image s) .rows) ≤ 32
+plain-at-most s w d =
     let most = w .nodes-most in
-    omega (arith, nonterminals-few s (w .closed), tail-nodes-few d)
+    omega (arith, plain-few s (w .closed), tail-nodes-few d)
+
+pub nonterminals-at-most : (s : Sheet) {a : LanguageType} → WithinLimits s → [] ⊢ s .expression ∶ a → length ((image-of s) .rows) ≤ 32
+unfolding image-of words-first-sheet
+nonterminals-at-most s w d = plain-at-most (words-first-sheet s) (ordered-limits s w) d
 
 -- 1,070 bytes, and so many for each of 32 nonterminals.
 abbrev pub most-image-bytes : ℕ
 most-image-bytes = 1070 + 32 * most-row-bytes
 
--- The image of a sheet that passes has at most so many.
+-- The image of a sheet that passes has at most so many, with the rules numbered as they stand and in the image's order.
+pub plain-fits : (s : Sheet) {a : LanguageType} → WithinLimits s → empty-match (s .rules) 0 ≡ none → [] ⊢ s .expression ∶ a
+    → length (image-bytes (plain-image s)) ≤ most-image-bytes
+plain-fits s w m d = omega (arith, image-width (plain-image s) (plain-in-range s w m d), plain-at-most s w d)
+
 pub image-fits : (s : Sheet) {a : LanguageType} → WithinLimits s → empty-match (s .rules) 0 ≡ none → [] ⊢ s .expression ∶ a
     → length (image-bytes (image-of s)) ≤ most-image-bytes
-image-fits s w m d =
-    omega (arith, image-width (image-of s) (image-in-range s w m d), nonterminals-at-most s w d)
+unfolding image-of words-first-sheet
+image-fits s w m d = plain-fits (words-first-sheet s) (ordered-limits s w) (ordered-empty-match (s .rules) m) d

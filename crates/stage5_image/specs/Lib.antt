@@ -19,6 +19,7 @@ pub mod NumberingLaws
 pub mod Simulation
 pub mod UnfoldingLaws
 pub mod ImageNumbers
+pub mod ImageExamples
 pub mod ReadableImages
 pub mod ImageRoundTrip
 pub mod FieldsLaws

@@ -2,11 +2,13 @@
 use mathlib.Core.Path.{_≡_}
 use mathlib.Core.List.{List, [], _∷_}
 use Prim.Native.Nat.{ℕ, suc}
+use Rattle.stage1_sheet.specs.Expression.{Expression}
 use Rattle.stage1_sheet.specs.Sheet.{Rule, Sheet}
 use Rattle.stage2_types.specs.Denotation.{Denotes}
 use Rattle.stage3_normal_form.specs.Productions.{Row}
 use Rattle.stage3_normal_form.specs.Unfolds.{Unfolds}
 use Rattle.stage4_lexer.specs.Words.{RuleAt}
+use Rattle.stage4_lexer.specs.RuleOrder.{words-first}
 
 -- The start unfolds to the rule sequence.
 abbrev pub StartUnfolds : List Row → List ℕ → Type 0
@@ -23,6 +25,10 @@ pub data SpellsTokens (rules : List Rule) : List ℕ → List ℕ → Type 0 whe
   no-tokens : SpellsTokens rules [] []
   token-more : {k t : ℕ} {ks ts : List ℕ} → Returns rules k t → SpellsTokens rules ks ts → SpellsTokens rules (k ∷ ks) (t ∷ ts)
 
--- Demand 2: "the rule sequences that spell a token sequence which the expression denotes"
+-- Demand 2: "the rule sequences that spell a token sequence which the expression denotes", by the numbers of the rules in a list.
+abbrev pub SpellDenoted : List Rule → Expression → List ℕ → Type 0
+SpellDenoted rules e ks = (ts : List ℕ) × Denotes e ts × SpellsTokens rules ks ts
+
+-- By the numbers that the image gives to a sheet's rules.
 abbrev pub DenotedRules : Sheet → List ℕ → Type 0
-DenotedRules s ks = (ts : List ℕ) × Denotes (s .expression) ts × SpellsTokens (s .rules) ks ts
+DenotedRules s = SpellDenoted (words-first (s .rules)) (s .expression)

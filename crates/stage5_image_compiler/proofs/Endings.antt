@@ -6,10 +6,14 @@ use native.Mathlib.Omega.{arith}
 use lib.ListN.{length, drop}
 use borrow.Author.Tests.{le-leb, lt-leb}
 use Rattle.stage1_sheet.specs.Sheet.{Sheet}
+use Rattle.stage1_sheet_columns.specs.Holds.{RulesOf}
+use Rattle.stage1_sheet_columns.specs.declared.RuleColumns.{RuleColumns}
 use Rattle.stage2_types.specs.Typing.{sheet-typed-iff}
 use Rattle.stage3_normal_form.specs.Derives.{derives}
 use Rattle.stage3_normal_form.specs.NormalForm.{normal-form}
 use Rattle.stage3_normal_form_walk.specs.Columns.{SetOf}
+use Rattle.stage4_lexer.specs.RuleOrder.{words-first, words-first-sheet}
+use Rattle.stage4_lexer.specs.OrderedMatches.{ordered-empty-match, ordered-limits}
 use Rattle.stage4_lexer.specs.PositionBounds.{positions-in-range}
 use Rattle.stage4_lexer_columns.specs.declared.PositionColumns.{PositionColumns}
 use Rattle.stage4_lexer_sets.specs.Answer.{PositionsOf}
@@ -17,8 +21,8 @@ use Rattle.stage5_image.specs.Check as check
 use Rattle.stage5_image.specs.Write as page
 use Rattle.stage5_image.specs.Write.{fitted, after-checking, write-answer, image-after}
 use Rattle.stage5_image.specs.Fusion.{fused}
-use Rattle.stage5_image.specs.Image.{image-of, image-bytes}
-use Rattle.stage5_image.specs.ImageLength.{image-fits}
+use Rattle.stage5_image.specs.Image.{plain-image, image-of, image-bytes}
+use Rattle.stage5_image.specs.ImageLength.{plain-fits}
 use Rattle.stage5_image.specs.Numbering.{reached}
 use Rattle.stage5_image_checker.specs.Answer as checker
 use Rattle.stage5_image_checker.specs.Steps.{PassedParts}
@@ -42,9 +46,24 @@ module _ (s : Sheet) (k : CheckedSheet) (h : PassedParts s k) where
       grammar-of s (k .rules) (h .places) (k .links) (k .types) productive (h .limits) (h .rules-held) (h .linked) (h .typed) (h .no-fault) set
 
   -- The image of a sheet that passed fits in 65,536 bytes.
-  pub room-for-any : (buffer : List ℕ) → 65536 ≤ length buffer → length (image-bytes (image-of s)) ≤ length buffer
+  pub room-for-any : (buffer : List ℕ) → 65536 ≤ length buffer → length (image-bytes (plain-image s)) ≤ length buffer
   room-for-any buffer l =
-      omega (arith, l, image-fits s (h .limits) (h .no-empty) (sheet-typed-iff s (h .limits) .0 (h .no-fault) .1))
+      omega (arith, l, plain-fits s (h .limits) (h .no-empty) (sheet-typed-iff s (h .limits) .0 (h .no-fault) .1))
+
+  -- With the rules in the image's order, the sheet in that order has passed.
+  pub ordered-parts : (rules : RuleColumns) → (moved : List ℕ) × RulesOf rules (words-first (s .rules)) moved
+      → PassedParts (words-first-sheet s) (record { verdict = Passed; rules = rules; links = k .links; types = k .types })
+  unfolding words-first-sheet
+  ordered-parts rules held = record {
+    places = held .0;
+    limits = ordered-limits s (h .limits);
+    rules-held = held .1;
+    links-most = h .links-most;
+    linked = h .linked;
+    typed = h .typed;
+    no-empty = ordered-empty-match (s .rules) (h .no-empty);
+    no-fault = h .no-fault;
+  }
 
   module _ (p : PositionColumns) (f : PositionsOf (s .rules) p) where
     pub positions-most : p .count ≤ 64
@@ -93,8 +112,8 @@ passed-parts (check.failed number at) k h e = let y : _≡_ {A = ℕ} 0 1 = cc i
 passed-parts (check.passed s) k h e = (s, refl, h .1)
 
 pub ends-passed : (v : check.Verdict) (s : Sheet) (room : ℕ) {r : Written} {entry exit : List ℕ} → v ≡ check.passed s
-    → Ends (fitted room (image-bytes (image-of s))) r entry exit → Ends (after-checking room v) r entry exit
-unfolding after-checking
+    → Ends (fitted room (image-bytes (plain-image (words-first-sheet s)))) r entry exit → Ends (after-checking room v) r entry exit
+unfolding after-checking image-of
 ends-passed v s room e h = rw e h
 
 -- What writing promises, with the work area that it leaves.

@@ -1,12 +1,13 @@
-// Writing a sheet's image: the sheet is checked, then question 11 is put, and then the image is written into its buffer. Questions 1 to
-// 10 are the checker's, and no earlier verdict is trusted.
+// Writing a sheet's image: the sheet is checked, its rules are put into the image's order, then question 11 is put, and then the image is
+// written into its buffer. Questions 1 to 10 are the checker's, and no earlier verdict is trusted.
 use stage5_image_checker::CheckedSheet;
 use stage5_image_checker::Verdict;
 use stage5_image_numbering::Grammar;
 ghost use mathlib.Core.Path.{_≡_};
 ghost use lib.ListN.{length};
 ghost use Rattle.stage1_sheet.specs.Sheet.{Sheet};
-ghost use Rattle.stage5_image.specs.Image.{image-of, image-bytes};
+ghost use Rattle.stage4_lexer.specs.RuleOrder.{words-first-sheet};
+ghost use Rattle.stage5_image.specs.Image.{plain-image, image-bytes};
 ghost use Rattle.stage5_image.specs.Check.{work-after};
 ghost use Rattle.stage5_image.specs.Write.{fitted, write, write-answer, write-numbers, image-after, written-part};
 ghost use Rattle.stage5_image_checker.specs.Steps.{PassedParts};
@@ -24,6 +25,23 @@ pub enum Written {
     Refused(u8, usize),
 }
 
+// A sheet that passed, with its rules in the image's order. The questions were asked before, in the order of the sheet.
+fn in_image_order(checked: CheckedSheet) -> CheckedSheet
+    requires { ⌜ ((s : Sheet) × PassedParts s checked) ⌝ }
+    ensures { λ r. ⌜ ((s : Sheet) → PassedParts s checked → PassedParts (words-first-sheet s) r) ⌝ }
+{
+    let rules = checked.rules;
+    let links = checked.links;
+    let types = checked.types;
+    let ordered = stage4_lexer_order::words_first(rules);
+    CheckedSheet {
+        verdict: Verdict::Passed,
+        rules: ordered,
+        links,
+        types,
+    }
+}
+
 // The columns from which productions are found.
 fn grammar_of(checked: CheckedSheet) -> Grammar
     requires { ⌜ ((s : Sheet) × PassedParts s checked) ⌝ }
@@ -36,12 +54,12 @@ fn grammar_of(checked: CheckedSheet) -> Grammar
     stage5_image_numbering::grammar_from(rules, links, types, productive)
 }
 
-// Question 11, asked before the first byte is written, and the image. In a buffer of so many bytes every image fits, so the image is
-// measured only for a shorter one.
+// Question 11, asked before the first byte is written, and the image, with the rules numbered as they stand in the columns. In a buffer of so
+// many bytes every image fits, so the image is measured only for a shorter one.
 fn write_if_fits(checked: CheckedSheet, image: &mut [u8]) -> Written
     requires { ⌜ ((s : Sheet) × PassedParts s checked) ⌝ }
     ensures { λ r. ⌜ ((s : Sheet) → PassedParts s checked
-        → Ends (fitted (length (now (image .entry))) (image-bytes (image-of s))) r (now (image .entry)) (now (image .exit))) ⌝ }
+        → Ends (fitted (length (now (image .entry))) (image-bytes (plain-image s))) r (now (image .entry)) (now (image .exit))) ⌝ }
 {
     let rules = checked.rules;
     let positions = stage4_lexer_sets::positions_of(rules);
@@ -71,7 +89,10 @@ pub fn write(sheet: &[u8], work: &mut [u8], image: &mut [u8]) -> Written
     let verdict = checked.verdict;
     match verdict {
         Verdict::Failed(question, place) => Written::Refused(question, place),
-        Verdict::Passed => write_if_fits(checked, image),
+        Verdict::Passed => {
+            let ordered = in_image_order(checked);
+            write_if_fits(ordered, image)
+        }
     }
 }
 

@@ -20,7 +20,7 @@ use Rattle.stage4_lexer.specs.Positions.{Position, positions}
 use Rattle.stage4_lexer_columns.specs.Held.{held-position, held-from, held-positions}
 use Rattle.stage4_lexer_columns.specs.declared.PositionColumns.{PositionColumns}
 use Rattle.stage5_image.specs.Fusion.{fused-row, fused}
-use Rattle.stage5_image.specs.Image.{Image, skips-rule, image-of, image-bytes, flag, flag-numbers, position-numbers, row-numbers, image-numbers}
+use Rattle.stage5_image.specs.Image.{Image, skips-rule, plain-image, image-bytes, flag, flag-numbers, position-numbers, row-numbers, image-numbers}
 use Rattle.stage5_image.specs.ImageLaws.{normal-form-inside, normal-form-some}
 use Rattle.stage5_image.specs.ImageNumbers.{flag-number, one-position-numbers, one-row-numbers, flags-are, positions-are, rows-are}
 use Rattle.stage5_image.specs.MetNodes.{Met, met-at}
@@ -163,8 +163,8 @@ same-parts {r} {r'} {p} {p'} {f} {f'} {n} {n'} {a} {a'} {b} {b'} {d} {d'} e1 e2 
     (f ∷ n ∷ d)))) ≡ 1 ∷ r' ∷ (a' ++ (p' ∷ (b' ++ (f' ∷ n' ∷ d')))) = cc in z)
 
 module _ (g : Grammar) (p : PositionColumns) (c : Numbering) (s : Sheet) (h : PartsOf g p c s) where
-  parts-numbers : rules-part g ++ (positions-part p ++ rows-part c (s .rules) (s .expression)) ≡ image-numbers (image-of s)
-  unfolding rules-part positions-part rows-part image-numbers image-of
+  parts-numbers : rules-part g ++ (positions-part p ++ rows-part c (s .rules) (s .expression)) ≡ image-numbers (plain-image s)
+  unfolding rules-part positions-part rows-part image-numbers plain-image
   parts-numbers = same-parts
       (rules-count g (s .rules) (s .expression) (h .grammar)) (skips-are g (s .rules) (s .expression) (h .grammar))
       (positions-count p (positions (s .rules)) (h .positions-held)) (places-are p (positions (s .rules)) (h .positions-held))
@@ -173,7 +173,7 @@ module _ (g : Grammar) (p : PositionColumns) (c : Numbering) (s : Sheet) (h : Pa
       (h .numbers))
 
   pub image-emitted : {a b d f : List ℕ} {at v n m : ℕ} → Emitted a b at v (rules-part g) → Emitted b d v n (positions-part p)
-      → Emitted d f n m (rows-part c (s .rules) (s .expression)) → Emitted a f at m (image-numbers (image-of s))
+      → Emitted d f n m (rows-part c (s .rules) (s .expression)) → Emitted a f at m (image-numbers (plain-image s))
   image-emitted x y z = emitted-same parts-numbers (emitted-append x (emitted-append y z))
 
   -- The nodes of the numbering are nodes of the expression.

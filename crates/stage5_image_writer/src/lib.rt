@@ -15,7 +15,7 @@ ghost use Rattle.stage1_sheet.specs.Sheet.{Rule, Sheet};
 ghost use Rattle.stage3_normal_form.specs.Productions.{row-of};
 ghost use Rattle.stage3_normal_form.specs.NormalForm.{normal-form};
 ghost use Rattle.stage5_image.specs.Fusion.{fused-from};
-ghost use Rattle.stage5_image.specs.Image.{flag, production-numbers, image-of, image-numbers, image-bytes};
+ghost use Rattle.stage5_image.specs.Image.{flag, production-numbers, plain-image, image-numbers, image-bytes};
 ghost use Rattle.stage5_image_numbering.specs.Grammar.{GrammarOf};
 ghost use Rattle.stage5_image_writer.specs.Emitted.{Emitted};
 ghost use Rattle.stage5_image_writer.specs.Parts.{rules-part, positions-part, production-part, productions-part};
@@ -246,7 +246,7 @@ fn emit_image(
 ) -> usize
     requires { ⌜ ((s : Sheet) × PartsOf grammar positions numbering s × (positions .count ≤ 64) × (numbering .count ≤ 64)) ⌝ }
     ensures { λ r. ⌜ ((s : Sheet) → PartsOf grammar positions numbering s
-        → Emitted (now (image .entry)) (now (image .exit)) 0 r (image-numbers (image-of s))) ⌝ }
+        → Emitted (now (image .entry)) (now (image .exit)) 0 r (image-numbers (plain-image s))) ⌝ }
 {
     let after_rules = emit_rules(image, 0, grammar);
     let after_positions = emit_positions(image, after_rules, positions);
@@ -256,7 +256,7 @@ fn emit_image(
 // How many bytes the image takes. The numbers are written nowhere but into one byte that is thrown away.
 pub fn image_width(grammar: Grammar, positions: PositionColumns, numbering: Numbering) -> usize
     requires { ⌜ ((s : Sheet) × PartsOf grammar positions numbering s × (positions .count ≤ 64) × (numbering .count ≤ 64)) ⌝ }
-    ensures { λ r. ⌜ ((s : Sheet) → PartsOf grammar positions numbering s → r ≡ length (image-bytes (image-of s))) ⌝ }
+    ensures { λ r. ⌜ ((s : Sheet) → PartsOf grammar positions numbering s → r ≡ length (image-bytes (plain-image s))) ⌝ }
 {
     let mut none = [0u8; 1];
     emit_image(&mut none, grammar, positions, numbering)
@@ -270,11 +270,11 @@ pub fn write_image(
     numbering: Numbering,
 ) -> usize
     requires { ⌜ ((s : Sheet) × PartsOf grammar positions numbering s
-        × (length (image-bytes (image-of s)) ≤ length (now image)) × (positions .count ≤ 64) × (numbering .count ≤ 64)) ⌝ }
+        × (length (image-bytes (plain-image s)) ≤ length (now image)) × (positions .count ≤ 64) × (numbering .count ≤ 64)) ⌝ }
     ensures { λ r. ⌜ ((s : Sheet) → PartsOf grammar positions numbering s
-        → length (image-bytes (image-of s)) ≤ length (now (image .entry))
-        → (r ≡ length (image-bytes (image-of s)))
-        × (now (image .exit) ≡ image-bytes (image-of s) ++ drop (length (image-bytes (image-of s))) (now (image .entry)))) ⌝ }
+        → length (image-bytes (plain-image s)) ≤ length (now (image .entry))
+        → (r ≡ length (image-bytes (plain-image s)))
+        × (now (image .exit) ≡ image-bytes (plain-image s) ++ drop (length (image-bytes (plain-image s))) (now (image .entry)))) ⌝ }
 {
     emit_image(image, grammar, positions, numbering)
 }

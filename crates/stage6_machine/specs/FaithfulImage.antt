@@ -1,5 +1,5 @@
--- The image of a typed sheet whose rules match no empty text is faithful to the sheet: it has the four facts from which a run
--- gives the sheet's own answer.
+-- The image of a typed sheet whose rules match no empty text, numbered as they stand, is faithful to the sheet: it has the four facts from
+-- which a run gives the sheet's own answer by number.
 use mathlib.Core.Path.{_≡_, refl, sym, ap, subst, _∙_}
 use mathlib.Core.Bool.{Bool, true, false}
 use mathlib.Core.List.{List, [], _∷_, _++_, map, append-nil, append-assoc}
@@ -30,7 +30,7 @@ use Rattle.stage5_image.specs.Numbering.{reached, number-of, numbered}
 use Rattle.stage5_image.specs.MetNodes.{Met}
 use Rattle.stage5_image.specs.Simulation.{Simulates, image-simulates}
 use Rattle.stage5_image.specs.ImageLaws.{normal-form-inside, normal-form-some}
-use Rattle.stage5_image.specs.Image.{Image, image-of, skips-rule}
+use Rattle.stage5_image.specs.Image.{Image, plain-image, skips-rule}
 use Rattle.stage5_image.specs.Unfolding.{Returns}
 use Rattle.stage6_machine.specs.Turn.{take-rule, all-nullable}
 use Rattle.stage6_machine.specs.OwnAnswer.{Allowed, ActionOf}
@@ -76,8 +76,8 @@ module _ (s : Sheet) {a : LanguageType} (limits : WithinLimits s) (typed : [] �
   }
 
   ends : (pending tokens : List ℕ) → StandsFor pending tokens
-      → (all-nullable ((image-of s) .rows) pending ≡ true) ↔ Denotes e tokens
-  unfolding image-of
+      → (all-nullable ((plain-image s) .rows) pending ≡ true) ↔ Denotes e tokens
+  unfolding plain-image
   ends pending tokens h =
       let n = nullable-same (s .rules) (normal-form e) (numbered (fused (s .rules) (normal-form e))) number Known same (h .nodes) (h .known) in
       let x = end-exact (language-of e) (row-of (normal-form e)) (normal-form-fits typed) (h .nodes) in
@@ -101,8 +101,8 @@ module _ (s : Sheet) {a : LanguageType} (limits : WithinLimits s) (typed : [] �
   )
 
   takes-right : (pending tokens : List ℕ) (k t : ℕ) → StandsFor pending tokens → ActionOf s k (suc t)
-      → TakenIs s StandsFor pending tokens t (take-rule ((image-of s) .rows) pending k)
-  unfolding image-of
+      → TakenIs s StandsFor pending tokens t (take-rule ((plain-image s) .rows) pending k)
+  unfolding plain-image
   takes-right pending tokens k t h act =
       let r : Returns (s .rules) k t = record { rule = act .0; at = act .1; returns = act .2 } in
       let x = taken (s .rules) (normal-form e) (numbered (fused (s .rules) (normal-form e))) number Known same t k r (h .nodes) (h .known) in
@@ -111,8 +111,8 @@ module _ (s : Sheet) {a : LanguageType} (limits : WithinLimits s) (typed : [] �
       ap (λ (l : List ℕ). take-rule (numbered (fused (s .rules) (normal-form e))) l k) (h .pending-are) ∙ x .numbered in
       rw o (after-step pending tokens h t (x .after) step (x .known) (pending-grows typed (limits .nodes-most) (x .token-step)))
 
-  pub image-faithful : empty-match (s .rules) 0 ≡ none → Faithful s (image-of s) StandsFor
-  unfolding image-of
+  pub image-faithful : empty-match (s .rules) 0 ≡ none → Faithful s (plain-image s) StandsFor
+  unfolding plain-image
   image-faithful no-empty = record {
     matching = match-right (s .rules) no-empty;
     skipping = λ k r at. skip-flag at;

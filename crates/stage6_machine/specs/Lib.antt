@@ -9,6 +9,7 @@ pub mod Computing
 pub mod TurnLaws
 pub mod RunsLaws
 pub mod OwnAnswerLaws
+pub mod OrderedAnswers
 pub mod AcceptanceLaws
 pub mod SpelledOutAnswers
 pub mod TakingLaws

@@ -6,26 +6,24 @@ use native.Mathlib.Omega.{arith}
 use lib.ListN.{length, drop}
 use Rattle.stage1_sheet.specs.Sheet.{Rule, Sheet}
 use Rattle.stage2_types.specs.Denotation.{Denotes}
-use Rattle.stage4_lexer.specs.Words.{RuleAt, first-rule, later-rule, LongestMatch, NoMatch}
+use Rattle.stage4_lexer.specs.Words.{RuleAt}
+use Rattle.stage4_lexer.specs.RuleOrder.{Order, by-kind}
+use Rattle.stage4_lexer.specs.LongestMatch.{LongestMatch, NoMatch}
+use Rattle.stage4_lexer.specs.RuleOrderLaws.{rule-one}
 use Rattle.stage4_lexer.specs.LongestMatchLaws.{longest-one, longest-not-none}
 use Rattle.stage6_machine.specs.Answer.{Answer, answer}
 use Rattle.stage6_machine.specs.OwnAnswer.{Allowed, ActionOf, AnswersFrom, accepts, ends-early, no-rule, skips, takes, refuses, OwnAnswer}
 
--- A rule's number names one rule.
-pub rule-one : {rs : List Rule} {k : ℕ} {r q : Rule} → RuleAt rs k r → RuleAt rs k q → r ≡ q
-rule-one first-rule first-rule = refl
-rule-one (later-rule a) (later-rule b) = rule-one a b
-
-module _ (s : Sheet) (text : List ℕ) where
+module _ (order : Order) (s : Sheet) (text : List ℕ) where
   -- One longest match, and so one action.
-  same-action : {rest : List ℕ} {k n a j m b : ℕ} → LongestMatch (s .rules) rest k n → ActionOf s k a
-      → LongestMatch (s .rules) rest j m → ActionOf s j b → (n ≡ m) × (a ≡ b)
+  same-action : {rest : List ℕ} {k n a j m b : ℕ} → LongestMatch order (s .rules) rest k n → ActionOf s k a
+      → LongestMatch order (s .rules) rest j m → ActionOf s j b → (n ≡ m) × (a ≡ b)
   same-action {rest} {k} {n} {a} {j} {m} {b} x u y v =
       let e = longest-one x y in
       let w : RuleAt (s .rules) j (u .0) = subst (λ i. RuleAt (s .rules) i (u .0)) (e .0) (u .1) in
       (e .1, sym (u .2) ∙ ap (λ r. r .action) (rule-one w (v .1)) ∙ v .2)
 
-  pub answers-one : {p : ℕ} {tokens : List ℕ} {a b : Answer} → AnswersFrom s text p tokens a → AnswersFrom s text p tokens b → a ≡ b
+  pub answers-one : {p : ℕ} {tokens : List ℕ} {a b : Answer} → AnswersFrom order s text p tokens a → AnswersFrom order s text p tokens b → a ≡ b
   answers-one (accepts e d) (accepts f c) = refl
   answers-one (accepts e d) (ends-early f c) = absurd (c d)
   answers-one (accepts e d) (no-rule l c) = absurd (omega arith)
@@ -48,7 +46,7 @@ module _ (s : Sheet) (text : List ℕ) where
   answers-one (skips k n l x u r) (ends-early f d) = absurd (omega arith)
   answers-one (skips k n l x u r) (no-rule m c) = absurd (longest-not-none x c)
   answers-one (skips {p = p} {tokens = tokens} k n l x u r) (skips {a = b} j m i y v q) =
-      answers-one r (subst (λ z. AnswersFrom s text (p + z) tokens b) (same-action y v x u .0) q)
+      answers-one r (subst (λ z. AnswersFrom order s text (p + z) tokens b) (same-action y v x u .0) q)
   answers-one (skips k n l x u r) (takes j m t i y v c q) = absurd (let e = same-action x u y v .1 in omega arith)
   answers-one (skips k n l x u r) (refuses j m t i y v c) = absurd (let e = same-action x u y v .1 in omega arith)
   answers-one (takes k n t l x u c r) (accepts f d) = absurd (omega arith)
@@ -58,8 +56,8 @@ module _ (s : Sheet) (text : List ℕ) where
   answers-one (takes {p = p} {tokens = tokens} k n t l x u c r) (takes {a = b} j m t' i y v d q) =
       let e = same-action y v x u in
       let f : t' ≡ t = (let g = e .1 in omega arith) in
-      answers-one r (subst (λ z. AnswersFrom s text (p + z) (tokens ++ (t ∷ [])) b) (e .0)
-      (subst (λ z. AnswersFrom s text (p + m) (tokens ++ (z ∷ [])) b) f q))
+      answers-one r (subst (λ z. AnswersFrom order s text (p + z) (tokens ++ (t ∷ [])) b) (e .0)
+      (subst (λ z. AnswersFrom order s text (p + m) (tokens ++ (z ∷ [])) b) f q))
   answers-one (takes {tokens = tokens} k n t l x u c r) (refuses j m t' i y v d) =
       absurd (d (subst (Allowed s tokens) (let g = same-action x u y v .1 in let f : t ≡ t' = omega arith in f) c))
   answers-one (refuses k n t l x u c) (accepts f d) = absurd (omega arith)
@@ -70,5 +68,5 @@ module _ (s : Sheet) (text : List ℕ) where
       absurd (c (subst (Allowed s tokens) (let g = same-action x u y v .1 in let f : t' ≡ t = omega arith in f) d))
   answers-one (refuses k n t l x u c) (refuses j m t' i y v d) = refl
 
-  pub own-answer-one : {a b : Answer} → OwnAnswer s text a → OwnAnswer s text b → a ≡ b
-  own-answer-one = answers-one
+pub own-answer-one : (s : Sheet) (text : List ℕ) {a b : Answer} → OwnAnswer s text a → OwnAnswer s text b → a ≡ b
+own-answer-one s text = answers-one by-kind s text

@@ -1,6 +1,6 @@
--- A run gives the sheet's own answer, by one induction over the run, from four facts about the image: it finds the longest
+-- A run gives a sheet's own answer by number, by one induction over the run, from four facts about the image: it finds the longest
 -- match, it knows which rules skip, taking a rule agrees with what the expression still allows, and so does ending.
--- That an accepted sheet's image has these facts is shown elsewhere.
+-- That the image of a sheet whose rules stand in its order has these facts is shown elsewhere.
 use mathlib.Core.Path.{_≡_, refl, sym, ap, subst, _∙_}
 use mathlib.Core.Bool.{Bool, true, false, true≢false}
 use mathlib.Core.List.{List, [], _∷_, _++_}
@@ -14,7 +14,9 @@ use borrow.Author.Tests.{le-ltb, eq-eqb, ne-eqb}
 use Rattle.stage1_sheet.specs.Sheet.{Rule, Sheet}
 use Rattle.stage2_types.specs.Denotation.{Denotes}
 use Rattle.stage3_normal_form.specs.Productions.{most-growth}
-use Rattle.stage4_lexer.specs.Words.{RuleAt, LongestMatch, NoMatch}
+use Rattle.stage4_lexer.specs.Words.{RuleAt}
+use Rattle.stage4_lexer.specs.RuleOrder.{by-number}
+use Rattle.stage4_lexer.specs.LongestMatch.{LongestMatch, NoMatch}
 use Rattle.stage4_lexer.specs.Match.{Match, no-match, matched}
 use Rattle.stage4_lexer.specs.Walk.{longest-match}
 use Rattle.stage4_lexer.specs.LongestMatchLaws.{Right}
@@ -24,7 +26,7 @@ use Rattle.stage6_machine.specs.Turn.{take-rule, all-nullable}
 use Rattle.stage6_machine.specs.Run.{match-at, run-image, long-enough}
 use Rattle.stage6_machine.specs.Runs.{RunsFrom, nullable-at-end, pending-at-end, nothing-matched, rule-skipped, rule-untaken, stack-overflowed, rule-taken}
 use Rattle.stage6_machine.specs.RunsLaws.{start-runs}
-use Rattle.stage6_machine.specs.OwnAnswer.{Allowed, ActionOf, AnswersFrom, accepts, ends-early, no-rule, skips, takes, refuses, OwnAnswer}
+use Rattle.stage6_machine.specs.OwnAnswer.{Allowed, ActionOf, AnswersFrom, accepts, ends-early, no-rule, skips, takes, refuses, OwnAnswerByNumber}
 
 -- What taking a token's rule answers: refused, and no denoted sequence goes on with the token; or taken, some does, and the
 -- pending ones that are left stand for the tokens with it. `StandsFor pending tokens` is what they stand for.
@@ -53,7 +55,7 @@ module _ (s : Sheet) (text : List ℕ) (image : Image) (entries : ℕ) (StandsFo
 
   -- A match that the image finds is the sheet's, with the action of its rule.
   record MatchFound (p rule n : ℕ) : Type 0 where
-    longest : LongestMatch (s .rules) (drop p text) rule n
+    longest : LongestMatch by-number (s .rules) (drop p text) rule n
     some-bytes : 0 < n
     further : p + n ≤ length text
     action : ℕ
@@ -93,7 +95,7 @@ module _ (s : Sheet) (text : List ℕ) (image : Image) (entries : ℕ) (StandsFo
   few-next p count pending next l c f g = (omega arith, omega (arith, room))
 
   runs-answer : {p : ℕ} {pending : List ℕ} {count : ℕ} {a : Answer} → RunsFrom image text entries p pending count a → (tokens : List ℕ)
-      → Here p pending tokens count → AnswersFrom s text p tokens a
+      → Here p pending tokens count → AnswersFrom by-number s text p tokens a
   runs-answer (nullable-at-end {pending = pending} e n) tokens h =
       rw (h .counted) (accepts e (faithful .ending pending tokens (h .stands) .0 n))
   runs-answer (pending-at-end {pending = pending} e n) tokens h =
@@ -134,6 +136,6 @@ module _ (s : Sheet) (text : List ℕ) (image : Image) (entries : ℕ) (StandsFo
       }))
 
   -- From the start: nonterminal 0 alone stands for no tokens yet.
-  pub runs-own-answer : StandsFor (0 ∷ []) [] → {a : Answer} → RunsFrom image text entries 0 (0 ∷ []) 0 a → OwnAnswer s text a
+  pub runs-own-answer : StandsFor (0 ∷ []) [] → {a : Answer} → RunsFrom image text entries 0 (0 ∷ []) 0 a → OwnAnswerByNumber s text a
   runs-own-answer start r =
       runs-answer r [] (record { inside = omega arith; counted = refl; stands = start; few = omega arith; earlier = omega arith })

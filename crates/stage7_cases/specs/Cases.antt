@@ -74,5 +74,5 @@ cases =
     -- (S·μβ.(ε ∨ N·β))·N, and with S last
     ∷ writes (with-expression (3 ∷ 3 ∷ 2 ∷ 1 ∷ 5 ∷ 4 ∷ 0 ∷ 3 ∷ 2 ∷ 0 ∷ 6 ∷ 0 ∷ 2 ∷ 0 ∷ [])) (refused 9 20)
     ∷ writes (with-expression (3 ∷ 3 ∷ 2 ∷ 1 ∷ 5 ∷ 4 ∷ 0 ∷ 3 ∷ 2 ∷ 0 ∷ 6 ∷ 0 ∷ 2 ∷ 1 ∷ []))
-    (written (rules-of-image-D ++ (4 ∷ 0 ∷ 1 ∷ 1 ∷ 2 ∷ 1 ∷ 2 ∷ 1 ∷ 1 ∷ 0 ∷ 1 ∷ 3 ∷ 0 ∷ 1 ∷ 1 ∷ 0 ∷ 1 ∷ 1 ∷ 0 ∷ 1 ∷ 3 ∷ [])))
+    (written (rules-of-image-D ++ (4 ∷ 0 ∷ 1 ∷ 0 ∷ 2 ∷ 1 ∷ 2 ∷ 1 ∷ 1 ∷ 2 ∷ 1 ∷ 3 ∷ 0 ∷ 1 ∷ 0 ∷ 0 ∷ 1 ∷ 1 ∷ 2 ∷ 1 ∷ 3 ∷ [])))
     ∷ []

@@ -1,5 +1,5 @@
 -- Every row of the four tables of worked cases holds: what is computed of a row, and, by the demands, what follows for the sheet that
--- its bytes spell. The rows themselves stand in `Cases`, `RepetitionCases`, `CheckCases` and `PaddingCases`.
+-- its bytes spell. The rows themselves stand in `Cases`, `RepetitionCases`, `CheckCases`, `PaddingCases` and `WordCases`.
 use mathlib.Core.Path.{_≡_, refl, sym, ap, subst, _∙_}
 use mathlib.Core.List.{List, [], _∷_, _++_}
 use Prim.Native.Nat.{ℕ, zero, suc, _+_, _*_, _≤_}
@@ -36,6 +36,8 @@ use Rattle.stage7_cases.specs.Cases.{Case, writes, writes-with, checks, 
 use Rattle.stage7_cases.specs.RepetitionCases.{image-of-counts, image-of-numbers, repetition-cases}
 use Rattle.stage7_cases.specs.CheckCases.{check-cases}
 use Rattle.stage7_cases.specs.PaddingCases.{in-ten, padding-cases}
+use Rattle.stage7_cases.specs.WordCases.{image-word-below, image-name-above, image-first-if, image-second-if, image-skipped-if}
+use Rattle.stage7_cases.specs.WordCases.{image-equal-words, image-wide-class, image-empty-then-a, word-cases}
 
 -- What is computed of a case: for a reading, the sheet's image and what the machine answers over it.
 abbrev Computes : Case → Type 0
@@ -160,6 +162,29 @@ padding-computed =
     & refl
     & tt
 
+word-computed : All Computes word-cases
+unfolding word-cases written-sheet computing-machine
+word-computed =
+    refl
+    & (image-word-below, refl, refl, tt, tt)
+    & (image-word-below, refl, refl, tt, tt)
+    & (image-name-above, refl, refl, tt, tt)
+    & (image-name-above, refl, refl, tt, tt)
+    & (image-first-if, refl, refl, tt, tt)
+    & (image-second-if, refl, refl, tt, tt)
+    & refl
+    & (image-skipped-if, refl, refl, tt, tt)
+    & (image-skipped-if, refl, refl, tt, tt)
+    & refl
+    & (image-equal-words, refl, refl, tt, tt)
+    & refl
+    & (image-wide-class, refl, refl, tt, tt)
+    & refl
+    & (image-empty-then-a, refl, refl, tt, tt)
+    & refl
+    & refl
+    & tt
+
 -- Every row holds.
 pub cases-hold : All Holds cases
 cases-hold = all-hold cases all-computed
@@ -172,6 +197,9 @@ check-cases-hold = all-hold check-cases check-computed
 
 pub padding-cases-hold : All Holds padding-cases
 padding-cases-hold = all-hold padding-cases padding-computed
+
+pub word-cases-hold : All Holds word-cases
+word-cases-hold = all-hold word-cases word-computed
 
 -- ---- sheet D and a twin
 

@@ -14,14 +14,14 @@ counts = with-expression (3 ∷ 2 ∷ 0 ∷ 7 ∷ 3 ∷ 2 ∷ 1 ∷ 2 ∷ 0 ∷ 
 
 abbrev pub image-of-counts : List ℕ
 image-of-counts =
-    rules-of-image-D ++ (3 ∷ 0 ∷ 1 ∷ 0 ∷ 1 ∷ 1 ∷ 1 ∷ 1 ∷ 1 ∷ 2 ∷ 2 ∷ 1 ∷ 0 ∷ 1 ∷ 0 ∷ 0 ∷ [])
+    rules-of-image-D ++ (3 ∷ 0 ∷ 1 ∷ 2 ∷ 1 ∷ 1 ∷ 1 ∷ 1 ∷ 0 ∷ 2 ∷ 2 ∷ 1 ∷ 0 ∷ 1 ∷ 2 ∷ 0 ∷ [])
 
 -- (N)*, which names itself
 abbrev pub numbers : List ℕ
 numbers = with-expression (7 ∷ 2 ∷ 0 ∷ [])
 
 abbrev pub image-of-numbers : List ℕ
-image-of-numbers = rules-of-image-D ++ (1 ∷ 1 ∷ 1 ∷ 0 ∷ 1 ∷ 0 ∷ [])
+image-of-numbers = rules-of-image-D ++ (1 ∷ 1 ∷ 1 ∷ 2 ∷ 1 ∷ 0 ∷ [])
 
 unfoldable pub repetition-cases : List Case
 repetition-cases =
@@ -49,5 +49,5 @@ repetition-cases =
     -- (⊥)*: one nonterminal, ε flag 1, no production
     ∷ writes (with-expression (7 ∷ 1 ∷ [])) (written (rules-of-image-D ++ (1 ∷ 1 ∷ 0 ∷ [])))
     -- N·(⊥)*: it derives the empty sequence, so N's production stays
-    ∷ writes (with-expression (3 ∷ 2 ∷ 0 ∷ 7 ∷ 1 ∷ [])) (written (rules-of-image-D ++ (2 ∷ 0 ∷ 1 ∷ 0 ∷ 1 ∷ 1 ∷ 1 ∷ 0 ∷ [])))
+    ∷ writes (with-expression (3 ∷ 2 ∷ 0 ∷ 7 ∷ 1 ∷ [])) (written (rules-of-image-D ++ (2 ∷ 0 ∷ 1 ∷ 2 ∷ 1 ∷ 1 ∷ 1 ∷ 0 ∷ [])))
     ∷ []

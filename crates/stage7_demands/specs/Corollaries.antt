@@ -21,6 +21,7 @@ use Rattle.stage2_types.specs.SpelledOutDenotation.{spelled-out-denotes}
 use Rattle.stage2_types.specs.SpelledOutTyping.{spelled-out-has-type}
 use Rattle.stage4_lexer.specs.EmptyWord.{none-empty}
 use Rattle.stage4_lexer.specs.Words.{NoEmptyRule}
+use Rattle.stage4_lexer.specs.RuleOrder.{by-kind}
 use Rattle.stage5_image.specs.Image.{image-of}
 use Rattle.stage5_image.specs.ImageFields.{ReadableAs}
 use Rattle.stage5_image.specs.ImageLength.{image-fits}
@@ -61,7 +62,7 @@ module _ (f : Functions) (demand : Demand3 f) (sheet : List ℕ) (bytes : Bytes 
   -- "Otherwise the place named is the first where no rule matches, or whose token no denoted sequence allows after those before, or the
   -- end, and the count is that of the tokens before it."
   pub text-refused-place : (a .number ≡ 0 → ⊥)
-      → (tokens : List ℕ) × LexesTo s text (a .place) tokens × GoesNoFurther s text (a .place) tokens (a .number) × (a .count ≡ length tokens)
+      → (tokens : List ℕ) × LexesTo by-kind s text (a .place) tokens × GoesNoFurther s text (a .place) tokens (a .number) × (a .count ≡ length tokens)
   text-refused-place = refused-place s text a own
 
   -- If the expression denotes nothing, no text is accepted.

@@ -15,7 +15,8 @@ use Rattle.stage1_sheet.specs.Sheet.{Sheet}
 use Rattle.stage1_sheet.specs.WellFormed.{Spells}
 use Rattle.stage1_sheet.specs.Spelling.{Bytes}
 use Rattle.stage1_sheet.specs.Twins.{Twins, SamePlace}
-use Rattle.stage5_image.specs.Image.{image-of}
+use Rattle.stage4_lexer.specs.RuleOrder.{WordsAbove}
+use Rattle.stage5_image.specs.Image.{plain-image, image-of}
 use Rattle.stage5_image.specs.ImageFields.{ReadableAs}
 use Rattle.stage5_image.specs.Unfolding.{StartUnfolds, DenotedRules}
 use Rattle.stage5_image.specs.Check.{work-bytes, Verdict, failed, passed, CheckAnswer}
@@ -24,7 +25,8 @@ use Rattle.stage5_image.specs.Write.{Written, refused, too-long, written, Write
 use Rattle.stage5_image.specs.Writes.{Acceptable, Writes}
 use Rattle.stage6_machine.specs.Answer.{Answer}
 use Rattle.stage6_machine.specs.Run.{most-text-bytes, long-enough}
-use Rattle.stage6_machine.specs.OwnAnswer.{OwnAnswer}
+use Rattle.stage6_machine.specs.OwnAnswer.{OwnAnswer, OwnAnswerByNumber}
+use Rattle.stage6_machine.specs.Lexes.{ReadingChanges}
 use Rattle.stage6_machine.specs.Runs.{Runs}
 
 -- What checking, writing and running answer, and what the lent buffers hold at the end, as functions of all that is handed over. Checking
@@ -84,6 +86,7 @@ pub record Demand1 (f : Functions) : Type 0 where
 -- form that document 01 sets out, and its start unfolds to exactly the rule sequences that spell a token sequence which the
 -- expression denotes, each token spelled by any rule that returns it." In `Corollaries`, with repetitions spelled out as the published
 -- rules have it: `spelled-out-passes`, `spelled-out-accepted`, `spelled-out-unfolds`.
+-- A rule's number in the image is its place among the rules with the word rules first, each kind in sheet order.
 -- Accepted means accepted by writing. Checking asks all of it but that the image fits, and the last five fields hold of every work area.
 pub record Demand2 (f : Functions) : Type 0 where
   pub passed-exactly : (sheet : List ℕ) → Bytes sheet → (work : ℕ) → work-bytes ≤ work → (s : Sheet)
@@ -94,6 +97,10 @@ pub record Demand2 (f : Functions) : Type 0 where
       → (s : Sheet) → Spells sheet s → ReadableAs image (image-of s)
   pub unfolds-exactly : (sheet : List ℕ) → Bytes sheet → (work room : ℕ) (image : List ℕ) → f .write sheet work room ≡ written image
       → (s : Sheet) → Spells sheet s → (rules : List ℕ) → StartUnfolds ((image-of s) .rows) rules ↔ DenotedRules s rules
+  -- Where no other rule stands above a word rule, the image is the one with the rules numbered as they stand, as it was before request [4];
+  -- that one has one spelling too.
+  pub same-numbering : (sheet : List ℕ) → Bytes sheet → (work room : ℕ) (image : List ℕ) → f .write sheet work room ≡ written image
+      → (s : Sheet) → Spells sheet s → WordsAbove (s .rules) → ReadableAs image (plain-image s)
   -- "A sheet passes checking exactly if some image buffer is long enough for writing it."
   pub some-buffer : (sheet : List ℕ) (work : ℕ)
       → ((s : Sheet) × (f .check sheet work ≡ passed s)) ↔ ((room : ℕ) × (image : List ℕ) × (f .write sheet work room ≡ written image))
@@ -117,6 +124,8 @@ pub record Demand2 (f : Functions) : Type 0 where
 
 -- Demand 3. "Whatever bytes a text holds, for every sheet that demand 2 accepts, running the image fixed there over the text gives
 -- exactly the sheet's own answer .. Only, the text must be within the limit and the stack have at least 1 + 31 × its length entries."
+-- "Longest match in demand 3 means this order, and the sheet's own answer picks its rule by it": of equally long matches a word rule wins over
+-- any other, and of two of a kind the lower.
 -- What follows from it by name is in `Corollaries`: `text-accepted-iff`, `text-accepted-answer`, `text-refused-place`, `nothing-accepted`,
 -- `stack-never-short`, `spelled-out-answered`.
 pub record Demand3 (f : Functions) : Type 0 where
@@ -125,3 +134,10 @@ pub record Demand3 (f : Functions) : Type 0 where
       → (text : List ℕ) (entries : ℕ) → length text ≤ most-text-bytes → long-enough text ≤ entries
       → OwnAnswer s text (f .run image text entries)
   pub exactly : (s : Sheet) (text : List ℕ) (a b : Answer) → OwnAnswer s text a → OwnAnswer s text b → a ≡ b
+  -- "A reading changes only where a non-word rule stood above a word rule and both matched equally far": what running answers is what the
+  -- own answer was when the lowest rule was picked, or such a place is reached. Of one place: `stage4_lexer` OrderedMatches:
+  -- `match-changes-only`.
+  pub changes-only : (sheet : List ℕ) → Bytes sheet → (work room : ℕ) (image : List ℕ) → f .write sheet work room ≡ written image
+      → (s : Sheet) → Spells sheet s
+      → (text : List ℕ) (entries : ℕ) → length text ≤ most-text-bytes → long-enough text ≤ entries
+      → (a : Answer) → OwnAnswerByNumber s text a → (a ≡ f .run image text entries) ⊎ ReadingChanges s text

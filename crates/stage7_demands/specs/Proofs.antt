@@ -10,17 +10,19 @@ use lib.ListN.{length, drop, replicate, length-append, length-drop, length-repli
 use lib.Dec.{eqb, ltb}
 use borrow.Author.Tests.{le-ltb, ltb-false}
 use Rattle.stage1_sheet.specs.Sheet.{Sheet}
-use Rattle.stage1_sheet.specs.WellFormed.{Spells}
+use Rattle.stage1_sheet.specs.WellFormed.{WithinLimits, Spells}
 use Rattle.stage1_sheet.specs.Spelling.{Bytes}
 use Rattle.stage1_sheet.specs.ReadingLaws.{spelled-once}
+use Rattle.stage4_lexer.specs.RuleOrder.{words-first-sheet, WordsAbove}
+use Rattle.stage4_lexer.specs.OrderedMatches.{ordered-empty-match, ordered-limits}
 use Rattle.stage4_lexer.specs.Positions.{empty-match}
 use Rattle.stage4_lexer.specs.EmptyWord.{none-empty}
-use Rattle.stage5_image.specs.Image.{Image, image-of, image-bytes}
+use Rattle.stage5_image.specs.Image.{Image, plain-image, image-of, image-bytes}
 use Rattle.stage5_image.specs.ImageFields.{ReadableAs}
 use Rattle.stage5_image.specs.ImageRoundTrip.{image-are-bytes}
 use Rattle.stage5_image.specs.FieldsLaws.{readable-one}
 use Rattle.stage5_image.specs.Unfolding.{StartUnfolds, DenotedRules}
-use Rattle.stage5_image.specs.ImageLaws.{image-denotes}
+use Rattle.stage5_image.specs.ImageLaws.{image-denotes, numbering-kept}
 use Rattle.stage5_image.specs.Check.{work-bytes, passed, check, check-answer, work-after}
 use Rattle.stage5_image.specs.Checks.{Passable}
 use Rattle.stage5_image.specs.CheckQuestions.{check-answers, checks-one, passable-passes, passed-passable}
@@ -35,7 +37,9 @@ use Rattle.stage6_machine.specs.Run.{most-text-bytes, run, long-enough, stack-a
 use Rattle.stage6_machine.specs.Runs.{Runs, long-text, unreadable, no-entry, started}
 use Rattle.stage6_machine.specs.RunsLaws.{run-runs, runs-one}
 use Rattle.stage6_machine.specs.StackLaws.{stack-untouched-12, stack-untouched-13, stack-zero}
-use Rattle.stage6_machine.specs.OwnAnswer.{OwnAnswer}
+use Rattle.stage6_machine.specs.OwnAnswer.{OwnAnswer, OwnAnswerByNumber}
+use Rattle.stage6_machine.specs.Lexes.{ReadingChanges}
+use Rattle.stage6_machine.specs.OrderedAnswers.{ordered-answer, answer-changes-only}
 use Rattle.stage6_machine.specs.OwnAnswerLaws.{own-answer-one}
 use Rattle.stage6_machine.specs.RunAnswers.{Faithful, runs-own-answer}
 use Rattle.stage6_machine.specs.FaithfulImage.{StandsFor, start-stands, image-faithful}
@@ -125,12 +129,18 @@ unfolds-exactly sheet bytes work room image e s spells =
     let a = accepted-sheet sheet bytes work room image e s spells in
     image-denotes s ((spells .limits) .closed) (((a .0) .passable .has-type) .1)
 
+same-numbering : (sheet : List ℕ) → Bytes sheet → (work room : ℕ) (image : List ℕ) → write sheet work room ≡ written image
+    → (s : Sheet) → Spells sheet s → WordsAbove (s .rules) → ReadableAs image (plain-image s)
+same-numbering sheet bytes work room image e s spells above =
+    subst (ReadableAs image) (numbering-kept s above) (accepted-normal-form sheet bytes work room image e s spells)
+
 pub demand-2 : Demand2 cited
 demand-2 = record {
   passed-exactly = passed-exactly;
   accepted-exactly = accepted-exactly;
   normal-form = accepted-normal-form;
   unfolds-exactly = unfolds-exactly;
+  same-numbering = same-numbering;
   some-buffer = passes-exactly;
   long-buffers = written-from;
   checks-again = refused-exactly;
@@ -144,10 +154,15 @@ runs-own : (sheet : List ℕ) → Bytes sheet → (work room : ℕ) (image : Lis
     → (s : Sheet) → Spells sheet s
     → (text : List ℕ) (entries : ℕ) → length text ≤ most-text-bytes → long-enough text ≤ entries
     → (a : Answer) → Runs image text entries a → OwnAnswer s text a
+unfolding image-of words-first-sheet
 runs-own sheet bytes work room image e s spells text entries short long a runs = by-question runs
   where
     acceptable : Acceptable sheet room s
     acceptable = (accepted-sheet sheet bytes work room image e s spells) .0
+
+    -- The image is that of the sheet with its rules in the image's order.
+    limits : WithinLimits (words-first-sheet s)
+    limits = ordered-limits s (spells .limits)
 
     by-question : {b : Answer} → Runs image text entries b → OwnAnswer s text b
     by-question (long-text h) = absurd (omega arith)
@@ -156,9 +171,12 @@ runs-own sheet bytes work room image e s spells text entries short long a runs =
     by-question (started i h r l x) =
         let typed = (acceptable .passable .has-type) .1 in
         let same = readable-one image (image-of s) i (accepted-normal-form sheet bytes work room image e s spells) r in
-        let faithful = image-faithful s (spells .limits) typed (no-empty s sheet room acceptable) in
-        runs-own-answer s text i entries (StandsFor s (spells .limits) typed)
-        (subst (λ (j : Image). Faithful s j (StandsFor s (spells .limits) typed)) same faithful) long (start-stands s (spells .limits) typed) x
+        let ordered = words-first-sheet s in
+        let stands = StandsFor ordered limits typed in
+        let faithful = image-faithful ordered limits typed (ordered-empty-match (s .rules) (no-empty s sheet room acceptable)) in
+        ordered-answer s text
+        (runs-own-answer ordered text i entries stands (subst (λ (j : Image). Faithful ordered j stands) same faithful) long
+        (start-stands ordered limits typed) x)
 
 -- What `run` answers is an answer of `Runs`.
 run-own-answer : (sheet : List ℕ) → Bytes sheet → (work room : ℕ) (image : List ℕ) → write sheet work room ≡ written image
@@ -170,5 +188,13 @@ run-own-answer sheet bytes work room image e s spells text entries short long =
     runs-own sheet bytes work room image e s spells text entries short long (run image text entries)
     (run-runs image text entries (subst Bytes (sym written) (image-are-bytes (image-of s))))
 
+run-changes-only : (sheet : List ℕ) → Bytes sheet → (work room : ℕ) (image : List ℕ) → write sheet work room ≡ written image
+    → (s : Sheet) → Spells sheet s
+    → (text : List ℕ) (entries : ℕ) → length text ≤ most-text-bytes → long-enough text ≤ entries
+    → (a : Answer) → OwnAnswerByNumber s text a → (a ≡ run image text entries) ⊎ ReadingChanges s text
+run-changes-only sheet bytes work room image e s spells text entries short long a own =
+    answer-changes-only s text (no-empty s sheet room (accepted-sheet sheet bytes work room image e s spells .0)) a (run image text entries) own
+    (run-own-answer sheet bytes work room image e s spells text entries short long)
+
 pub demand-3 : Demand3 cited
-demand-3 = record { own-answer = run-own-answer; exactly = λ s text a b. own-answer-one s text }
+demand-3 = record { own-answer = run-own-answer; exactly = λ s text a b. own-answer-one s text; changes-only = run-changes-only }

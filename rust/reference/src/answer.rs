@@ -5,6 +5,7 @@
 
 use crate::machine::Ran;
 use crate::sheet::{Kind, Node, Regex, Sheet};
+use std::cmp::Reverse;
 
 /// The sheet's own answer for a text.
 pub fn answer(sheet: &Sheet, text: &[u8]) -> Ran {
@@ -36,22 +37,16 @@ pub fn answer(sheet: &Sheet, text: &[u8]) -> Ran {
     }
 }
 
-/// The lowest rule that has the longest front of `rest` that is a word of any rule, and its length.
+/// The sheet's rule that has the longest front of `rest` that is a word of any rule, and its length. Of
+/// several such rules a word rule wins over any other, and of two of a kind the lower.
 pub fn longest_front(sheet: &Sheet, rest: &[u8]) -> Option<(usize, usize)> {
-    let mut longest: Option<(usize, usize)> = None;
-    for (rule, length) in sheet
-        .rules
-        .iter()
-        .map(|rule| word_lengths(&rule.regex, rest, 0).last().copied())
-        .enumerate()
-    {
-        if let Some(length) = length {
-            if longest.map_or(true, |(_, other)| length > other) {
-                longest = Some((rule, length));
-            }
-        }
-    }
-    longest
+    let matches = sheet.rules.iter().enumerate().filter_map(|(rule, own)| {
+        let length = word_lengths(&own.regex, rest, 0).last().copied()?;
+        Some((rule, length, own.regex.is_word()))
+    });
+    matches
+        .min_by_key(|&(rule, length, is_word)| (Reverse(length), !is_word, rule))
+        .map(|(rule, length, _)| (rule, length))
 }
 
 /// The places, rising, where a word of the regex that starts at `start` may end.

@@ -3,7 +3,7 @@
 use crate::lexer::{positions, Position};
 use crate::normal_form::{normal_form, Production};
 use crate::number::{write, Field, Reader};
-use crate::sheet::{Sheet, RULE_LIMIT};
+use crate::sheet::{Rule, Sheet, RULE_LIMIT};
 use crate::{Refusal, TAIL_LIMIT};
 
 /// An image in parts.
@@ -28,16 +28,25 @@ pub struct Row {
     pub productions: Vec<(usize, Vec<usize>)>,
 }
 
+/// The rules in the order in which an image numbers them: the word rules, then all others, each kind in
+/// sheet order.
+fn numbered(sheet: &Sheet) -> Vec<&Rule> {
+    let (words, others): (Vec<&Rule>, Vec<&Rule>) =
+        sheet.rules.iter().partition(|rule| rule.regex.is_word());
+    [words, others].concat()
+}
+
 /// The image of a sheet that passed checking.
 pub fn fuse(sheet: &Sheet) -> Image {
-    let (positions, first) = positions(sheet);
+    let rules = numbered(sheet);
+    let (positions, first) = positions(&rules);
     let grammar = normal_form(&sheet.nodes);
     // `met` has the nodes that are reached from the start, as first met.
     let mut met = vec![0];
     let mut rows = Vec::new();
     while let Some(&node) = met.get(rows.len()) {
         let mut productions = Vec::new();
-        for (rule, token) in sheet.rules.iter().map(|rule| rule.token).enumerate() {
+        for (rule, token) in rules.iter().map(|rule| rule.token).enumerate() {
             for production in &grammar[node] {
                 match production {
                     Production::Token(own, tail) if Some(*own) == token => {
@@ -53,11 +62,7 @@ pub fn fuse(sheet: &Sheet) -> Image {
         });
     }
     Image {
-        skips: sheet
-            .rules
-            .iter()
-            .map(|rule| rule.token.is_none())
-            .collect(),
+        skips: rules.iter().map(|rule| rule.token.is_none()).collect(),
         positions,
         first,
         rows,

@@ -1,6 +1,6 @@
 //! Lexer rules: question 7, positions, and their first, last and follow sets.
 
-use crate::sheet::{Regex, Sheet};
+use crate::sheet::{Regex, Rule, Sheet};
 use crate::Refusal;
 
 /// Whether the empty word is a word of the regex.
@@ -43,11 +43,11 @@ pub struct Position {
     pub follow: u64,
 }
 
-/// The positions of all rules in sheet order, and where a match may begin.
-pub fn positions(sheet: &Sheet) -> (Vec<Position>, u64) {
+/// The positions of the rules, which are numbered as they come, and where a match may begin.
+pub fn positions(rules: &[&Rule]) -> (Vec<Position>, u64) {
     let mut positions = Vec::new();
     let mut first = 0;
-    for (index, rule) in sheet.rules.iter().enumerate() {
+    for (index, rule) in rules.iter().enumerate() {
         let ends = place(&rule.regex, index, &mut positions);
         first |= ends.first;
         for position in members(ends.last) {
@@ -71,12 +71,8 @@ fn members(set: u64) -> impl Iterator<Item = usize> {
 fn place(regex: &Regex, rule: usize, positions: &mut Vec<Position>) -> Ends {
     match regex {
         Regex::Empty => Ends { first: 0, last: 0 },
-        &Regex::Class {
-            position,
-            low,
-            high,
-        } => {
-            assert_eq!(position, positions.len());
+        &Regex::Class { low, high } => {
+            let position = positions.len();
             positions.push(Position {
                 low,
                 high,

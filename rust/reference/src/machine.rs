@@ -48,7 +48,8 @@ pub fn image_run(image: &[u8], text: &[u8], stack: &mut [u8], out: &mut [u64]) {
     }
 }
 
-/// The longest match at the start of `rest`: its rule and its length.
+/// The longest match at the start of `rest`: its rule and its length. Of several rules that match as far, the
+/// image's lowest wins; that word rules win over others is in the image's numbers.
 pub fn longest_match(image: &Image, rest: &[u8]) -> Option<(usize, usize)> {
     let mut found = None;
     let mut held = image.first;

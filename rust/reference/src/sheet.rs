@@ -43,8 +43,6 @@ pub enum Regex {
     Empty,
     /// One byte from `low` to `high`, both included.
     Class {
-        /// Which class this is, counted over all rules.
-        position: usize,
         /// The lowest byte.
         low: u8,
         /// The highest byte.
@@ -56,6 +54,19 @@ pub enum Regex {
     Alternative(Box<Regex>, Box<Regex>),
     /// Any number of words of the part in a row.
     Star(Box<Regex>),
+}
+
+impl Regex {
+    /// Whether a rule with this regex is a word rule: it has only empty words, sequences and classes with
+    /// low = high. What an alternative or a star matches plays no part.
+    pub fn is_word(&self) -> bool {
+        match self {
+            Regex::Empty => true,
+            Regex::Class { low, high } => low == high,
+            Regex::Sequence(left, right) => left.is_word() && right.is_word(),
+            Regex::Alternative(..) | Regex::Star(_) => false,
+        }
+    }
 }
 
 /// A node of the expression.
@@ -173,11 +184,9 @@ impl Parser<'_> {
         Ok(match tag.value {
             0 => Regex::Empty,
             1 => {
-                let position = self.classes - 1;
                 let low = self.number(|value| value <= 255)?.value;
                 let high = self.number(|value| (low..=255).contains(&value))?.value;
                 Regex::Class {
-                    position,
                     low: low as u8,
                     high: high as u8,
                 }

@@ -1,4 +1,4 @@
-//! The contract's worked cases, and those of requests 1 to 3 of document 02: no random ones.
+//! The contract's worked cases, and those of requests 1 to 4 of document 02: no random ones.
 
 use vinzagew_reference::number::write_padded;
 use vinzagew_reference::sheet::Sheet;
@@ -12,8 +12,8 @@ const RULES: [u8; 20] = [
 const EXPRESSION: [u8; 14] = [3, 2, 0, 5, 4, 0, 3, 2, 1, 3, 2, 0, 6, 0];
 /// Sheet D's image.
 const IMAGE: [u8; 48] = [
-    1, 3, 0, 0, 1, 4, 48, 57, 0, 1, 2, 48, 57, 0, 1, 2, 47, 47, 1, 1, 0, 32, 32, 2, 1, 0, 13, 4, 0,
-    1, 0, 1, 1, 1, 1, 1, 1, 2, 0, 1, 0, 1, 3, 1, 1, 1, 1, 2,
+    1, 3, 0, 1, 0, 4, 47, 47, 0, 1, 0, 32, 32, 1, 1, 0, 48, 57, 2, 1, 8, 48, 57, 2, 1, 8, 7, 4, 0,
+    1, 2, 1, 1, 1, 1, 0, 1, 2, 0, 1, 2, 1, 3, 1, 1, 0, 1, 2,
 ];
 
 fn with_rules(expression: &[u8]) -> Vec<u8> {
@@ -82,7 +82,7 @@ fn other_expressions() {
 fn repetitions_and_their_readings() {
     // N·(S·N)*
     let sheet = with_rules(&[3, 2, 0, 7, 3, 2, 1, 2, 0]);
-    let rows = [3, 0, 1, 0, 1, 1, 1, 1, 1, 2, 2, 1, 0, 1, 0, 0];
+    let rows = [3, 0, 1, 2, 1, 1, 1, 1, 0, 2, 2, 1, 0, 1, 2, 0];
     assert_eq!(written(&sheet).1, [&IMAGE[..27], &rows].concat());
     assert_eq!(read(&sheet, b"12/7"), (0, 4, 3));
     assert_eq!(read(&sheet, b"12//7"), (15, 3, 2));
@@ -90,7 +90,7 @@ fn repetitions_and_their_readings() {
 
     // (N)*, whose tail is the start
     let sheet = with_rules(&[7, 2, 0]);
-    let rows = [1, 1, 1, 0, 1, 0];
+    let rows = [1, 1, 1, 2, 1, 0];
     assert_eq!(written(&sheet).1, [&IMAGE[..27], &rows].concat());
     assert_eq!(read(&sheet, b""), (0, 0, 0));
     assert_eq!(read(&sheet, b"1 2 3"), (0, 5, 3));
@@ -104,7 +104,7 @@ fn repetitions_and_their_readings() {
 
     // N·(⊥)*: the repetition derives the empty sequence, so the production of N stays
     let sheet = with_rules(&[3, 2, 0, 7, 1]);
-    let rows = [2, 0, 1, 0, 1, 1, 1, 0];
+    let rows = [2, 0, 1, 2, 1, 1, 1, 0];
     assert_eq!(written(&sheet).1, [&IMAGE[..27], &rows].concat());
     assert_eq!(read(&sheet, b"1"), (0, 1, 1));
 }
@@ -352,4 +352,219 @@ fn follow_last_of_the_left_part_counts() {
     assert_eq!((result.number, result.place), (9, 15));
     assert_eq!(written(&sheet(0)).0.number, 0);
     assert_eq!(read(&sheet(0), b"abca"), (0, 4, 4));
+}
+
+/// A sheet of these rules.
+fn sheet_of(tokens: u8, rules: &[&[u8]], expression: &[u8]) -> Vec<u8> {
+    let counts = [1, tokens, rules.len() as u8];
+    [&counts[..], &rules.concat(), expression].concat()
+}
+
+/// The token that a text of one lexeme is read as. With another token as its expression the sheet refuses
+/// the text at its start.
+fn token_of(tokens: u8, rules: &[&[u8]], text: &[u8]) -> u8 {
+    let accepts = |token: &u8| {
+        let found = read(&sheet_of(tokens, rules, &[2, *token]), text);
+        assert!([(0, text.len(), 1), (15, 0, 0)].contains(&found));
+        found.0 == 0
+    };
+    let accepting: Vec<u8> = (0..tokens).filter(accepts).collect();
+    assert_eq!(accepting.len(), 1);
+    accepting[0]
+}
+
+/// Whether a rule with this regex is a word rule.
+fn is_word(regex: &[u8]) -> bool {
+    let rule = [&[1], regex].concat();
+    let sheet = sheet_of(1, &[&rule], &[2, 0]);
+    Sheet::read(&sheet).unwrap().rules[0].regex.is_word()
+}
+
+/// A rule for names, which gives token 0.
+const NAME: [u8; 9] = [1, 2, 1, 97, 122, 4, 1, 97, 122];
+/// A rule for the word `if`, which gives token 1.
+const IF: [u8; 8] = [2, 2, 1, 105, 105, 1, 102, 102];
+/// A rule that skips a blank.
+const BLANK: [u8; 4] = [0, 1, 32, 32];
+
+/// Request 4 of document 02: a word below a name pattern is read as the word.
+#[test]
+fn a_name_above_a_word() {
+    let rules = [&NAME[..], &IF, &BLANK];
+    assert_eq!(token_of(2, &rules, b"if"), 1);
+    assert_eq!(token_of(2, &rules, b"iffy"), 0);
+    assert_eq!(token_of(2, &rules, b"i"), 0);
+    assert_eq!(token_of(2, &rules, b"fi"), 0);
+    // The word first, then a name.
+    let sheet = sheet_of(2, &rules, &[3, 2, 1, 2, 0]);
+    assert_eq!(read(&sheet, b"if iffy"), (0, 7, 2));
+    assert_eq!(read(&sheet, b"if if"), (15, 3, 1));
+    assert_eq!(read(&sheet, b"ifif"), (15, 0, 0));
+    assert_eq!(read(&sheet, b"iffy if"), (15, 0, 0));
+    assert_eq!(read(&sheet, b"if"), (16, 2, 1));
+    // The word is rule 0, the blank rule 1 and the name rule 2; positions and productions follow.
+    let image = [
+        1, 3, 0, 1, 0, 5, 105, 105, 0, 0, 2, 102, 102, 0, 1, 0, 32, 32, 1, 1, 0, 97, 122, 2, 1, 16,
+        97, 122, 2, 1, 16, 13, 2, 0, 1, 0, 1, 1, 0, 1, 2, 0,
+    ];
+    assert_eq!(written(&sheet).1, image);
+    // With the rules in this order by hand, the image and the readings are the same.
+    let by_hand = [&IF[..], &BLANK, &NAME];
+    assert_eq!(written(&sheet_of(2, &by_hand, &[3, 2, 1, 2, 0])).1, image);
+    assert_eq!(token_of(2, &by_hand, b"if"), 1);
+    assert_eq!(token_of(2, &by_hand, b"iffy"), 0);
+}
+
+#[test]
+fn word_rules() {
+    let (a, b) = ([1, 97, 97], [1, 98, 98]);
+    let joined = |tag: u8, one: &[u8], other: &[u8]| [&[tag], one, other].concat();
+    assert!(is_word(&a));
+    assert!(is_word(&[0]));
+    assert!(is_word(&[1, 0, 0]));
+    assert!(is_word(&joined(2, &a, &b)));
+    // An empty word on either side, and in the middle.
+    assert!(is_word(&joined(2, &[0], &a)));
+    assert!(is_word(&joined(2, &joined(2, &a, &[0]), &b)));
+    assert!(!is_word(&[1, 97, 98]));
+    assert!(!is_word(&[1, 0, 127]));
+    assert!(!is_word(&joined(2, &a, &[1, 97, 98])));
+    assert!(!is_word(&joined(2, &[1, 97, 98], &a)));
+    // Neither a star nor an alternative, whatever it matches.
+    assert!(!is_word(&joined(3, &a, &b)));
+    assert!(!is_word(&joined(3, &a, &a)));
+    assert!(!is_word(&joined(3, &[0], &[0])));
+    assert!(!is_word(&joined(2, &a, &joined(3, &[0], &[0]))));
+    assert!(!is_word(&[&[4], &a[..]].concat()));
+    assert!(!is_word(&joined(2, &[4, 0], &a)));
+    assert!(!is_word(&joined(2, &a, &[4, 0])));
+}
+
+/// Of two equally long matches a word rule wins over any other.
+#[test]
+fn a_word_wins_over_any_other() {
+    let word = [2, 1, 97, 97];
+    let alternative_of_equals = [1, 3, 1, 97, 97, 1, 97, 97];
+    let alternative = [1, 3, 1, 98, 98, 1, 97, 97];
+    let class = [1, 1, 97, 98];
+    let star_of_nothing = [1, 2, 4, 0, 1, 97, 97];
+    let stars = [1, 2, 1, 97, 97, 4, 1, 97, 97];
+    for other in [
+        &alternative_of_equals[..],
+        &alternative,
+        &class,
+        &star_of_nothing,
+        &stars,
+    ] {
+        assert_eq!(token_of(2, &[other, &word], b"a"), 1);
+        assert_eq!(token_of(2, &[&word, other], b"a"), 1);
+    }
+    // An empty word keeps a word a word.
+    assert_eq!(token_of(2, &[&class, &[2, 2, 0, 1, 97, 97]], b"a"), 1);
+    let in_the_middle = [2, 2, 1, 97, 97, 2, 0, 1, 98, 98];
+    assert_eq!(token_of(2, &[&NAME, &in_the_middle], b"ab"), 1);
+    // A longer match wins over a word, and where the word does not match it is not in the way.
+    assert_eq!(token_of(2, &[&stars, &word], b"aa"), 0);
+    assert_eq!(token_of(2, &[&class, &word], b"b"), 0);
+}
+
+/// Of two of a kind the lower wins.
+#[test]
+fn the_lower_of_two_of_a_kind_wins() {
+    // Two words of equal text, one with an empty word in it.
+    let (plain, with_empty) = ([1, 1, 97, 97], [2, 2, 0, 1, 97, 97]);
+    assert_eq!(token_of(2, &[&plain, &with_empty], b"a"), 0);
+    assert_eq!(token_of(2, &[&with_empty, &plain], b"a"), 1);
+    let pattern = [3, 1, 97, 98];
+    assert_eq!(token_of(3, &[&pattern, &with_empty, &plain], b"a"), 1);
+    // Two patterns.
+    let (narrow, wide) = ([1, 1, 97, 98], [2, 1, 97, 99]);
+    assert_eq!(token_of(2, &[&narrow, &wide], b"a"), 0);
+    assert_eq!(token_of(2, &[&wide, &narrow], b"a"), 1);
+    assert_eq!(token_of(2, &[&narrow, &wide], b"c"), 1);
+}
+
+/// The action plays no part: a rule that skips may be a word rule, and it may lose to one.
+#[test]
+fn a_skipped_word_and_a_pattern() {
+    // Any number of names; the word `if` is skipped.
+    let skipped_if = [&[0], &IF[1..]].concat();
+    let sheet = sheet_of(1, &[&NAME, &skipped_if, &BLANK], &[7, 2, 0]);
+    assert_eq!(read(&sheet, b"if"), (0, 2, 0));
+    assert_eq!(read(&sheet, b"iffy if fi"), (0, 10, 2));
+    // Names are skipped; the word `if` is a token.
+    let skipped_name = [&[0], &NAME[1..]].concat();
+    let sheet = sheet_of(2, &[&skipped_name, &IF, &BLANK], &[7, 2, 1]);
+    assert_eq!(read(&sheet, b"iffy if fi if"), (0, 13, 2));
+    // Of two skipped words and a token of equal text, the lowest word wins.
+    let sheet = sheet_of(2, &[&NAME, &skipped_if, &IF], &[7, 2, 1]);
+    assert_eq!(read(&sheet, b"if"), (0, 2, 0));
+    let sheet = sheet_of(2, &[&NAME, &IF, &skipped_if], &[7, 2, 1]);
+    assert_eq!(read(&sheet, b"if"), (0, 2, 1));
+}
+
+/// Words and patterns in turn: each kind keeps its order.
+#[test]
+fn each_kind_keeps_its_order() {
+    let rules = [
+        &[1, 1, 97, 98][..],
+        &[2, 1, 97, 97],
+        &[0, 2, 1, 97, 99, 1, 97, 99],
+        &[0, 2, 1, 99, 99, 1, 99, 99],
+        &[3, 1, 97, 99],
+        &[4, 1, 97, 97],
+    ];
+    // Any number of A ∨ (B ∨ (C ∨ D)·B).
+    let expression = [7, 4, 2, 0, 4, 2, 1, 3, 4, 2, 2, 2, 3, 2, 1];
+    let sheet = sheet_of(4, &rules, &expression);
+    // The rules 1, 3, 5, then 0, 2, 4 of the sheet.
+    let lexer = [
+        1, 6, 0, 1, 0, 0, 1, 0, 8, 97, 97, 0, 1, 0, 99, 99, 1, 0, 4, 99, 99, 1, 1, 0, 97, 97, 2, 1,
+        0, 97, 98, 3, 1, 0, 97, 99, 4, 0, 64, 97, 99, 4, 1, 0, 97, 99, 5, 1, 0,
+    ];
+    // Positions 0, 1, 3, 4, 5 and 7 begin a match, in two bytes. B, D, A and C are the rules 0, 2, 3, 5.
+    let rows = [
+        187, 1, 2, 1, 4, 0, 1, 0, 2, 2, 1, 0, 3, 1, 0, 5, 2, 1, 0, 0, 1, 0, 0,
+    ];
+    assert_eq!(written(&sheet).1, [&lexer[..], &rows].concat());
+    assert_eq!(token_of(4, &rules, b"a"), 1);
+    assert_eq!(token_of(4, &rules, b"b"), 0);
+    assert_eq!(token_of(4, &rules, b"c"), 2);
+    // Both `cc` and the pattern above it skip; `ab` is only of the pattern.
+    assert_eq!(read(&sheet, b"ccb"), (0, 3, 1));
+    assert_eq!(read(&sheet, b"abcca"), (0, 5, 1));
+}
+
+/// Where no pattern stands above a word the rules keep their numbers; otherwise the skip flags show the new
+/// ones.
+#[test]
+fn rules_that_keep_their_numbers_and_others() {
+    let skips = |rules: &[&[u8]]| written(&sheet_of(1, rules, &[0])).1[2..][..rules.len()].to_vec();
+    let (word, skipped_word) = ([1, 1, 97, 97], [0, 1, 98, 98]);
+    let (pattern, skipped_pattern) = ([1, 1, 97, 98], [0, 1, 98, 99]);
+    assert_eq!(skips(&[&word, &skipped_word, &word]), [0, 1, 0]);
+    assert_eq!(skips(&[&pattern, &skipped_pattern, &pattern]), [0, 1, 0]);
+    assert_eq!(
+        skips(&[&skipped_word, &pattern, &skipped_pattern]),
+        [1, 0, 1]
+    );
+    assert_eq!(skips(&[&pattern, &skipped_pattern, &word]), [0, 0, 1]);
+    assert_eq!(skips(&[&pattern, &skipped_word, &word]), [1, 0, 0]);
+}
+
+/// Question 7 is put rule by rule in the sheet's order, whatever the kinds.
+#[test]
+fn the_empty_word_in_sheet_order() {
+    let verdict = |rules: &[&[u8]]| verdict(&sheet_of(1, rules, &[2, 0]));
+    let (pattern, bad_pattern) = ([1, 1, 97, 98], [1, 4, 1, 97, 97]);
+    let (word, bad_word) = ([1, 1, 97, 97], [1, 2, 0, 0]);
+    assert_eq!(verdict(&[&bad_pattern, &bad_word]), (7, 3));
+    assert_eq!(verdict(&[&bad_word, &bad_pattern]), (7, 3));
+    assert_eq!(verdict(&[&pattern, &bad_pattern, &word, &bad_word]), (7, 7));
+    assert_eq!(verdict(&[&pattern, &bad_word, &word, &bad_pattern]), (7, 7));
+    // Questions 8 to 10 come after it, at the expression's own places.
+    let sheet = sheet_of(1, &[&pattern, &bad_word], &[4, 2, 0, 2, 0]);
+    assert_eq!(self::verdict(&sheet), (7, 7));
+    let sheet = sheet_of(1, &[&pattern, &word], &[4, 2, 0, 2, 0]);
+    assert_eq!(self::verdict(&sheet), (10, 11));
 }

@@ -8,6 +8,11 @@
 //! The builder refuses only what cannot be written down: a variable outside its fixed point, and a width
 //! that no number has. Limits, value ranges and types are the business of checking.
 //!
+//! The longest match wins. Of two rules that match equally far, a word rule ([`Regex::is_word`]) wins over any
+//! other, and of two of a kind the one that was added first. So a name pattern may stand above a fixed word.
+//! Rules are numbered from 0 in the order in which they were added; the image has an order of its own, which
+//! [`Sheet::image_rules`] gives.
+//!
 //! Numbers are written with the fewest bytes. [`Sheet::padded`] gives them room for larger ones, which
 //! [`patch`](crate::patch()) writes into a stored sheet.
 //!
@@ -180,6 +185,30 @@ impl Sheet {
     /// The rules.
     pub fn rules(&self) -> &[Rule] {
         &self.rules
+    }
+
+    /// The rules in the order in which the image numbers them: the word rules, then all others, each kind in
+    /// the order of the sheet. At place k is the number that rule k of the image has here.
+    ///
+    /// Only the bytes of an image have these numbers. [`Sheet::locate`] speaks of the sheet's own.
+    ///
+    /// ```
+    /// # use vinzagew::builder::{Regex, SheetBuilder};
+    /// let mut builder = SheetBuilder::new();
+    /// let name = builder.token("name");
+    /// let word = builder.token("if");
+    /// assert_eq!(builder.rule(name, Regex::class(b'a', b'z').plus()), 0);
+    /// assert_eq!(builder.rule(word, Regex::literal(b"if")), 1);
+    /// assert_eq!(builder.skip(Regex::byte(b' ')), 2);
+    /// let sheet = builder.finish(word.then(name))?;
+    /// assert_eq!(sheet.image_rules(), [1, 2, 0]);
+    /// # Ok::<(), vinzagew::builder::UnboundVariable>(())
+    /// ```
+    pub fn image_rules(&self) -> Vec<usize> {
+        let mut rules: Vec<usize> = (0..self.rules.len()).collect();
+        // This sort keeps the order of rules of a kind.
+        rules.sort_by_key(|&rule| !self.rules[rule].regex.is_word());
+        rules
     }
 
     /// The expression.

@@ -95,6 +95,26 @@ impl Regex {
     pub fn optional(self) -> Regex {
         self.or(Regex::Empty)
     }
+
+    /// Whether a rule with this regex is a word rule: it has only empty words, sequences and classes of one
+    /// byte. Of two equally long matches a word rule wins over any other rule.
+    ///
+    /// With an alternative or a star it is none, whatever it matches.
+    ///
+    /// ```
+    /// # use vinzagew::builder::Regex;
+    /// assert!(Regex::literal(b"if").is_word());
+    /// assert!(!Regex::class(b'a', b'z').plus().is_word());
+    /// assert!(!Regex::literal(b"if").or(Regex::literal(b"if")).is_word());
+    /// ```
+    pub fn is_word(&self) -> bool {
+        match self {
+            Regex::Empty => true,
+            Regex::Class { low, high } => low == high,
+            Regex::Sequence(left, right) => left.is_word() && right.is_word(),
+            Regex::Alternative(..) | Regex::Star(_) => false,
+        }
+    }
 }
 
 /// Joins parts so that each contains the rest on its right.

@@ -230,8 +230,8 @@ fn least_stack(image: &[u8], text: &[u8]) -> usize {
 /// A text around the limit, on a stack that is long enough for sheet D's image or nearly so.
 fn long_call(random: &mut Random) -> Call {
     let image = [
-        1, 3, 0, 0, 1, 4, 48, 57, 0, 1, 2, 48, 57, 0, 1, 2, 47, 47, 1, 1, 0, 32, 32, 2, 1, 0, 13,
-        4, 0, 1, 0, 1, 1, 1, 1, 1, 1, 2, 0, 1, 0, 1, 3, 1, 1, 1, 1, 2,
+        1, 3, 0, 1, 0, 4, 47, 47, 0, 1, 0, 32, 32, 1, 1, 0, 48, 57, 2, 1, 8, 48, 57, 2, 1, 8, 7, 4,
+        0, 1, 2, 1, 1, 1, 1, 0, 1, 2, 0, 1, 2, 1, 3, 1, 1, 0, 1, 2,
     ];
     let length = random.range(1_048_574, 1_048_577);
     let piece = *random.pick(&[&b"7"[..], b"12 /", b"7/"]);

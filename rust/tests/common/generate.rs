@@ -9,6 +9,7 @@ use vinzagew::builder::{Expression, Regex, Sheet, SheetBuilder, Token};
 use vinzagew::TAIL_LIMIT;
 use vinzagew_reference::image::{Image, Row};
 use vinzagew_reference::lexer::Position;
+use vinzagew_reference::machine::longest_match;
 use vinzagew_reference::number::{self, WIDTH_LIMIT};
 use vinzagew_reference::sheet::{CLASS_LIMIT, NODE_LIMIT, REGEX_NODE_LIMIT};
 
@@ -78,8 +79,94 @@ fn regex_size(random: &mut Random, rules: usize) -> usize {
     }
 }
 
+/// Adds so many tokens.
+fn add_tokens(builder: &mut SheetBuilder, count: usize) -> Vec<Token> {
+    (0..count)
+        .map(|index| builder.token(format!("t{index}")))
+        .collect()
+}
+
+/// The regex of a word rule for this word: its bytes in sequences that are nested in any way, with empty words
+/// here and there.
+fn word_regex(random: &mut Random, word: &[u8]) -> Regex {
+    let inner = match word {
+        [] => Regex::empty(),
+        [byte] => Regex::byte(*byte),
+        _ => {
+            let (left, right) = word.split_at(random.range(1, word.len() - 1));
+            word_regex(random, left).then(word_regex(random, right))
+        }
+    };
+    match random.below(16) {
+        0 => Regex::empty().then(inner),
+        1 => inner.then(Regex::empty()),
+        _ => inner,
+    }
+}
+
+/// A word of at most so many letters, each `a` or `b`: often others are equal to it or begin with it.
+fn short_word(random: &mut Random, longest: usize) -> Vec<u8> {
+    (0..random.range(1, longest))
+        .map(|_| *random.pick(b"ab"))
+        .collect()
+}
+
+/// The regex of a rule that is no word rule and matches this word, and in most cases others too. The longest
+/// word has `longest` letters, and the regex at most twice as many classes.
+fn pattern_regex(random: &mut Random, word: &[u8], longest: usize) -> Regex {
+    let own = word_regex(random, word);
+    match random.below(9) {
+        0..=2 => Regex::class(b'a', b'b').plus(),
+        3 => Regex::sequence(word.iter().map(|&byte| Regex::class(byte, byte + 1))),
+        4 => own.then(class(random).star()),
+        5 => {
+            let other = short_word(random, longest);
+            own.or(word_regex(random, &other))
+        }
+        // With the word alone.
+        6 => own.clone().or(own),
+        7 => Regex::empty().star().then(own),
+        _ => own.then(Regex::empty().or(Regex::empty())),
+    }
+}
+
+/// Tokens and rules: words, some of them equal, and patterns that match them too, in any order. Each may
+/// skip. They are few, or about as many rules and classes as the limits allow.
+fn competing_rules(random: &mut Random) -> (SheetBuilder, Vec<Token>) {
+    let mut builder = SheetBuilder::new();
+    let (token_count, rule_count, longest) = match random.below(6) {
+        0 => (random.range(1, 24), random.range(24, 32), 1),
+        _ => (random.range(1, 4), random.range(2, 8), 3),
+    };
+    let tokens = add_tokens(&mut builder, token_count);
+    // The word of most rules.
+    let shared = short_word(random, longest);
+    let blank = random.below(rule_count + 1);
+    for rule in 0..rule_count {
+        let word = match random.below(4) {
+            0 => short_word(random, longest),
+            _ => shared.clone(),
+        };
+        // Most often the uppermost is a pattern, so that it stands above all words.
+        let regex = if random.once_in(if rule == 0 { 4 } else { 2 }) {
+            word_regex(random, &word)
+        } else {
+            pattern_regex(random, &word, longest)
+        };
+        match random.below(6) {
+            _ if rule == blank => builder.skip(Regex::byte(b' ')),
+            0 => builder.skip(regex),
+            _ => builder.rule(*random.pick(&tokens), regex),
+        };
+    }
+    (builder, tokens)
+}
+
 /// Tokens and rules.
 fn rules(random: &mut Random) -> (SheetBuilder, Vec<Token>) {
+    if random.once_in(3) {
+        return competing_rules(random);
+    }
     let mut builder = SheetBuilder::new();
     let (token_count, rule_count) = match random.below(8) {
         0 => (random.range(1, 24), random.range(1, 32)),
@@ -89,9 +176,7 @@ fn rules(random: &mut Random) -> (SheetBuilder, Vec<Token>) {
             (tokens, tokens + random.below(3))
         }
     };
-    let tokens: Vec<Token> = (0..token_count)
-        .map(|index| builder.token(format!("t{index}")))
-        .collect();
+    let tokens = add_tokens(&mut builder, token_count);
     for rule in 0..rule_count {
         let size = regex_size(random, rule_count);
         // Often a rule of a token has a word that few others have.
@@ -350,8 +435,29 @@ pub fn nearly_passing_sheet(random: &mut Random) -> Sheet {
     typed_sheet(random, true)
 }
 
+/// A sheet that passes checking, in which words and patterns compete. Often it denotes any number of some of
+/// the tokens, so that a text is read far and each token counts.
+pub fn competing_sheet(random: &mut Random) -> Sheet {
+    let (builder, mut tokens) = competing_rules(random);
+    if random.once_in(2) {
+        return sheet_of_rules(random, (builder, tokens), false);
+    }
+    tokens.retain(|_| !random.once_in(3));
+    let any = Expression::alternative(tokens.into_iter().map(Expression::token));
+    builder.finish(any.star()).expect("there are no variables")
+}
+
 fn typed_sheet(random: &mut Random, slips: bool) -> Sheet {
-    let (builder, tokens) = rules(random);
+    let rules = rules(random);
+    sheet_of_rules(random, rules, slips)
+}
+
+/// A sheet of these rules; without slips its expression has a type.
+fn sheet_of_rules(
+    random: &mut Random,
+    (builder, tokens): (SheetBuilder, Vec<Token>),
+    slips: bool,
+) -> Sheet {
     let size = match random.below(4) {
         0 => random.range(1, 8),
         1 => NODE_LIMIT,
@@ -491,9 +597,7 @@ pub fn large_sheet(random: &mut Random) -> Sheet {
         0 => 24,
         _ => random.range(1, 24),
     };
-    let tokens: Vec<Token> = (0..token_count)
-        .map(|index| builder.token(format!("t{index}")))
-        .collect();
+    let tokens = add_tokens(&mut builder, token_count);
     let regexes = match random.below(2) {
         0 => deep_rules(random),
         _ => wide_rules(random),
@@ -634,7 +738,10 @@ pub fn untyped_sheet(random: &mut Random) -> Sheet {
     if random.once_in(6) {
         for _ in 0..random.range(1, 4) {
             let size = random.range(1, 40);
-            let regex = any_regex(random, size);
+            let regex = match random.below(4) {
+                0 => word_regex(random, b""),
+                _ => any_regex(random, size),
+            };
             builder.rule(*random.pick(&tokens), regex);
         }
     }
@@ -974,9 +1081,19 @@ fn word(random: &mut Random, image: &Image, rule: usize) -> Vec<u8> {
     word
 }
 
+/// What stands after each token of a text: if the image skips a blank, often that, so that no longer match takes
+/// the next token too.
+fn separator(random: &mut Random, image: &Image) -> &'static [u8] {
+    match longest_match(image, b" ") {
+        Some((rule, _)) if image.skips[rule] && random.once_in(2) => b" ",
+        _ => b"",
+    }
+}
+
 /// A text of about `size` tokens that is derived from the start.
 pub fn derived_text(random: &mut Random, image: &Image, size: usize) -> Vec<u8> {
     let mut text = Vec::new();
+    let separator = separator(random, image);
     // The first pending nonterminal comes last.
     let mut pending = vec![0];
     let skipping: Vec<usize> = (0..image.skips.len())
@@ -1009,6 +1126,7 @@ pub fn derived_text(random: &mut Random, image: &Image, size: usize) -> Vec<u8> 
         pending.truncate(stay);
         pending.extend(tail.iter().rev());
         text.extend(word(random, image, *rule));
+        text.extend(separator);
     }
     text
 }

@@ -10,6 +10,7 @@ pub mod generate;
 pub mod json_lines;
 pub mod numbers;
 pub mod random;
+pub mod words;
 
 use vinzagew_reference::image::{self, Image};
 use vinzagew_reference::Refusal;

@@ -1,9 +1,13 @@
 -- `stage5_image_compiler::write` meets its contract: what checking hands on, and question 11.
 use borrow.Author.Needs.{needs}
+use mathlib.Core.Path.{_≡_}
 use denote.Ref.{now}
 use lib.ListN.{length}
+use Rattle.stage1_sheet.specs.Sheet.{Sheet}
+use Rattle.stage4_lexer.specs.RuleOrder.{words-first-sheet}
 use Rattle.stage5_image.specs.Check as check
 use Rattle.stage5_image.specs.Write.{write}
+use Rattle.stage5_image_checker.specs.Steps.{PassedParts}
 use Rattle.stage5_image_compiler.proofs.Endings.{ends-failed, passed-parts, ends-passed, promised}
 use Rattle.stage5_image_compiler.proofs.write.Statement.{statement}
 use Rattle.stage5_image_compiler.proofs.write.Tie as tie
@@ -21,12 +25,23 @@ enum-known-verdict c = search needs
 enum-told : tie.Need-enum-told
 enum-told c = search needs
 
+-- Where the sheet has passed: which sheet that is, and what checking hands on of it.
+passed : (c : tie.After-enum-told) → (s : Sheet)
+    × (verdict (c .before .before .before .before .before .before .before .before .before) ≡ check.passed s)
+    × PassedParts s (c .before .before .before .before .check-sheet .result)
+passed c =
+    let k = c .before .before .before .before .check-sheet in
+    passed-parts _ (k .result) (k .ensures .0) (c .enum-told .given .1)
+
+-- And where its rules are in the image's order.
+ordered : (c : tie.After-in-image-order) → PassedParts (words-first-sheet (passed (c .before) .0)) (c .in-image-order .result)
+ordered c = let p = passed (c .before) in c .in-image-order .ensures (p .0) (p .2)
+
+in-image-order-requires : tie.Need-in-image-order-requires
+in-image-order-requires c κs = let p = passed c in (p .0, p .2)
+
 write-if-fits-requires : tie.Need-write-if-fits-requires
-write-if-fits-requires c κs =
-    let told = c .before in
-    let k = told .before .before .before .before .check-sheet in
-    let p = passed-parts (verdict (told .before .before .before .before .before .before .before .before .before)) (k .result) (k .ensures .0)
-    (told .enum-told .given .1) in (p .0, p .2)
+write-if-fits-requires c κs = (words-first-sheet (passed (c .before .before) .0), ordered (c .before))
 
 same-length : tie.Need-same-length
 same-length c = search needs
@@ -49,12 +64,13 @@ returns-2 : tie.Need-returns-2
 unfolding write
 returns-2 c =
     let called = c .before .before in
-    let told = called .before .before in
+    let told = called .before .before .before in
     let k = told .before .before .before .before .check-sheet in
     let z = told .before .before .before .before .before .before .before .before .before in
-    let p = passed-parts (verdict z) (k .result) (k .ensures .0) (told .enum-told .given .1) in
+    let p = passed told in
     promised (now (z .args .work))
-    (ends-passed (verdict z) (p .0) (length (now (z .args .image))) (p .1) (called .write-if-fits .ensures (p .0) (p .2))) (k .ensures .1)
+    (ends-passed (verdict z) (p .0) (length (now (z .args .image))) (p .1)
+    (called .write-if-fits .ensures (words-first-sheet (p .0)) (ordered (called .before .before)))) (k .ensures .1)
 
 pub write-spec : {M : Type 1} → statement M
 write-spec =
@@ -63,6 +79,7 @@ write-spec =
     check-sheet-requires
     enum-known-verdict
     enum-told
+    in-image-order-requires
     write-if-fits-requires
     same-length
     returns

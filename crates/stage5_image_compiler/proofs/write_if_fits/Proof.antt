@@ -5,7 +5,7 @@ use mathlib.Core.Logic.{⊎-elim}
 use denote.Ref.{now}
 use lib.ListN.{length}
 use Rattle.stage1_sheet.specs.Sheet.{Sheet}
-use Rattle.stage5_image.specs.Image.{image-of, image-bytes}
+use Rattle.stage5_image.specs.Image.{plain-image, image-bytes}
 use Rattle.stage5_image_checker.specs.Steps.{PassedParts}
 use Rattle.stage5_image_writer.specs.Parts.{PartsOf}
 use Rattle.stage5_image_compiler.proofs.Endings.{positions-most, parts-of, room-for-any, fits, ends-too-long, ends-written}
@@ -40,11 +40,11 @@ number-nodes-requires c κs = let w = c .before .before .before .before .pre in 
 
 -- Where question 11 has been passed: the image fits, since it was measured, or since every image does.
 room : (c : tie.Joined1) (s : Sheet) → PassedParts s (c .before .before .before .before .before .before .args .checked)
-    → length (image-bytes (image-of s)) ≤ length (now (c .before .before .before .before .before .before .args .image))
+    → length (image-bytes (plain-image s)) ≤ length (now (c .before .before .before .before .before .before .args .image))
 room c s h =
     let buffer = now (c .before .before .before .before .before .before .args .image) in
     ⊎-elim
-    (λ w. fits (image-bytes (image-of s)) buffer (w .1 .ensures s (made (c .before) s h)) (w .2 .left))
+    (λ w. fits (image-bytes (plain-image s)) buffer (w .1 .ensures s (made (c .before) s h)) (w .2 .left))
     (λ w. room-for-any s _ h buffer (w .left))
     (c .if1 .came)
 
@@ -58,7 +58,7 @@ returns : tie.Need-returns
 returns c =
     let numbered = c .before .before .before in
     let z = numbered .before .before .before .before .before .args in
-    λ s h. ends-too-long (image-bytes (image-of s)) (now (z .image)) (c .before .image-width .ensures s (made numbered s h)) (c .if2 .taken)
+    λ s h. ends-too-long (image-bytes (plain-image s)) (now (z .image)) (c .before .image-width .ensures s (made numbered s h)) (c .if2 .taken)
 
 write-image-requires : tie.Need-write-image-requires
 write-image-requires c κs =
@@ -75,7 +75,7 @@ returns-2 c =
     let numbered = passed .before in
     let z = numbered .before .before .before .before .before .args in
     λ s h.
-    ends-written (image-bytes (image-of s)) (now (z .image)) (room passed s h)
+    ends-written (image-bytes (plain-image s)) (now (z .image)) (room passed s h)
     (c .before .before .write-image .ensures s (made numbered s h) (room passed s h))
 
 pub write-if-fits-spec : {M : Type 1} → statement M
