@@ -1,6 +1,6 @@
 -- Lists: what holds of every member, and sums over the members; the members that pass a test; the first answer of two; and a step that
 -- is taken until nothing changes. The laws of lists themselves are the library's.
-use mathlib.Core.Bool.{Bool, true, false, not, _&&_}
+use mathlib.Core.Bool.{Bool, true, false, not}
 use mathlib.Core.List.{List, [], _∷_, _++_}
 use mathlib.Core.Option.{Option, none, some}
 use Prim.Native.Nat.{ℕ, zero, suc, _+_}

@@ -1,10 +1,10 @@
 -- A stable partition of a list: what holds of every member still does, and no member is lost. Laws of lists in general.
 use mathlib.Core.Path.{_≡_, refl, sym, ap, _∙_}
 use mathlib.Core.Bool.{Bool, true, false, not}
-use mathlib.Core.List.{List, [], _∷_, _++_}
+use mathlib.Core.List.{List, [], _∷_}
 use Prim.Native.Nat.{ℕ, _+_}
 use native.Mathlib.Omega.{arith}
-use lib.ListN.{length, length-append}
+use lib.ListN.{length}
 use Rattle.stage0_laws.specs.Lists.{All, sum, filter, partition}
 use Rattle.stage0_laws.specs.Members.{all-append, sum-append}
 

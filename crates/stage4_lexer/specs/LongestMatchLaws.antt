@@ -13,7 +13,7 @@ use Rattle.stage0_laws.specs.Lists.{All}
 use Rattle.stage0_laws.specs.Order.{compare-cases}
 use Rattle.stage1_sheet.specs.Sheet.{Rule}
 use Rattle.stage4_lexer.specs.Words.{WordOf}
-use Rattle.stage4_lexer.specs.RuleOrder.{Order, by-number, lower}
+use Rattle.stage4_lexer.specs.RuleOrder.{Order, by-number}
 use Rattle.stage4_lexer.specs.LongestMatch.{LongestMatch, NoMatch}
 use Rattle.stage4_lexer.specs.RuleOrderLaws.{one-wins, lower-number}
 use Rattle.stage4_lexer.specs.Positions.{Position, positions, first-positions, empty-match}

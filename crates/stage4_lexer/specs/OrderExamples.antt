@@ -1,10 +1,9 @@
 -- Worked cases of word rules: which regexes are words, the image's order of rules, and one table of matches by kind at the front of a text.
 -- Each row is computed by the walk over the rules in the image's order; one theorem says that every row's match is the right one by the
 -- words alone.
-use mathlib.Core.Path.{_≡_, refl, subst}
-use mathlib.Core.Bool.{Bool, true, false}
+use mathlib.Core.Path.{_≡_, refl}
+use mathlib.Core.Bool.{true, false}
 use mathlib.Core.List.{List, [], _∷_, map}
-use mathlib.Core.Option.{none}
 use Prim.Native.Nat.{ℕ}
 use Rattle.stage0_laws.specs.Lists.{All}
 use Rattle.stage0_laws.specs.Members.{_&_}
@@ -12,10 +11,10 @@ use Rattle.stage1_sheet.specs.Regex.{Regex, empty, class, concat, union, star}
 use Rattle.stage1_sheet.specs.Sheet.{Rule}
 use Rattle.stage4_lexer.specs.RuleOrder.{is-word, by-kind, words-first}
 use Rattle.stage4_lexer.specs.LongestMatch.{LongestMatch}
-use Rattle.stage4_lexer.specs.Positions.{positions, first-positions, empty-match}
+use Rattle.stage4_lexer.specs.Positions.{positions, first-positions}
 use Rattle.stage4_lexer.specs.Match.{matched}
 use Rattle.stage4_lexer.specs.Walk.{longest-match}
-use Rattle.stage4_lexer.specs.RuleOrderLaws.{first-selected, after-selected, after-other, ImageNumber, among-words, after-words}
+use Rattle.stage4_lexer.specs.RuleOrderLaws.{first-selected, after-other, ImageNumber, among-words, after-words}
 use Rattle.stage4_lexer.specs.LongestMatchLaws.{matched-right}
 use Rattle.stage4_lexer.specs.OrderedMatches.{lowest-is-best}
 use Rattle.stage4_lexer.specs.Computing.{computing-lexer}

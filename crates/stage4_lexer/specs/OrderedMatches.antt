@@ -1,14 +1,12 @@
 -- Matches by kind and by number: the lowest rule of the image's order is the best rule of the sheet, and what was found by number differs
 -- only where another rule stands above a word rule and both match equally far. Limits and question 7 do not ask for the order.
-use mathlib.Core.Path.{_≡_, sym, subst, _∙_}
-use mathlib.Core.Bool.{true≢false}
-use mathlib.Core.List.{List, []}
+use mathlib.Core.Path.{_≡_, sym, subst}
+use mathlib.Core.List.{List}
 use mathlib.Core.Logic.{_⊎_, inl, inr, ⊎-elim, _↔_}
 use mathlib.Core.Option.{none}
-use Prim.Native.Nat.{ℕ, _≤_, _<_}
+use Prim.Native.Nat.{ℕ, _<_}
 use native.Mathlib.Omega.{arith}
 use lib.ListN.{length, take}
-use Rattle.stage0_laws.specs.Lists.{All, sum}
 use Rattle.stage0_laws.specs.Order.{compare-cases}
 use Rattle.stage0_laws.specs.Partitions.{all-partition, sum-partition, length-partition}
 use Rattle.stage1_sheet.specs.Regex.{regex-nodes, class-count}

@@ -13,8 +13,9 @@ use Rattle.stage1_sheet.specs.Regex.{Regex, empty, class, concat, union, star}
 use Rattle.stage1_sheet.specs.Items.{RegexItem, empty-item, class-item, concat-item, union-item, star-item, item-classes}
 use Rattle.stage1_sheet.specs.ListLaws.{flatMap-append}
 use Rattle.stage1_sheet.specs.RegexItems.{regex-items-of, regex-tag}
+use Rattle.stage1_sheet_columns.specs.Tags.{parts-of}
 use Rattle.stage4_lexer.specs.RuleOrder.{is-word}
-use Rattle.stage4_lexer_order.specs.Ends.{parts-of, classes-of, word-item, BytesAt, ItemsAt, rule-end}
+use Rattle.stage4_lexer_order.specs.Ends.{classes-of, word-item, BytesAt, ItemsAt, rule-end}
 
 -- ---- an item and the parts of its regex
 

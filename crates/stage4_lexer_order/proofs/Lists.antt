@@ -2,10 +2,10 @@
 use mathlib.Core.Path.{_≡_, refl, sym, ap, _∙_}
 use mathlib.Core.Bool.{Bool, true, false, not, cond}
 use mathlib.Core.List.{List, [], _∷_, _++_, append-assoc, append-nil, map, flatMap}
-use Prim.Native.Nat.{ℕ, _+_}
+use Prim.Native.Nat.{_+_}
 use native.Mathlib.Omega.{arith}
 use lib.ListN.{length, length-append}
-use Rattle.stage0_laws.specs.Lists.{filter, sum}
+use Rattle.stage0_laws.specs.Lists.{filter}
 use Rattle.stage1_sheet.specs.ListLaws.{flatMap-append}
 
 pub filter-append : {A : Type 0} (p : A → Bool) (k l : List A) → filter p (k ++ l) ≡ filter p k ++ filter p l
@@ -29,13 +29,6 @@ pub flat-flat : {A B C : Type 0} (g : B → List C) (h : A → List B) (l : List
 unfolding flatMap
 flat-flat g h [] = refl
 flat-flat g h (a ∷ l) = flatMap-append g (h a) (flatMap h l) ∙ ap (λ x. flatMap g (h a) ++ x) (flat-flat g h l)
-
--- As many entries as n gives for each member.
-pub flat-length : {A B : Type 0} (f : A → List B) (n : A → ℕ) → ((a : A) → length (f a) ≡ n a) → (l : List A)
-    → length (flatMap f l) ≡ sum n l
-unfolding flatMap
-flat-length f n one [] = refl
-flat-length f n one (a ∷ l) = omega (arith, length-append (f a) (flatMap f l), one a, flat-length f n one l)
 
 module _ {A B : Type 0} (f : A → List B) (p : A → Bool) where
   -- One member, if it passes.

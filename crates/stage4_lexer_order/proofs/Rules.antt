@@ -5,21 +5,21 @@ use mathlib.Core.Bool.{Bool, true, false, not, cond}
 use mathlib.Core.List.{List, [], _∷_, _++_, append-assoc, map, flatMap}
 use Prim.Native.Nat.{ℕ, suc, _+_, _≤_, _<_}
 use native.Mathlib.Omega.{arith}
-use native.Mathlib.Nat.{add-zero}
 use native.Mathlib.Numerals.{add-one}
-use lib.ListN.{length, length-map, take, drop, getD}
-use lib.Seq.{drop-at, drop-drop, getD-drop}
+use lib.ListN.{length, length-map, take, drop}
+use lib.Seq.{drop-at, drop-drop}
 use Rattle.stage0_laws.specs.Lists.{sum}
 use Rattle.stage1_sheet.specs.Sheet.{Rule}
 use Rattle.stage1_sheet.specs.Items.{RegexItem, empty-item, class-item, concat-item, union-item, star-item, item-classes}
 use Rattle.stage1_sheet.specs.RegexItems.{regex-items-of, regex-tag}
 use Rattle.stage1_sheet_columns.specs.declared.RuleColumns.{RuleColumns}
 use Rattle.stage1_sheet_columns.specs.Holds.{low-of, high-of, items-of-rules, RulesOf}
+use Rattle.stage1_sheet_columns.specs.ColumnLaws.{Starts, low-one, high-one, entries, entry}
 use Rattle.stage4_lexer.specs.RuleOrder.{word-rule}
 use Rattle.stage4_lexer_order.specs.declared.RuleEnd.{RuleEnd}
 use Rattle.stage4_lexer_order.specs.Ends.{BytesAt, ItemsAt, rule-end}
 use Rattle.stage4_lexer_order.specs.Kinds.{of-kind, kind-of, kind-before, part}
-use Rattle.stage4_lexer_order.proofs.Lists.{map-flat, flat-flat, flat-length}
+use Rattle.stage4_lexer_order.proofs.Lists.{map-flat, flat-flat}
 use Rattle.stage4_lexer_order.proofs.Columns.{Filled, rule-at, Column, column-start, column-end, rule-within, stands}
 use Rattle.stage4_lexer_order.proofs.Columns.{Next, part-is, appended}
 
@@ -44,27 +44,11 @@ tags-all rules = map-flat regex-tag (items-of-rules rules) ∙ entries-all tag-o
 tags-many : (is : List RegexItem) → length is ≡ length (flatMap tag-of is)
 tags-many is = sym (length-map is regex-tag) ∙ ap length (map-flat regex-tag is)
 
-low-one : (i : RegexItem) → length (low-of i) ≡ item-classes i
-unfolding low-of item-classes
-low-one empty-item = refl
-low-one (class-item low high) = refl
-low-one concat-item = refl
-low-one union-item = refl
-low-one star-item = refl
-
-high-one : (i : RegexItem) → length (high-of i) ≡ item-classes i
-unfolding high-of item-classes
-high-one empty-item = refl
-high-one (class-item low high) = refl
-high-one concat-item = refl
-high-one union-item = refl
-high-one star-item = refl
-
 lows-many : (is : List RegexItem) → length (flatMap low-of is) ≡ sum item-classes is
-lows-many is = flat-length low-of item-classes low-one is
+lows-many = entries low-of low-one
 
 highs-many : (is : List RegexItem) → length (flatMap high-of is) ≡ sum item-classes is
-highs-many is = flat-length high-of item-classes high-one is
+highs-many = entries high-of high-one
 
 pub rules-counted : (c : RuleColumns) (rules : List Rule) (places : List ℕ) → RulesOf c rules places → c .count ≡ length rules
 rules-counted c rules places h = h .rules ∙ length-map rules (λ r. r .action)
@@ -129,24 +113,17 @@ none-held c n i k = rules-held c [] (record {
 
 -- ---- the items of a rule
 
--- From place p on, a column goes on with what g gives for the items.
-abbrev Stands : (RegexItem → List ℕ) → List ℕ → ℕ → List RegexItem → Type 0
-Stands g l p is = (rest : List ℕ) × (drop p l ≡ flatMap g is ++ rest)
-
-stands-next : (g : RegexItem → List ℕ) (l : List ℕ) (p n : ℕ) (i : RegexItem) (is : List RegexItem) → length (g i) ≡ n
-    → Stands g l p (i ∷ is) → Stands g l (p + n) is
+starts-next : (g : RegexItem → List ℕ) (l : List ℕ) (p n : ℕ) (i : RegexItem) (is : List RegexItem) → length (g i) ≡ n
+    → Starts g l p (i ∷ is) → Starts g l (p + n) is
 unfolding flatMap
-stands-next g l p n i is e s = (
+starts-next g l p n i is e s = (
   s .0,
   sym (drop-drop n p l) ∙ ap (drop n) (s .1 ∙ append-assoc (g i) (flatMap g is) (s .0)) ∙ drop-at (g i) (flatMap g is ++ s .0) n e,
 )
 
-entry : (l : List ℕ) (p x : ℕ) (rest : List ℕ) → drop p l ≡ x ∷ rest → getD l p 0 ≡ x
-entry l p x rest e = ap (λ (i : ℕ). getD l i 0) (sym (add-zero p)) ∙ sym (getD-drop p l 0 0) ∙ ap (λ (m : List ℕ). getD m 0 0) e
-
 module _ (tag low high : List ℕ) where
   bytes-at : (c : ℕ) (i : RegexItem) (is : List RegexItem) → c + item-classes i ≤ 64
-      → Stands low-of low c (i ∷ is) → Stands high-of high c (i ∷ is) → BytesAt low high c i
+      → Starts low-of low c (i ∷ is) → Starts high-of high c (i ∷ is) → BytesAt low high c i
   unfolding flatMap low-of high-of item-classes
   bytes-at c empty-item is b l h = tt
   bytes-at c (class-item x y) is b l h =
@@ -156,7 +133,7 @@ module _ (tag low high : List ℕ) where
   bytes-at c star-item is b l h = tt
 
   items-at : (i c : ℕ) (is : List RegexItem) → i + length is ≤ 256 → c + sum item-classes is ≤ 64
-      → Stands tag-of tag i is → Stands low-of low c is → Stands high-of high c is → ItemsAt tag low high i c is
+      → Starts tag-of tag i is → Starts low-of low c is → Starts high-of high c is → ItemsAt tag low high i c is
   unfolding flatMap
   items-at i c [] a b t l h = tt
   items-at i c (x ∷ is) a b t l h = (
@@ -164,9 +141,9 @@ module _ (tag low high : List ℕ) where
     entry tag i (regex-tag x) (flatMap tag-of is ++ t .0) (t .1),
     bytes-at c x is (omega arith) l h,
     items-at (suc i) (c + item-classes x) is (omega arith) (omega arith)
-        (subst (λ (n : ℕ). Stands tag-of tag n is) (add-one i) (stands-next tag-of tag i 1 x is refl t))
-        (stands-next low-of low c (item-classes x) x is (low-one x) l)
-        (stands-next high-of high c (item-classes x) x is (high-one x) h),
+        (subst (λ (n : ℕ). Starts tag-of tag n is) (add-one i) (starts-next tag-of tag i 1 x is refl t))
+        (starts-next low-of low c (item-classes x) x is (low-one x) l)
+        (starts-next high-of high c (item-classes x) x is (high-one x) h),
   )
 
 -- ---- one rule after the other

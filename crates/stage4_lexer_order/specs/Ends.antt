@@ -4,7 +4,7 @@ use mathlib.Core.Path.{_≡_}
 use mathlib.Core.Bool.{Bool, not, _&&_, cond}
 use mathlib.Core.List.{List, [], _∷_}
 use Prim.Native.Nat.{ℕ, suc, _+_, _<_}
-use lib.Dec.{eqb, ltb}
+use lib.Dec.{eqb}
 use lib.ListN.{length, getD}
 use Rattle.stage0_laws.specs.Lists.{sum}
 use Rattle.stage1_sheet.specs.Regex.{Regex}
@@ -13,11 +13,7 @@ use Rattle.stage1_sheet.specs.RegexItems.{regex-items-of, regex-tag}
 use Rattle.stage4_lexer.specs.RuleOrder.{is-word}
 use Rattle.stage4_lexer_order.specs.declared.RuleEnd.{RuleEnd}
 
--- By the tag: how many parts an item has, how many classes it is, and whether it may stand in a word rule, where low and high are its
--- bytes if it is a class.
-unfoldable pub parts-of : ℕ → ℕ
-parts-of tag = cond (ltb tag 2) 0 (cond (ltb tag 4) 2 1)
-
+-- By the tag: how many classes an item is, and whether it may stand in a word rule, where low and high are its bytes if it is a class.
 unfoldable pub classes-of : ℕ → ℕ
 classes-of tag = cond (eqb tag 1) 1 0
 

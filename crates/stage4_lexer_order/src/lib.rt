@@ -11,7 +11,7 @@ ghost use Rattle.stage1_sheet.specs.RegexItems.{regex-items-of};
 ghost use Rattle.stage1_sheet.specs.Sheet.{Rule};
 ghost use Rattle.stage1_sheet_columns.specs.Holds.{RulesOf};
 ghost use Rattle.stage4_lexer.specs.RuleOrder.{words-first};
-ghost use Rattle.stage4_lexer_order.specs.Ends.{parts-of, classes-of, word-item, ItemsAt, rule-end};
+ghost use Rattle.stage4_lexer_order.specs.Ends.{classes-of, word-item, ItemsAt, rule-end};
 ghost use Rattle.stage4_lexer_order.specs.Kinds.{kind-of, kind-before, part};
 
 // Where a rule's items and classes end, and whether it is a word rule.
@@ -19,19 +19,6 @@ struct RuleEnd {
     word: bool,
     item: usize,
     class: usize,
-}
-
-// How many of the regexes after an item are its parts.
-fn parts_of(tag: u8) -> usize
-    ensures { λ n. ⌜ n ≡ parts-of tag ⌝ }
-{
-    if tag < 2 {
-        return 0;
-    }
-    if tag < 4 {
-        return 2;
-    }
-    1
 }
 
 // How many classes an item is.
@@ -75,7 +62,7 @@ fn rule_end<'a>(
         let t = tag[i];
         word = word & word_item(t, low, high, c);
         c += classes_of(t);
-        due = due - 1 + parts_of(t);
+        due = due - 1 + stage1_sheet_columns::parts_of(t);
         i += 1;
     }
     RuleEnd {

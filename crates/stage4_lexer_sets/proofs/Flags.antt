@@ -14,7 +14,8 @@ use Rattle.stage1_sheet.specs.Items.{RegexItem, empty-item, class-item, concat-
 use Rattle.stage1_sheet.specs.Items.{regex-parts, regex-before, regexes}
 use Rattle.stage1_sheet.specs.RegexItems.{regex-items-of, regex-tag}
 use Rattle.stage4_lexer.specs.Positions.{nullable}
-use Rattle.stage4_lexer_sets.specs.Stacks.{TagsHeld, Stacked, parts-of, flag-of, first-up}
+use Rattle.stage1_sheet_columns.specs.Tags.{parts-of}
+use Rattle.stage4_lexer_sets.specs.Stacks.{TagsHeld, Stacked, flag-of, first-up}
 use Rattle.stage4_lexer_sets.proofs.Items.{regexes-all, item-before, Top, turn-top}
 use Rattle.stage4_lexer_sets.proofs.Stacks.{Piled, piled-none, piled-more, top-member, next-member, stacked-at}
 

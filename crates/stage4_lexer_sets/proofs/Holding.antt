@@ -4,16 +4,16 @@ use mathlib.Core.List.{List, [], _∷_, _++_, append-assoc, map, flatMap}
 use Prim.Native.Nat.{ℕ, zero, suc, _+_, _≤_, _<_}
 use native.Mathlib.Omega.{arith}
 use native.Mathlib.Nat.{zero-add, add-zero, suc-add}
-use lib.ListN.{length, drop, getD, length-append}
-use lib.Seq.{drop-drop, drop-at, getD-drop}
+use lib.ListN.{length, drop, getD}
+use lib.Seq.{drop-drop, drop-at}
 use Rattle.stage0_laws.specs.Bits.{bit}
-use Rattle.stage0_laws.specs.Lists.{sum}
 use Rattle.stage1_sheet.specs.Regex.{Regex, empty, class, concat, union, star, class-count}
 use Rattle.stage1_sheet.specs.Sheet.{Rule}
-use Rattle.stage1_sheet.specs.Items.{RegexItem, empty-item, class-item, concat-item, union-item, star-item, item-classes}
+use Rattle.stage1_sheet.specs.Items.{RegexItem, class-item, item-classes}
 use Rattle.stage1_sheet.specs.ListLaws.{flatMap-append}
 use Rattle.stage1_sheet.specs.RegexItems.{regex-items-of, items-classes}
 use Rattle.stage1_sheet_columns.specs.Holds.{low-of, high-of, items-of-rules}
+use Rattle.stage1_sheet_columns.specs.ColumnLaws.{Starts, low-one, high-one, entries, entry}
 use Rattle.stage4_lexer.specs.Positions.{Position, last, follow, part-positions, positions-from}
 use Rattle.stage4_lexer.specs.PositionBounds.{class-total}
 use Rattle.stage4_lexer_columns.specs.Held.{held-position, held-from}
@@ -22,34 +22,9 @@ use Rattle.stage4_lexer_sets.proofs.Ranges.{last-here, last-later, foll
 
 -- ---- entries of a column, one a class
 
--- From place p on, the list goes on with what g gives for each item.
-abbrev pub Starts : (RegexItem → List ℕ) → List ℕ → ℕ → List RegexItem → Type 0
-Starts g l p is = (rest : List ℕ) × (drop p l ≡ flatMap g is ++ rest)
-
-pub low-one : (i : RegexItem) → length (low-of i) ≡ item-classes i
-unfolding low-of item-classes
-low-one empty-item = refl
-low-one (class-item low high) = refl
-low-one concat-item = refl
-low-one union-item = refl
-low-one star-item = refl
-
-pub high-one : (i : RegexItem) → length (high-of i) ≡ item-classes i
-unfolding high-of item-classes
-high-one empty-item = refl
-high-one (class-item low high) = refl
-high-one concat-item = refl
-high-one union-item = refl
-high-one star-item = refl
-
 module _ (g : RegexItem → List ℕ) (one : (i : RegexItem) → length (g i) ≡ item-classes i) where
-  pub entries : (is : List RegexItem) → length (flatMap g is) ≡ sum item-classes is
-  unfolding flatMap
-  entries [] = refl
-  entries (i ∷ is) = length-append (g i) (flatMap g is) ∙ ap₂ _+_ (one i) (entries is)
-
   pub entries-regex : (r : Regex) → length (flatMap g (regex-items-of r)) ≡ class-count r
-  entries-regex r = entries (regex-items-of r) ∙ items-classes r
+  entries-regex r = entries g one (regex-items-of r) ∙ items-classes r
 
   -- A regex's entries, then those of further items.
   module _ (l : List ℕ) (p : ℕ) (r : Regex) (is : List RegexItem) (s : Starts g l p (regex-items-of r ++ is)) where
@@ -67,10 +42,6 @@ module _ (g : RegexItem → List ℕ) (one : (i : RegexItem) → length (g i) �
       sym (drop-drop (class-count r) p l) ∙ ap (drop (class-count r)) split
           ∙ drop-at (flatMap g (regex-items-of r)) (flatMap g is ++ s .0) (class-count r) (entries-regex r),
     )
-
--- The entry of a class.
-pub entry : (l : List ℕ) (p x : ℕ) (rest : List ℕ) → drop p l ≡ x ∷ rest → getD l p 0 ≡ x
-entry l p x rest e = ap (λ (i : ℕ). getD l i 0) (sym (add-zero p)) ∙ sym (getD-drop p l 0 0) ∙ ap (λ (m : List ℕ). getD m 0 0) e
 
 -- ---- positions
 

@@ -12,7 +12,8 @@ use Rattle.stage1_sheet.specs.Regex.{Regex, empty, class, concat, union, star, 
 use Rattle.stage1_sheet.specs.Items.{RegexItem, empty-item, class-item, concat-item, union-item, star-item, regex-parts, item-classes}
 use Rattle.stage1_sheet.specs.Items.{regex-before, regexes}
 use Rattle.stage1_sheet.specs.RegexItems.{regex-items-of, regex-tag, items-classes, regexes-items}
-use Rattle.stage4_lexer_sets.specs.Stacks.{TagsHeld, parts-of}
+use Rattle.stage1_sheet_columns.specs.Tags.{parts-of}
+use Rattle.stage4_lexer_sets.specs.Stacks.{TagsHeld}
 
 pub regexes-all : (rs : List Regex) → regexes (flatMap regex-items-of rs) ≡ rs
 unfolding flatMap regexes

@@ -26,7 +26,8 @@ use Rattle.stage4_lexer_sets.specs.Stacks.{TagsHeld, Stacked, first-up}
 use Rattle.stage4_lexer_sets.specs.Forests.{all-first, RegexesHeld, ForestOf, RulesStacked, RuleSetsOf}
 use Rattle.stage4_lexer_sets.specs.Answer.{empty-rule, PositionsOf}
 use Rattle.stage4_lexer_sets.proofs.Items.{classes-all}
-use Rattle.stage4_lexer_sets.proofs.Holding.{Starts, low-one, entries, rules-held}
+use Rattle.stage1_sheet_columns.specs.ColumnLaws.{Starts, low-one, entries}
+use Rattle.stage4_lexer_sets.proofs.Holding.{rules-held}
 
 -- The rules' regexes, and what the definitions over rules say of them.
 abbrev pub regexes-of : List Rule → List Regex

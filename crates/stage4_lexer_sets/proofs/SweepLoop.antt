@@ -12,7 +12,8 @@ use Rattle.stage1_sheet.specs.Items.{item-classes, regexes}
 use Rattle.stage1_sheet.specs.RegexItems.{regex-items-of, regex-tag}
 use Rattle.stage4_lexer_sets.specs.declared.Sets.{Sets}
 use Rattle.stage4_lexer_sets.specs.declared.Node.{Node}
-use Rattle.stage4_lexer_sets.specs.Stacks.{Stacked, parts-of}
+use Rattle.stage1_sheet_columns.specs.Tags.{parts-of}
+use Rattle.stage4_lexer_sets.specs.Stacks.{Stacked}
 use Rattle.stage4_lexer_sets.specs.Nodes.{node-of}
 use Rattle.stage4_lexer_sets.specs.Forests.{all-sets, all-follow, joined, unused, RegexesHeld, ForestOf}
 use Rattle.stage4_lexer_sets.proofs.Items.{regexes-all, classes-all, item-before, Top, turn-top}

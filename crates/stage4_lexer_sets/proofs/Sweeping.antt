@@ -16,7 +16,8 @@ use Rattle.stage1_sheet.specs.RegexItems.{regex-tag}
 use Rattle.stage4_lexer.specs.Positions.{nullable, first, last, follow}
 use Rattle.stage4_lexer_sets.specs.declared.Sets.{Sets}
 use Rattle.stage4_lexer_sets.specs.declared.Node.{Node}
-use Rattle.stage4_lexer_sets.specs.Stacks.{Stacked, parts-of}
+use Rattle.stage1_sheet_columns.specs.Tags.{parts-of}
+use Rattle.stage4_lexer_sets.specs.Stacks.{Stacked}
 use Rattle.stage4_lexer_sets.specs.Nodes.{sets-of, node-of, empty-node, class-node, concat-node, union-node, star-node}
 use Rattle.stage4_lexer_sets.specs.Forests.{all-sets, all-follow, joined, unused}
 use Rattle.stage4_lexer_sets.proofs.Changes.{changed-length, joined-at}

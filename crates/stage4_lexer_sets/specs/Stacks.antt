@@ -5,7 +5,7 @@ use mathlib.Core.Bool.{Bool, _&&_, _||_, not, cond}
 use mathlib.Core.List.{List, [], _∷_, map, flatMap}
 use mathlib.Core.Option.{Option, none, some}
 use Prim.Native.Nat.{ℕ, suc, _+_, _≤_}
-use lib.Dec.{eqb, ltb}
+use lib.Dec.{eqb}
 use lib.ListN.{length, take, getD}
 use Rattle.stage1_sheet.specs.Regex.{Regex}
 use Rattle.stage1_sheet.specs.RegexItems.{regex-items-of, regex-tag}
@@ -21,10 +21,7 @@ abbrev pub Stacked : {A : Type 0} → A → List A → List A → Type 0
 Stacked unused stack [] = Unit
 Stacked unused stack (a ∷ l) = (getD stack (2 + length l) unused ≡ a) × Stacked unused stack l
 
--- By the tag: how many parts an item has, and whether its regex has the empty word, where r and s say so of the next two.
-unfoldable pub parts-of : ℕ → ℕ
-parts-of tag = cond (ltb tag 2) 0 (cond (ltb tag 4) 2 1)
-
+-- By the tag: whether an item's regex has the empty word, where r and s say so of the next two.
 unfoldable pub flag-of : ℕ → Bool → Bool → Bool
 flag-of tag r s = cond (eqb tag 2) (r && s) (cond (eqb tag 3) (r || s) (not (eqb tag 1)))
 

@@ -13,7 +13,7 @@ ghost use Rattle.stage1_sheet.specs.Regex.{Regex};
 ghost use Rattle.stage1_sheet.specs.Sheet.{Rule};
 ghost use Rattle.stage1_sheet_columns.specs.Holds.{RulesOf};
 ghost use Rattle.stage4_lexer.specs.Positions.{nullable, empty-match};
-ghost use Rattle.stage4_lexer_sets.specs.Stacks.{TagsHeld, parts-of, flag-of, Stacked, first-up};
+ghost use Rattle.stage4_lexer_sets.specs.Stacks.{TagsHeld, flag-of, Stacked, first-up};
 ghost use Rattle.stage4_lexer_sets.specs.Nodes.{empty-node, class-node, concat-node, union-node, star-node, node-of};
 ghost use Rattle.stage4_lexer_sets.specs.Forests.{RegexesHeld, joined, filled, ForestOf, RulesStacked, RuleSetsOf};
 ghost use Rattle.stage4_lexer_sets.specs.Answer.{empty-rule, PositionsOf};
@@ -55,19 +55,6 @@ pub enum EmptyRule {
     Rule(u8),
 }
 
-// How many of the regexes after an item are its parts.
-fn parts_of(tag: u8) -> usize
-    ensures { λ n. ⌜ n ≡ parts-of tag ⌝ }
-{
-    if tag < 2 {
-        return 0;
-    }
-    if tag < 4 {
-        return 2;
-    }
-    1
-}
-
 // Whether the regex of an item matches the empty word, if the next two regexes match it or do not. The empty one and a star do in any
 // case, and a class does not.
 fn flag_of(tag: u8, r: bool, s: bool) -> bool
@@ -95,7 +82,7 @@ fn flags_of(tag: &[u8; 256], items: usize) -> [bool; 258]
     while 0 < at {
         at -= 1;
         let flag = flag_of(tag[at], flags[top], flags[top - 1]);
-        top = top + 1 - parts_of(tag[at]);
+        top = top + 1 - stage1_sheet_columns::parts_of(tag[at]);
         flags[top] = flag;
     }
     flags
@@ -291,7 +278,7 @@ fn sweep(tag: &[u8; 256], items: usize, classes: usize) -> Forest
         at -= 1;
         let node = node_of(tag[at], stack[top], stack[top - 1], base);
         join_follow(&mut follow, node.from, node.next);
-        top = top + 1 - parts_of(tag[at]);
+        top = top + 1 - stage1_sheet_columns::parts_of(tag[at]);
         let sets = node.sets;
         stack[top] = sets;
         base = node.base;

@@ -5,7 +5,7 @@ use mathlib.Core.Bool.{true, false}
 use mathlib.Core.List.{List, [], _∷_}
 use Prim.Native.Nat.{ℕ}
 use Rattle.stage1_sheet.specs.SheetD.{sheet-D}
-use Rattle.stage3_normal_form.specs.Productions.{Production, Row}
+use Rattle.stage3_normal_form.specs.Productions.{Production}
 use Rattle.stage5_image.specs.Image.{plain-image, image-of}
 use Rattle.stage5_image.specs.Computing.{computing-image}
 

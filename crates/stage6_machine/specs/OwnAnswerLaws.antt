@@ -1,14 +1,12 @@
 -- The sheet's own answer is one: two answers to a text are equal. So "exactly the sheet's own answer" has its full force.
 use mathlib.Core.Path.{_≡_, refl, sym, ap, subst, _∙_}
 use mathlib.Core.List.{List, [], _∷_, _++_}
-use Prim.Native.Nat.{ℕ, zero, suc, _+_, _<_}
+use Prim.Native.Nat.{ℕ, _+_}
 use native.Mathlib.Omega.{arith}
-use lib.ListN.{length, drop}
-use Rattle.stage1_sheet.specs.Sheet.{Rule, Sheet}
-use Rattle.stage2_types.specs.Denotation.{Denotes}
+use Rattle.stage1_sheet.specs.Sheet.{Sheet}
 use Rattle.stage4_lexer.specs.Words.{RuleAt}
 use Rattle.stage4_lexer.specs.RuleOrder.{Order, by-kind}
-use Rattle.stage4_lexer.specs.LongestMatch.{LongestMatch, NoMatch}
+use Rattle.stage4_lexer.specs.LongestMatch.{LongestMatch}
 use Rattle.stage4_lexer.specs.RuleOrderLaws.{rule-one}
 use Rattle.stage4_lexer.specs.LongestMatchLaws.{longest-one, longest-not-none}
 use Rattle.stage6_machine.specs.Answer.{Answer, answer}

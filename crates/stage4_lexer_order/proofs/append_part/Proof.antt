@@ -5,7 +5,6 @@ use mathlib.Core.Bool.{not, false}
 use mathlib.Core.List.{_++_, append-nil}
 use Prim.Native.Nat.{ℕ, _+_, _-_, _≤_, _<_}
 use lib.ListN.{length, take, drop, length-set}
-use Rattle.stage4_lexer_order.specs.Kinds.{part}
 use Rattle.stage4_lexer_order.proofs.Parts.{part-unwanted, part-wanted, part-length, part-start, part-more}
 use Rattle.stage4_lexer_order.proofs.append_part.Statement.{statement}
 use Rattle.stage4_lexer_order.proofs.append_part.Tie as tie

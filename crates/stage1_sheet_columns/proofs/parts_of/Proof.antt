@@ -1,8 +1,8 @@
--- `stage4_lexer_order::parts_of` meets its contract: one number for each way through.
+-- `stage1_sheet_columns::parts_of` meets its contract: one number for each way through.
 use borrow.Author.Tests.{lt-ltb, le-ltb}
-use Rattle.stage4_lexer_order.specs.Ends.{parts-of}
-use Rattle.stage4_lexer_order.proofs.parts_of.Statement.{statement}
-use Rattle.stage4_lexer_order.proofs.parts_of.Tie as tie
+use Rattle.stage1_sheet_columns.specs.Tags.{parts-of}
+use Rattle.stage1_sheet_columns.proofs.parts_of.Statement.{statement}
+use Rattle.stage1_sheet_columns.proofs.parts_of.Tie as tie
 
 returns : tie.Need-returns
 unfolding parts-of
