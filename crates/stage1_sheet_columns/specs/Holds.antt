@@ -51,7 +51,7 @@ pub record RulesHold (c : RuleColumns) (actions places : List ℕ) (items : List
   pub highs-held : take (c .classes) (c .high) ≡ flatMap high-of items
   pub classes-counted : c .classes ≡ length (flatMap low-of items)
 
--- The items of all rules, in sheet order.
+-- The items of all rules, in their order.
 unfoldable pub items-of-rules : List Rule → List RegexItem
 items-of-rules rules = flatMap (λ r. regex-items-of (r .regex)) rules
 

@@ -1,5 +1,6 @@
--- Worked cases: the positions of sheet D's rules, and one table of longest matches at the front of a text, by D's rules and others.
--- Each row is computed by the walk; one theorem says that every row's match is the right one by the words alone.
+-- Worked cases by number: the positions of sheet D's rules as they stand, and one table of longest matches at the front of a text, by D's
+-- rules and others. Each row is computed by the walk; one theorem says that every row's match is the right one by the words alone. Cases by
+-- kind are elsewhere (OrderExamples).
 use mathlib.Core.Path.{_≡_, refl, subst}
 use mathlib.Core.Bool.{true}
 use mathlib.Core.List.{List, [], _∷_}
@@ -39,7 +40,7 @@ rules-if-word =
 abbrev pub rules-sign : List Rule
 rules-sign = record { action = 1; regex = concat (union empty (class 45 45)) (class 48 57) } ∷ []
 
--- D's positions and first set, as its image has them.
+-- D's positions and first set, with the rules as they stand in the sheet.
 pub positions-of-d : positions rules-of-d
     ≡ record { low = 48; high = 57; rule = 0; last = true; follow = 2 }
     ∷ record { low = 48; high = 57; rule = 0; last = true; follow = 2 }

@@ -1,5 +1,5 @@
--- Positions are the byte classes, in sheet order. "First, last and follow are the usual ones: where a match may begin, where it
--- may end, which position may come next." A set of positions is one number. A regex's own positions start at a base.
+-- Positions are the byte classes, in the order of the rules that are given. "First, last and follow are the usual ones: where a match may
+-- begin, where it may end, which position may come next." A set of positions is one number. A regex's own positions start at a base.
 use mathlib.Core.Bool.{Bool, true, false, _&&_, _||_, cond}
 use mathlib.Core.List.{List, [], _∷_, _++_}
 use mathlib.Core.Option.{Option, none, some}
@@ -42,7 +42,8 @@ follow (concat r s) base p =
 follow (union r s) base p = bitOr (follow r base p) (follow s (base + class-count r) p)
 follow (star r) base p = bitOr (follow r base p) (cond (bit (last r base) p) (first r base) 0)
 
--- "per position (a byte class, in sheet order) low, high, rule, last (0 or 1), follow set"
+-- "per position (a byte class, in sheet order) low, high, rule, last (0 or 1), follow set". From request [4] on an image has them in the order of
+-- its rules, and within a rule as in the sheet.
 pub record Position : Type 0 where
   pub low : ℕ
   pub high : ℕ

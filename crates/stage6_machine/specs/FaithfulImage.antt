@@ -33,9 +33,11 @@ use Rattle.stage5_image.specs.ImageLaws.{normal-form-inside, normal-form-some}
 use Rattle.stage5_image.specs.Image.{Image, plain-image, skips-rule}
 use Rattle.stage5_image.specs.Unfolding.{Returns}
 use Rattle.stage6_machine.specs.Turn.{take-rule, all-nullable}
-use Rattle.stage6_machine.specs.OwnAnswer.{Allowed, ActionOf}
+use Rattle.stage6_machine.specs.Run.{first-state, run-from, long-enough}
+use Rattle.stage6_machine.specs.RunsLaws.{start-runs}
+use Rattle.stage6_machine.specs.OwnAnswer.{ActionOf, OwnAnswerByNumber}
 use Rattle.stage6_machine.specs.TakingLaws.{Taken, taken, nullable-same, numbers-of, AllKnown}
-use Rattle.stage6_machine.specs.RunAnswers.{TakenIs, Faithful}
+use Rattle.stage6_machine.specs.RunAnswers.{TakenIs, Faithful, runs-own-answer}
 
 -- The image's flag of a rule says whether it skips.
 skip-flag : {rules : List Rule} {k : ℕ} {r : Rule} → RuleAt rules k r → getD (map skips-rule rules) k false ≡ eqb (r .action) 0
@@ -119,3 +121,10 @@ module _ (s : Sheet) {a : LanguageType} (limits : WithinLimits s) (typed : [] �
     taking = takes-right;
     ending = ends;
   }
+
+  -- So there is an own answer by number to every text: what a run of this image answers.
+  pub answered-by-number : empty-match (s .rules) 0 ≡ none → (text : List ℕ)
+      → OwnAnswerByNumber s text (run-from (plain-image s) (long-enough text) text (length text) first-state)
+  answered-by-number no-empty text =
+      runs-own-answer s text (plain-image s) (long-enough text) StandsFor (image-faithful no-empty) (omega arith) start-stands
+      (start-runs (plain-image s) text (long-enough text))

@@ -23,9 +23,8 @@ use Rattle.stage4_lexer.specs.LongestMatchLaws.{Right}
 use Rattle.stage5_image.specs.Image.{Image}
 use Rattle.stage6_machine.specs.Answer.{Answer, answer}
 use Rattle.stage6_machine.specs.Turn.{take-rule, all-nullable}
-use Rattle.stage6_machine.specs.Run.{match-at, run-image, long-enough}
+use Rattle.stage6_machine.specs.Run.{match-at, long-enough}
 use Rattle.stage6_machine.specs.Runs.{RunsFrom, nullable-at-end, pending-at-end, nothing-matched, rule-skipped, rule-untaken, stack-overflowed, rule-taken}
-use Rattle.stage6_machine.specs.RunsLaws.{start-runs}
 use Rattle.stage6_machine.specs.OwnAnswer.{Allowed, ActionOf, AnswersFrom, accepts, ends-early, no-rule, skips, takes, refuses, OwnAnswerByNumber}
 
 -- What taking a token's rule answers: refused, and no denoted sequence goes on with the token; or taken, some does, and the

@@ -11,7 +11,8 @@ use Rattle.stage5_image.specs.Check.{work-bytes, CheckAnswer, check, check-answ
 use Rattle.stage5_image.specs.Write.{Written, refused, written, write, written-part}
 use Rattle.stage6_machine.specs.Answer.{Answer, answer}
 use Rattle.stage6_machine.specs.Run.{run, long-enough}
-use Rattle.stage6_machine.specs.OwnAnswer.{OwnAnswer}
+use Rattle.stage6_machine.specs.OwnAnswer.{OwnAnswer, OwnAnswerByNumber}
+use Rattle.stage6_machine.specs.Lexes.{ReadingChanges}
 use Rattle.stage6_machine.specs.Runs.{Runs}
 use Rattle.stage7_cases.specs.ImageD.{rules-of-image-D, image-D}
 
@@ -24,6 +25,8 @@ pub data Case : Type 0 where
   checks : List ℕ → ℕ → CheckAnswer → Case
   -- a sheet, a text, and the answer of the sheet's image
   reads : List ℕ → List ℕ → Answer → Case
+  -- a sheet, a text, and the sheet's own answer with the lowest rule picked, where the reading changes by kind
+  changes : List ℕ → List ℕ → Answer → Case
   -- an image, a text, and the answer of a run over it
   runs : List ℕ → List ℕ → Answer → Case
   -- a sheet whose expression denotes no token sequence
@@ -44,6 +47,7 @@ Holds (writes sheet c) = written-sheet sheet ≡ c
 Holds (writes-with work room sheet c) = write sheet work room ≡ c
 Holds (checks sheet work a) = check-answer (check sheet work) ≡ a
 Holds (reads sheet text a) = (run-of-sheet sheet text ≡ a) × (s : Sheet) × Spells sheet s × OwnAnswer s text a
+Holds (changes sheet text a) = (s : Sheet) × Spells sheet s × OwnAnswerByNumber s text a × ReadingChanges s text
 Holds (runs image text a) = (run image text (long-enough text) ≡ a) × Runs image text (long-enough text) a
 Holds (denotes-nothing sheet) = (s : Sheet) × Spells sheet s × ((tokens : List ℕ) → Denotes (s .expression) tokens → ⊥)
 

@@ -1,38 +1,48 @@
--- Every row of the four tables of worked cases holds: what is computed of a row, and, by the demands, what follows for the sheet that
+-- Every row of the five tables of worked cases holds: what is computed of a row, and, by the demands, what follows for the sheet that
 -- its bytes spell. The rows themselves stand in `Cases`, `RepetitionCases`, `CheckCases`, `PaddingCases` and `WordCases`.
 use mathlib.Core.Path.{_≡_, refl, sym, ap, subst, _∙_}
+use mathlib.Core.Bool.{not}
 use mathlib.Core.List.{List, [], _∷_, _++_}
+use mathlib.Core.Logic.{_⊎_, ⊎-elim}
 use Prim.Native.Nat.{ℕ, zero, suc, _+_, _*_, _≤_}
 use native.Mathlib.Omega.{arith}
-use lib.Dec.{T, leb, leb→le, lit≤}
+use lib.Dec.{T, eqb, leb, leb→le, lit≤}
 use lib.ListN.{length}
 use Rattle.stage0_laws.specs.Lists.{All}
+use borrow.Author.Tests.{eq-eqb}
 use Rattle.stage0_laws.specs.Members.{_&_}
+use Rattle.stage0_laws.specs.Truth.{not-holds, true-holds}
 use Rattle.stage1_sheet.specs.Limits.{most-sheet-bytes}
 use Rattle.stage1_sheet.specs.Sheet.{Sheet}
 use Rattle.stage1_sheet.specs.WellFormed.{Spells}
 use Rattle.stage1_sheet.specs.FieldLaws.{Bytes, all-bytes, tested-bytes}
 use Rattle.stage1_sheet.specs.Field.{Reading, got}
 use Rattle.stage1_sheet.specs.Reading.{Contents, read-sheet}
-use Rattle.stage1_sheet.specs.ReadingLaws.{SheetAccepted, read-accepted}
+use Rattle.stage1_sheet.specs.ReadingLaws.{read-accepted, spelled-once}
+use Rattle.stage1_sheet.specs.Regex.{class, concat, star}
 use Rattle.stage1_sheet.specs.Expression.{token, sequence, fixed-point, variable}
 use Rattle.stage1_sheet.specs.SheetD.{sheet-D, bytes-of-D}
 use Rattle.stage1_sheet.specs.Twins.{Twins}
 use Rattle.stage1_sheet.specs.TwinLaws.{spelled-twins}
 use Rattle.stage1_sheet.specs.Examples.{d-spelled}
 use Rattle.stage2_types.specs.Denotation.{Denotes, denotation, iterate}
+use Rattle.stage4_lexer.specs.EmptyWord.{none-empty}
+use Rattle.stage5_image.specs.Image.{plain-image}
 use Rattle.stage5_image.specs.Check.{work-bytes, check, check-answer}
+use Rattle.stage5_image.specs.Checks.{Passable}
 use Rattle.stage5_image.specs.Write.{Written, written, write, written-part}
-use Rattle.stage5_image.specs.Writes.{Acceptable}
 use Rattle.stage6_machine.specs.Answer.{Answer, answer}
-use Rattle.stage6_machine.specs.Run.{most-text-bytes, run, long-enough}
-use Rattle.stage6_machine.specs.OwnAnswer.{OwnAnswer}
+use Rattle.stage6_machine.specs.Run.{most-text-bytes, first-state, run-from, run, long-enough}
+use Rattle.stage6_machine.specs.OwnAnswer.{OwnAnswer, OwnAnswerByNumber}
+use Rattle.stage6_machine.specs.OwnAnswerLaws.{by-number-one}
+use Rattle.stage6_machine.specs.Lexes.{ReadingChanges}
+use Rattle.stage6_machine.specs.FaithfulImage.{answered-by-number}
 use Rattle.stage6_machine.specs.Runs.{Runs}
 use Rattle.stage6_machine.specs.Computing.{computing-machine}
 use Rattle.stage7_demands.specs.Demands.{Demand1, Demand2, Demand3}
 use Rattle.stage7_demands.specs.Proofs.{demand-1, demand-2, demand-3}
 use Rattle.stage7_cases.specs.ImageD.{image-D, D-written}
-use Rattle.stage7_cases.specs.Cases.{Case, writes, writes-with, checks, reads, runs, denotes-nothing, written-sheet, run-of-sheet, Holds, endless, cases}
+use Rattle.stage7_cases.specs.Cases.{Case, writes, writes-with, checks, reads, changes, runs, denotes-nothing, written-sheet, run-of-sheet, Holds, endless, cases}
 use Rattle.stage7_cases.specs.RepetitionCases.{image-of-counts, image-of-numbers, repetition-cases}
 use Rattle.stage7_cases.specs.CheckCases.{check-cases}
 use Rattle.stage7_cases.specs.PaddingCases.{in-ten, padding-cases}
@@ -47,10 +57,42 @@ Computes (checks sheet work a) = check-answer (check sheet work) ≡ a
 Computes (reads sheet text a) =
     (image : List ℕ) × (written-sheet sheet ≡ written image) × (run image text (long-enough text) ≡ a)
     × T (all-bytes sheet) × T (leb (length text) most-text-bytes)
+Computes (changes sheet text a) =
+    (image : List ℕ) × (c : Contents) × (written-sheet sheet ≡ written image) × (read-sheet sheet ≡ got c (length sheet))
+    × (run-from (plain-image (c .sheet)) (long-enough text) text (length text) first-state ≡ a)
+    × T (not (eqb (a .number) ((run image text (long-enough text)) .number)))
+    × T (all-bytes sheet) × T (leb (length sheet) most-sheet-bytes) × T (leb (length text) most-text-bytes)
 Computes (runs image text a) = (run image text (long-enough text) ≡ a) × T (all-bytes image)
 Computes (denotes-nothing sheet) =
     (c : Contents) × (read-sheet sheet ≡ got c (length sheet)) × T (all-bytes sheet) × T (leb (length sheet) most-sheet-bytes)
     × ((tokens : List ℕ) → Denotes ((c .sheet) .expression) tokens → ⊥)
+
+-- Where the own answer by number has another number than the run, the reading changes.
+changes-hold : (sheet : List ℕ) → Bytes sheet → (text : List ℕ) (a : Answer) (image : List ℕ) → written-sheet sheet ≡ written image
+    → (s : Sheet) → Spells sheet s → run-from (plain-image s) (long-enough text) text (length text) first-state ≡ a
+    → T (not (eqb (a .number) ((run image text (long-enough text)) .number))) → length text ≤ most-text-bytes
+    → (s : Sheet) × Spells sheet s × OwnAnswerByNumber s text a × ReadingChanges s text
+unfolding written-sheet
+changes-hold sheet bytes text a image e s spells f differ short =
+    (s, spells, old, ⊎-elim (λ same. absurd (not-same (by-number-one s text old (change .1) ∙ same))) (λ c. c) (change .2))
+  where
+    passable : Passable sheet s
+    passable =
+        let w = demand-2 .accepted-exactly sheet bytes work-bytes 65536 (omega arith) .0 (image, e) in
+        subst (Passable sheet) (spelled-once sheet (w .0) s ((w .1) .passable .well-formed) spells) ((w .1) .passable)
+
+    old : OwnAnswerByNumber s text a
+    old =
+        subst (OwnAnswerByNumber s text) f
+        (answered-by-number s (spells .limits) ((passable .has-type) .1) (none-empty (s .rules) .1 (passable .no-empty-text)) text)
+
+    change : (b : Answer) × OwnAnswerByNumber s text b × ((b ≡ run image text (long-enough text)) ⊎ ReadingChanges s text)
+    change = demand-3 .changes-only sheet bytes work-bytes 65536 image e s spells text (long-enough text) short (omega arith)
+
+    not-same : a ≡ run image text (long-enough text) → ⊥
+    not-same same =
+        not-holds (eqb (a .number) ((run image text (long-enough text)) .number)) differ
+        (true-holds _ (eq-eqb (a .number) ((run image text (long-enough text)) .number) (ap (λ (b : Answer). b .number) same)))
 
 -- By demand 2 a sheet whose image was written is one that the bytes spell, and by demand 3 what the machine answers is its own answer.
 holds : (c : Case) → Computes c → Holds c
@@ -69,6 +111,10 @@ holds (reads sheet text a) h =
           (demand-3 .own-answer sheet bytes work-bytes 65536 (h .0) (h .1) (s .0) spells text (long-enough text)
           (leb→le (length text) most-text-bytes (h .4)) (omega arith)),
     )
+holds (changes sheet text a) h =
+    let bytes = tested-bytes sheet (h .6) in
+    let read = read-accepted sheet bytes (leb→le (length sheet) most-sheet-bytes (h .7)) (h .3) in
+    changes-hold sheet bytes text a (h .0) (h .2) (h .1 .sheet) (read .spells) (h .4) (h .5) (leb→le (length text) most-text-bytes (h .8))
 holds (runs image text a) h =
     (h .0, subst (Runs image text (long-enough text)) (h .0) (demand-1 .running image text (tested-bytes image (h .1)) (long-enough text)))
 holds (denotes-nothing sheet) h =
@@ -162,11 +208,26 @@ padding-computed =
     & refl
     & tt
 
+-- A name above `if`, as it is read.
+abbrev word-below-contents : Contents
+word-below-contents = record {
+  sheet = record {
+    tokens = 2;
+    rules = record { action = 1; regex = concat (class 97 122) (star (class 97 122)) }
+        ∷ record { action = 2; regex = concat (class 105 105) (class 102 102) }
+        ∷ [];
+    expression = token 1;
+  };
+  action-places = 3 ∷ 12 ∷ [];
+  node-places = 20 ∷ [];
+}
+
 word-computed : All Computes word-cases
 unfolding word-cases written-sheet computing-machine
 word-computed =
     refl
     & (image-word-below, refl, refl, tt, tt)
+    & (image-word-below, word-below-contents, refl, refl, refl, tt, tt, tt, tt)
     & (image-word-below, refl, refl, tt, tt)
     & (image-name-above, refl, refl, tt, tt)
     & (image-name-above, refl, refl, tt, tt)

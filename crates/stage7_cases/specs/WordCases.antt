@@ -4,7 +4,7 @@ use mathlib.Core.List.{List, [], _∷_, _++_}
 use Prim.Native.Nat.{ℕ}
 use Rattle.stage5_image.specs.Write.{refused, written}
 use Rattle.stage6_machine.specs.Answer.{answer}
-use Rattle.stage7_cases.specs.Cases.{Case, writes, reads}
+use Rattle.stage7_cases.specs.Cases.{Case, writes, reads, changes}
 
 -- Two tokens and two rules, and an expression that is one token.
 abbrev two-rules : List ℕ → List ℕ → ℕ → List ℕ
@@ -129,6 +129,7 @@ word-cases =
     -- a name above the word `if`
     writes word-below (written image-word-below)
     ∷ reads word-below if-text (answer 0 2 1)
+    ∷ changes word-below if-text (answer 15 0 0)
     ∷ reads word-below iffy-text (answer 15 0 0)
     ∷ reads name-above if-text (answer 15 0 0)
     ∷ reads name-above iffy-text (answer 0 4 1)

@@ -134,10 +134,10 @@ pub record Demand3 (f : Functions) : Type 0 where
       → (text : List ℕ) (entries : ℕ) → length text ≤ most-text-bytes → long-enough text ≤ entries
       → OwnAnswer s text (f .run image text entries)
   pub exactly : (s : Sheet) (text : List ℕ) (a b : Answer) → OwnAnswer s text a → OwnAnswer s text b → a ≡ b
-  -- "A reading changes only where a non-word rule stood above a word rule and both matched equally far": what running answers is what the
-  -- own answer was when the lowest rule was picked, or such a place is reached. Of one place: `stage4_lexer` OrderedMatches:
-  -- `match-changes-only`.
+  -- "A reading changes only where a non-word rule stood above a word rule and both matched equally far": with the lowest rule picked, as it
+  -- was, there is an own answer, and running gives it or such a place is reached. There is no other (`stage6_machine` OwnAnswerLaws:
+  -- `by-number-one`). Of one place: `stage4_lexer` OrderedMatches: `match-changes-only`.
   pub changes-only : (sheet : List ℕ) → Bytes sheet → (work room : ℕ) (image : List ℕ) → f .write sheet work room ≡ written image
       → (s : Sheet) → Spells sheet s
       → (text : List ℕ) (entries : ℕ) → length text ≤ most-text-bytes → long-enough text ≤ entries
-      → (a : Answer) → OwnAnswerByNumber s text a → (a ≡ f .run image text entries) ⊎ ReadingChanges s text
+      → (a : Answer) × OwnAnswerByNumber s text a × ((a ≡ f .run image text entries) ⊎ ReadingChanges s text)

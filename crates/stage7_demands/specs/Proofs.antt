@@ -42,7 +42,7 @@ use Rattle.stage6_machine.specs.Lexes.{ReadingChanges}
 use Rattle.stage6_machine.specs.OrderedAnswers.{ordered-answer, answer-changes-only}
 use Rattle.stage6_machine.specs.OwnAnswerLaws.{own-answer-one}
 use Rattle.stage6_machine.specs.RunAnswers.{Faithful, runs-own-answer}
-use Rattle.stage6_machine.specs.FaithfulImage.{StandsFor, start-stands, image-faithful}
+use Rattle.stage6_machine.specs.FaithfulImage.{StandsFor, start-stands, image-faithful, answered-by-number}
 use Rattle.stage7_demands.specs.Demands.{Functions, Demand1, Demand2, Demand3}
 
 -- The functions that the code's contracts cite.
@@ -191,10 +191,16 @@ run-own-answer sheet bytes work room image e s spells text entries short long =
 run-changes-only : (sheet : List ℕ) → Bytes sheet → (work room : ℕ) (image : List ℕ) → write sheet work room ≡ written image
     → (s : Sheet) → Spells sheet s
     → (text : List ℕ) (entries : ℕ) → length text ≤ most-text-bytes → long-enough text ≤ entries
-    → (a : Answer) → OwnAnswerByNumber s text a → (a ≡ run image text entries) ⊎ ReadingChanges s text
-run-changes-only sheet bytes work room image e s spells text entries short long a own =
-    answer-changes-only s text (no-empty s sheet room (accepted-sheet sheet bytes work room image e s spells .0)) a (run image text entries) own
-    (run-own-answer sheet bytes work room image e s spells text entries short long)
+    → (a : Answer) × OwnAnswerByNumber s text a × ((a ≡ run image text entries) ⊎ ReadingChanges s text)
+run-changes-only sheet bytes work room image e s spells text entries short long =
+    let a = accepted-sheet sheet bytes work room image e s spells .0 in
+    let none-empty = no-empty s sheet room a in
+    let old = answered-by-number s (spells .limits) ((a .passable .has-type) .1) none-empty text in (
+      _,
+      old,
+      answer-changes-only s text none-empty _ (run image text entries) old
+          (run-own-answer sheet bytes work room image e s spells text entries short long),
+    )
 
 pub demand-3 : Demand3 cited
 demand-3 = record { own-answer = run-own-answer; exactly = λ s text a b. own-answer-one s text; changes-only = run-changes-only }
