@@ -671,7 +671,7 @@ fn a_reading_changes_only_where_a_tie_is_decided_by_kind() {
     let mut tally = BTreeMap::new();
     for case in 0..cases {
         let random = &mut for_case(seed, case);
-        let sheet = generate::competing_sheet(random).to_bytes();
+        let sheet = generate::overlapping_sheet(random).to_bytes();
         if image_of(&without_words(&sheet)).is_err() {
             continue;
         }
@@ -703,7 +703,7 @@ fn sheet_in_any_order(random: &mut Random) -> Vec<u8> {
     let sheet = match random.below(4) {
         0 => generate::passing_sheet(random),
         1 => generate::long_tailed_sheet(random),
-        _ => generate::competing_sheet(random),
+        _ => generate::overlapping_sheet(random),
     };
     match random.below(3) {
         0 => words_first(sheet.as_bytes()),
@@ -816,7 +816,7 @@ fn the_builder_knows_the_rules_of_the_image() {
         let sheet = match random.below(3) {
             0 => generate::large_sheet(random),
             1 => generate::passing_sheet(random),
-            _ => generate::competing_sheet(random),
+            _ => generate::overlapping_sheet(random),
         };
         let rules = sheet.image_rules();
         for engine in engines() {

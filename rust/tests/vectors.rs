@@ -360,7 +360,7 @@ fn vectors_with_sheets(file: &File) -> Vec<Object> {
 
 /// The vectors to which it matters that word rules win are as many as each file says. In the sheet of each a
 /// pattern stands above a word rule. For what they say see [`held_against`]; now every engine gives for them
-/// what the reference gives.
+/// what the reference gives. Without the library that says nothing, and the counts are what is tested.
 #[test]
 fn word_rules_win_over_patterns() {
     for file in &FILES {

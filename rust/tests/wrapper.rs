@@ -6,7 +6,9 @@
 mod common;
 
 use common::numbers::{twin_of_widths, twin_with};
-use common::{engines, full_check, full_run, full_write, pattern, short_out_changes_nothing};
+use common::{
+    engines, full_check, full_run, full_write, pattern, short_out_changes_nothing, IMAGE_OF_D,
+};
 use vinzagew::builder::{Expression, Field, PartKind, Regex, Sheet, SheetBuilder, Token};
 #[cfg(vinzagew_library)]
 use vinzagew::{check, check_with, run_with, write, write_into, Image, Refusal};
@@ -54,14 +56,10 @@ fn the_builder_writes_sheet_d() {
 /// Its slash is rule 0 of the image, the blank rule 1 and the number rule 2.
 #[test]
 fn sheet_d_has_its_image() {
-    let expected = [
-        1, 3, 0, 1, 0, 4, 47, 47, 0, 1, 0, 32, 32, 1, 1, 0, 48, 57, 2, 1, 8, 48, 57, 2, 1, 8, 7, 4,
-        0, 1, 2, 1, 1, 1, 1, 0, 1, 2, 0, 1, 2, 1, 3, 1, 1, 0, 1, 2,
-    ];
     for engine in engines() {
         let (written, image) = full_write(engine, sheet_d().as_bytes(), 65_536, 65_536);
         assert_eq!(written, [0, 0, 48], "{}", engine.name);
-        assert_eq!(image, expected, "{}", engine.name);
+        assert_eq!(image, IMAGE_OF_D, "{}", engine.name);
     }
     assert_eq!(sheet_d().image_rules(), [1, 2, 0]);
 }

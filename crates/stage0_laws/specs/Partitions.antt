@@ -28,7 +28,7 @@ module _ {A : Type 0} where
         go true x k = (x, k)
         go false x k = k
 
-    sum-parts : (f : A → ℕ) (l : List A) → sum f (filter p l) + sum f (filter (λ a. not (p a)) l) ≡ sum f l
+    pub sum-parts : (f : A → ℕ) (l : List A) → sum f (filter p l) + sum f (filter (λ a. not (p a)) l) ≡ sum f l
     unfolding filter
     sum-parts f [] = refl
     sum-parts f (a ∷ l) = go (p a) (sum-parts f l)

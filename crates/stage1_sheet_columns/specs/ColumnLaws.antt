@@ -1,5 +1,5 @@
--- Entries of a column, one a class or one an item: how many there are, and what stands at a place. Which sets or which order are made of
--- them is not asked here.
+-- Entries of a column, one a class or one an item: how many there are, what stands at a place, and how many parts a tag tells. Which sets or
+-- which order are made of them is not asked here.
 use mathlib.Core.Path.{_≡_, refl, sym, ap, ap₂, _∙_}
 use mathlib.Core.List.{List, [], _∷_, _++_, flatMap}
 use Prim.Native.Nat.{ℕ, _+_}
@@ -7,8 +7,10 @@ use native.Mathlib.Nat.{add-zero}
 use lib.ListN.{length, drop, getD, length-append}
 use lib.Seq.{getD-drop}
 use Rattle.stage0_laws.specs.Lists.{sum}
-use Rattle.stage1_sheet.specs.Items.{RegexItem, empty-item, class-item, concat-item, union-item, star-item, item-classes}
+use Rattle.stage1_sheet.specs.Items.{RegexItem, empty-item, class-item, concat-item, union-item, star-item, item-classes, regex-parts}
+use Rattle.stage1_sheet.specs.RegexItems.{regex-tag}
 use Rattle.stage1_sheet_columns.specs.Holds.{low-of, high-of}
+use Rattle.stage1_sheet_columns.specs.Tags.{parts-of}
 
 -- From place p on, the list goes on with what g gives for each item.
 abbrev pub Starts : (RegexItem → List ℕ) → List ℕ → ℕ → List RegexItem → Type 0
@@ -39,3 +41,12 @@ entries g one (i ∷ is) = length-append (g i) (flatMap g is) ∙ ap₂ _+_ (one
 -- The entry at a place.
 pub entry : (l : List ℕ) (p x : ℕ) (rest : List ℕ) → drop p l ≡ x ∷ rest → getD l p 0 ≡ x
 entry l p x rest e = ap (λ (i : ℕ). getD l i 0) (sym (add-zero p)) ∙ sym (getD-drop p l 0 0) ∙ ap (λ (m : List ℕ). getD m 0 0) e
+
+-- An item has as many parts as its tag says.
+pub tag-parts : (i : RegexItem) → parts-of (regex-tag i) ≡ regex-parts i
+unfolding parts-of regex-tag regex-parts
+tag-parts empty-item = refl
+tag-parts (class-item low high) = refl
+tag-parts concat-item = refl
+tag-parts union-item = refl
+tag-parts star-item = refl

@@ -1,4 +1,4 @@
 -- When columns hold a sheet's rules and its expression, laws of their entries, and what tags tell.
 pub mod Holds
-pub mod ColumnLaws
 pub mod Tags
+pub mod ColumnLaws

@@ -1,4 +1,4 @@
-// The columns in which code holds a sheet that was read: one entry an item or a node, in sheet order, by value. They are small
+// The columns in which code holds a sheet that was read: one entry an item or a node, one after the other, by value. They are small
 // enough to be passed on by value, and so no lent buffer has to be described. And what a regex node's tag tells of the nodes after it.
 ghost use mathlib.Core.Path.{_≡_};
 ghost use Rattle.stage1_sheet_columns.specs.Tags.{parts-of};

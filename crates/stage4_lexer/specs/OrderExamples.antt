@@ -9,12 +9,11 @@ use Rattle.stage0_laws.specs.Lists.{All}
 use Rattle.stage0_laws.specs.Members.{_&_}
 use Rattle.stage1_sheet.specs.Regex.{Regex, empty, class, concat, union, star}
 use Rattle.stage1_sheet.specs.Sheet.{Rule}
-use Rattle.stage4_lexer.specs.RuleOrder.{is-word, by-kind, words-first}
+use Rattle.stage4_lexer.specs.RuleOrder.{is-word, by-kind, words-first, first-selected, after-other, ImageNumber, among-words, after-words}
 use Rattle.stage4_lexer.specs.LongestMatch.{LongestMatch}
 use Rattle.stage4_lexer.specs.Positions.{positions, first-positions}
 use Rattle.stage4_lexer.specs.Match.{matched}
 use Rattle.stage4_lexer.specs.Walk.{longest-match}
-use Rattle.stage4_lexer.specs.RuleOrderLaws.{first-selected, after-other, ImageNumber, among-words, after-words}
 use Rattle.stage4_lexer.specs.LongestMatchLaws.{matched-right}
 use Rattle.stage4_lexer.specs.OrderedMatches.{lowest-is-best}
 use Rattle.stage4_lexer.specs.Computing.{computing-lexer}

@@ -13,10 +13,10 @@ use Rattle.stage1_sheet.specs.Regex.{regex-nodes, class-count}
 use Rattle.stage1_sheet.specs.Sheet.{Rule, Sheet}
 use Rattle.stage1_sheet.specs.WellFormed.{RuleInRange, WithinLimits}
 use Rattle.stage4_lexer.specs.Words.{Word, RuleAt, WordOf, NoEmptyRule}
-use Rattle.stage4_lexer.specs.RuleOrder.{word-rule, by-number, by-kind, WinsOver, lower, word-over-other, lower-of-a-kind}
-use Rattle.stage4_lexer.specs.RuleOrder.{words-first, words-first-sheet}
+use Rattle.stage4_lexer.specs.RuleOrder.{word-rule, by-number, by-kind, WinsOver, lower-rule, word-over-other, lower-of-a-kind}
+use Rattle.stage4_lexer.specs.RuleOrder.{words-first, words-first-sheet, ImageNumber}
 use Rattle.stage4_lexer.specs.LongestMatch.{LongestMatch, NoMatch, NonWordAbove}
-use Rattle.stage4_lexer.specs.RuleOrderLaws.{rule-one, ImageNumber, number-rule, number-image, number-of, of-number, lower-wins}
+use Rattle.stage4_lexer.specs.RuleOrderLaws.{rule-one, number-rule, number-image, image-number-of, of-image-number, lower-wins}
 use Rattle.stage4_lexer.specs.RuleOrderLaws.{winner-lower, lower-number, one-wins}
 use Rattle.stage4_lexer.specs.Positions.{positions, first-positions, empty-match}
 use Rattle.stage4_lexer.specs.Match.{Match, no-match, matched}
@@ -31,10 +31,10 @@ the-word {rules} {k} {w} a x = subst (λ (q : Rule). Word (q .regex) w) (rule-on
 module _ (rules : List Rule) where
   -- A word of an image's rule is a word of the sheet's rule that has the number, and the other way round.
   sheet-word : {k : ℕ} {w : List ℕ} → WordOf (words-first rules) k w → (j : ℕ) × (r : Rule) × ImageNumber rules j k r × WordOf rules j w
-  sheet-word x = let h = of-number rules (x .1) in (h .0, x .0, h .1, (x .0, number-rule rules (h .1), x .2))
+  sheet-word x = let h = of-image-number rules (x .1) in (h .0, x .0, h .1, (x .0, number-rule rules (h .1), x .2))
 
   image-word : {j : ℕ} {w : List ℕ} → WordOf rules j w → (k : ℕ) × (r : Rule) × ImageNumber rules j k r × WordOf (words-first rules) k w
-  image-word x = let h = number-of rules (x .1) in (h .0, x .0, h .1, (x .0, number-image rules (h .1), x .2))
+  image-word x = let h = image-number-of rules (x .1) in (h .0, x .0, h .1, (x .0, number-image rules (h .1), x .2))
 
   -- "Does every rule match only non-empty words?" is answered alike.
   pub ordered-no-empty : NoEmptyRule rules → NoEmptyRule (words-first rules)
@@ -60,7 +60,7 @@ module _ (rules : List Rule) where
         within = g .within;
         matches = (r, number-rule rules number, the-word (number-image rules number) (g .matches));
         longest = λ i m l h x. (let y = image-word x in g .longest (y .0) m l h (y .3));
-        wins = λ i w x. (let y = image-word x in g .wins (y .0) (lower (winner-lower rules (y .2) number w)) (y .3));
+        wins = λ i w x. (let y = image-word x in g .wins (y .0) (lower-rule (winner-lower rules (y .2) number w)) (y .3));
       }
 
       to-image : LongestMatch by-kind rules text j n → LongestMatch by-number (words-first rules) text k n
@@ -88,7 +88,7 @@ module _ (rules : List Rule) where
       new = subst (λ (x : ℕ). WordOf rules k (take x text)) (sym same) (h .matches)
 
       not-lower : k < j → ⊥
-      not-lower l = g .wins k (lower l) new
+      not-lower l = g .wins k (lower-rule l) new
 
       changed : WinsOver rules by-kind k j → (j ≡ k) ⊎ NonWordAbove rules text j k n
       changed (word-over-other {q = r} {r = q} a b e f) =
@@ -98,16 +98,16 @@ module _ (rules : List Rule) where
       changed (lower-of-a-kind a b e l) = absurd (not-lower l)
 
   -- Where a match is found by number, one is found by kind, if no rule matches the empty word.
-  pub found-by-kind : empty-match rules 0 ≡ none → {text : List ℕ} {j n : ℕ} → LongestMatch by-number rules text j n
+  pub match-by-kind : empty-match rules 0 ≡ none → {text : List ℕ} {j n : ℕ} → LongestMatch by-number rules text j n
       → (k : ℕ) × LongestMatch by-kind rules text k n
-  found-by-kind e {text} {j} {n} g =
+  match-by-kind e {text} {j} {n} g =
       go (longest-match (positions (words-first rules)) (first-positions (words-first rules)) text)
       (match-right (words-first rules) (ordered-empty-match e) text)
     where
       go : (m : Match) → Right (words-first rules) text m → (k : ℕ) × LongestMatch by-kind rules text k n
       go no-match h = absurd (longest-not-none g (ordered-no-match text .0 h))
       go (matched i m) h =
-          let x = of-number rules (((h .0) .matches) .1) in
+          let x = of-image-number rules (((h .0) .matches) .1) in
           let y = lowest-is-best (x .1) text m .0 (h .0) in
           (x .0, subst (λ (z : ℕ). LongestMatch by-kind rules text (x .0) z) (sym (same-length g y)) y)
 

@@ -12,8 +12,9 @@ use Rattle.stage0_laws.specs.Order.{compare-cases}
 use Rattle.stage0_laws.specs.Partitions.{filter-one, filter-other, all-pass, none-pass}
 use Rattle.stage1_sheet.specs.Sheet.{Rule}
 use Rattle.stage4_lexer.specs.Words.{RuleAt, first-rule, later-rule}
-use Rattle.stage4_lexer.specs.RuleOrder.{word-rule, Order, by-number, by-kind, WinsOver, lower, word-over-other, lower-of-a-kind}
-use Rattle.stage4_lexer.specs.RuleOrder.{words-first, WordsAbove}
+use Rattle.stage4_lexer.specs.RuleOrder.{word-rule, Order, by-number, by-kind, WinsOver, lower-rule, word-over-other, lower-of-a-kind}
+use Rattle.stage4_lexer.specs.RuleOrder.{words-first, WordsAbove, Selected, first-selected, after-selected, after-other}
+use Rattle.stage4_lexer.specs.RuleOrder.{other-rule, ImageNumber, among-words, after-words}
 
 -- A rule's number names one rule.
 pub rule-one : {rs : List Rule} {k : ℕ} {r q : Rule} → RuleAt rs k r → RuleAt rs k q → r ≡ q
@@ -39,12 +40,6 @@ at-either (q ∷ rs) more (later-rule a) =
     ⊎-elim (λ b. inl (later-rule b)) (λ b. inr (b .0, omega (arith, b .1), b .2)) (at-either rs more a)
 
 -- ---- the rules that pass a test
-
--- Rule j of the rules is r, which passes the test, and it is number i of those that do.
-pub data Selected (p : Rule → Bool) : List Rule → ℕ → ℕ → Rule → Type 0 where
-  first-selected : {r : Rule} {rs : List Rule} → p r ≡ true → Selected p (r ∷ rs) zero zero r
-  after-selected : {q r : Rule} {rs : List Rule} {j i : ℕ} → p q ≡ true → Selected p rs j i r → Selected p (q ∷ rs) (suc j) (suc i) r
-  after-other : {q r : Rule} {rs : List Rule} {j i : ℕ} → p q ≡ false → Selected p rs j i r → Selected p (q ∷ rs) (suc j) i r
 
 module _ (p : Rule → Bool) where
   selected-passes : {rs : List Rule} {j i : ℕ} {r : Rule} → Selected p rs j i r → p r ≡ true
@@ -123,9 +118,6 @@ module _ (p : Rule → Bool) where
 
 -- ---- a sheet's rules and an image's numbers
 
-abbrev pub other-rule : Rule → Bool
-other-rule r = not (word-rule r)
-
 not-true : (b : Bool) → not b ≡ true → b ≡ false
 not-true true e = absurd (true≢false (sym e))
 not-true false e = refl
@@ -133,11 +125,6 @@ not-true false e = refl
 -- A rule that is selected among the others is no word rule.
 selected-other : {rs : List Rule} {j i : ℕ} {r : Rule} → Selected other-rule rs j i r → word-rule r ≡ false
 selected-other {r = r} s = not-true (word-rule r) (selected-passes other-rule s)
-
--- Rule j of the sheet is rule k of the image, and r is that rule: the word rules come first, and then the others.
-pub data ImageNumber (rules : List Rule) (j : ℕ) : ℕ → Rule → Type 0 where
-  among-words : {k : ℕ} {r : Rule} → Selected word-rule rules j k r → ImageNumber rules j k r
-  after-words : {i : ℕ} {r : Rule} → Selected other-rule rules j i r → ImageNumber rules j (length (filter word-rule rules) + i) r
 
 module _ (rules : List Rule) where
   -- It is the same rule in both, and each rule of the one is a rule of the other.
@@ -150,16 +137,16 @@ module _ (rules : List Rule) where
   number-image (among-words s) = at-left (selected-number word-rule s) (filter other-rule rules)
   number-image (after-words s) = at-right (filter word-rule rules) (selected-number other-rule s)
 
-  pub number-of : {j : ℕ} {r : Rule} → RuleAt rules j r → (k : ℕ) × ImageNumber rules j k r
-  number-of {j} {r} a = go (word-rule r) refl
+  pub image-number-of : {j : ℕ} {r : Rule} → RuleAt rules j r → (k : ℕ) × ImageNumber rules j k r
+  image-number-of {j} {r} a = go (word-rule r) refl
     where
       go : (b : Bool) → word-rule r ≡ b → (k : ℕ) × ImageNumber rules j k r
       go true e = let h = selected-of word-rule a e in (h .0, among-words (h .1))
       go false e = let h = selected-of other-rule a (ap not e) in (length (filter word-rule rules) + h .0, after-words (h .1))
 
-  pub of-number : {k : ℕ} {r : Rule} → RuleAt (words-first rules) k r → (j : ℕ) × ImageNumber rules j k r
+  pub of-image-number : {k : ℕ} {r : Rule} → RuleAt (words-first rules) k r → (j : ℕ) × ImageNumber rules j k r
   unfolding words-first partition
-  of-number {k} {r} a =
+  of-image-number {k} {r} a =
       ⊎-elim (λ b. let h = of-selected word-rule rules b in (h .0, among-words (h .1)))
       (λ b. let h = of-selected other-rule rules (b .2) in
       (h .0, subst (λ (i : ℕ). ImageNumber rules (h .0) i r) (sym (b .1)) (after-words (h .1))))
@@ -199,13 +186,13 @@ module _ (rules : List Rule) where
 
 -- By number, the lower rule wins.
 pub lower-number : {rules : List Rule} {j k : ℕ} → WinsOver rules by-number j k → j < k
-lower-number (lower l) = l
+lower-number (lower-rule l) = l
 
 -- Of two rules one wins, unless they are the same, by either order.
 pub one-wins : (order : Order) {rules : List Rule} {j k : ℕ} {q r : Rule} → RuleAt rules j q → RuleAt rules k r
     → WinsOver rules order j k ⊎ ((j ≡ k) ⊎ WinsOver rules order k j)
 one-wins by-number {rules} {j} {k} a b =
-    ⊎-elim (λ l. inl (lower l)) (⊎-elim (λ e. inr (inl e)) (λ l. inr (inr (lower l)))) (compare-cases j k)
+    ⊎-elim (λ l. inl (lower-rule l)) (⊎-elim (λ e. inr (inl e)) (λ l. inr (inr (lower-rule l)))) (compare-cases j k)
 one-wins by-kind {rules} {j} {k} {q} {r} a b = go (word-rule q) (word-rule r) refl refl
   where
     of-a-kind : word-rule q ≡ word-rule r → WinsOver rules by-kind j k ⊎ ((j ≡ k) ⊎ WinsOver rules by-kind k j)

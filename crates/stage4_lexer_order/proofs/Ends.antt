@@ -10,10 +10,11 @@ use lib.Dec.{eqb}
 use lib.ListN.{length, getD, length-append}
 use Rattle.stage0_laws.specs.Lists.{sum}
 use Rattle.stage1_sheet.specs.Regex.{Regex, empty, class, concat, union, star}
-use Rattle.stage1_sheet.specs.Items.{RegexItem, empty-item, class-item, concat-item, union-item, star-item, item-classes}
+use Rattle.stage1_sheet.specs.Items.{RegexItem, empty-item, class-item, concat-item, union-item, star-item, item-classes, regex-parts}
 use Rattle.stage1_sheet.specs.ListLaws.{flatMap-append}
 use Rattle.stage1_sheet.specs.RegexItems.{regex-items-of, regex-tag}
 use Rattle.stage1_sheet_columns.specs.Tags.{parts-of}
+use Rattle.stage1_sheet_columns.specs.ColumnLaws.{tag-parts}
 use Rattle.stage4_lexer.specs.RuleOrder.{is-word}
 use Rattle.stage4_lexer_order.specs.Ends.{classes-of, word-item, BytesAt, ItemsAt, rule-end}
 
@@ -60,13 +61,16 @@ own-items (union r s) =
     ap (λ (l : List RegexItem). union-item ∷ (regex-items-of r ++ l)) (sym (append-nil (regex-items-of s)))
 own-items (star r) = ap (λ (l : List RegexItem). star-item ∷ l) (sym (append-nil (regex-items-of r)))
 
+parts-counted : (r : Regex) → length (parts r) ≡ regex-parts (own r)
+unfolding regex-parts
+parts-counted empty = refl
+parts-counted (class low high) = refl
+parts-counted (concat r s) = refl
+parts-counted (union r s) = refl
+parts-counted (star r) = refl
+
 own-parts : (r : Regex) → length (parts r) ≡ parts-of (regex-tag (own r))
-unfolding parts-of regex-tag
-own-parts empty = refl
-own-parts (class low high) = refl
-own-parts (concat r s) = refl
-own-parts (union r s) = refl
-own-parts (star r) = refl
+own-parts r = parts-counted r ∙ sym (tag-parts (own r))
 
 own-classes : (r : Regex) → item-classes (own r) ≡ classes-of (regex-tag (own r))
 unfolding classes-of item-classes regex-tag

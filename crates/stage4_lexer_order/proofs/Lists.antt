@@ -5,7 +5,8 @@ use mathlib.Core.List.{List, [], _∷_, _++_, append-assoc, append-nil, map, fla
 use Prim.Native.Nat.{_+_}
 use native.Mathlib.Omega.{arith}
 use lib.ListN.{length, length-append}
-use Rattle.stage0_laws.specs.Lists.{filter}
+use Rattle.stage0_laws.specs.Lists.{filter, sum}
+use Rattle.stage0_laws.specs.Partitions.{sum-parts}
 use Rattle.stage1_sheet.specs.ListLaws.{flatMap-append}
 
 pub filter-append : {A : Type 0} (p : A → Bool) (k l : List A) → filter p (k ++ l) ≡ filter p k ++ filter p l
@@ -45,16 +46,19 @@ module _ {A B : Type 0} (f : A → List B) (p : A → Bool) where
       ap (λ (y : List A). flatMap f (x ++ y)) (filter-append p k l) ∙ ap (flatMap f) (sym (append-assoc x (filter p k) (filter p l)))
       ∙ flatMap-append f (x ++ filter p k) (filter p l)
 
+  flat-length : (l : List A) → length (flatMap f l) ≡ sum (λ a. length (f a)) l
+  unfolding flatMap
+  flat-length [] = refl
+  flat-length (a ∷ l) = omega (arith, length-append (f a) (flatMap f l), flat-length l)
+
   -- What passes and what does not have as many entries together as all members.
   pub flat-partition : (l : List A)
       → length (flatMap f (filter p l)) + length (flatMap f (filter (λ a. not (p a)) l)) ≡ length (flatMap f l)
-  unfolding flatMap filter
-  flat-partition [] = refl
-  flat-partition (a ∷ l) = go (p a) (flat-partition l)
-    where
-      go : (b : Bool) → length (flatMap f (filter p l)) + length (flatMap f (filter (λ a. not (p a)) l)) ≡ length (flatMap f l)
-          → length (flatMap f (elim b [ true ↦ a ∷ filter p l | false ↦ filter p l ]))
-          + length (flatMap f (elim (not b) [ true ↦ a ∷ filter (λ a. not (p a)) l | false ↦ filter (λ a. not (p a)) l ]))
-          ≡ length (f a ++ flatMap f l)
-      go true e = omega (arith, length-append (f a) (flatMap f (filter p l)), length-append (f a) (flatMap f l))
-      go false e = omega (arith, length-append (f a) (flatMap f (filter (λ a. not (p a)) l)), length-append (f a) (flatMap f l))
+  flat-partition l =
+      omega (
+        arith,
+        flat-length (filter p l),
+        flat-length (filter (λ a. not (p a)) l),
+        flat-length l,
+        sum-parts p (λ a. length (f a)) l,
+      )

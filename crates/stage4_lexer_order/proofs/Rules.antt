@@ -1,6 +1,6 @@
 -- All columns together: the entries of a rule in each of them, that columns which hold rules have just these, and one rule more. How one
 -- column is filled is said in Columns.
-use mathlib.Core.Path.{_≡_, refl, sym, ap, _∙_, subst}
+use mathlib.Core.Path.{_≡_, refl, sym, ap, ap₂, _∙_, subst}
 use mathlib.Core.Bool.{Bool, true, false, not, cond}
 use mathlib.Core.List.{List, [], _∷_, _++_, append-assoc, map, flatMap}
 use Prim.Native.Nat.{ℕ, suc, _+_, _≤_, _<_}
@@ -110,6 +110,13 @@ none-held c n i k = rules-held c [] (record {
   lows = record { fits = omega arith; many = k; entries = ap (λ (m : ℕ). take m (c .low)) k };
   highs = record { fits = omega arith; many = k; entries = ap (λ (m : ℕ). take m (c .high)) k };
 })
+
+-- Columns with as many rules and the same places have the places of the others.
+pub same-places : {c r : RuleColumns} (held ordered : List Rule) (places after : List ℕ) → RulesOf c held places → RulesOf r ordered after
+    → length ordered ≡ length held → r .place ≡ c .place → RulesOf r ordered places
+same-places {c} {r} held ordered places after h g n e =
+    let count : r .count ≡ c .count = rules-counted r ordered after g ∙ n ∙ sym (rules-counted c held places h) in
+    subst (RulesOf r ordered) (sym (g .places-held) ∙ ap₂ (λ (k : ℕ) (l : List ℕ). take k l) count e ∙ h .places-held) g
 
 -- ---- the items of a rule
 

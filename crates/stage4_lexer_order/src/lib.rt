@@ -108,11 +108,11 @@ fn append_part(
     next
 }
 
-// Appends the rules of a kind, in sheet order, to those of the kind before it.
+// Appends the rules of a kind, in sheet order, to those of the kind before it. The places stay as they are.
 fn append_kind(rules: RuleColumns, words: bool, sorted: RuleColumns) -> RuleColumns
     requires { ⌜ ((held : List Rule) × (places : List ℕ) × (moved : List ℕ) × RulesOf rules held places
         × RulesOf sorted (kind-before words held) moved) ⌝ }
-    ensures { λ r. ⌜ ((held : List Rule) (places moved : List ℕ) → RulesOf rules held places
+    ensures { λ r. ⌜ (r .place ≡ sorted .place) × ((held : List Rule) (places moved : List ℕ) → RulesOf rules held places
         → RulesOf sorted (kind-before words held) moved
         → ((after : List ℕ) × RulesOf r (kind-before words held ++ kind-of words held) after)) ⌝ }
 {
@@ -150,11 +150,10 @@ fn append_kind(rules: RuleColumns, words: bool, sorted: RuleColumns) -> RuleColu
     }
 }
 
-// The rules in the image's order.
+// The rules in the image's order. The places stay those of the sheet's rules, in sheet order: the questions that name them were asked before.
 pub fn words_first(rules: RuleColumns) -> RuleColumns
     requires { ⌜ ((held : List Rule) × (places : List ℕ) × RulesOf rules held places) ⌝ }
-    ensures { λ r. ⌜ ((held : List Rule) (places : List ℕ) → RulesOf rules held places
-        → ((moved : List ℕ) × RulesOf r (words-first held) moved)) ⌝ }
+    ensures { λ r. ⌜ ((held : List Rule) (places : List ℕ) → RulesOf rules held places → RulesOf r (words-first held) places) ⌝ }
 {
     let mut none = rules;
     none.count = 0;

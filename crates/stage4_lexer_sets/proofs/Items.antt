@@ -13,6 +13,7 @@ use Rattle.stage1_sheet.specs.Items.{RegexItem, empty-item, class-item, concat-
 use Rattle.stage1_sheet.specs.Items.{regex-before, regexes}
 use Rattle.stage1_sheet.specs.RegexItems.{regex-items-of, regex-tag, items-classes, regexes-items}
 use Rattle.stage1_sheet_columns.specs.Tags.{parts-of}
+use Rattle.stage1_sheet_columns.specs.ColumnLaws.{tag-parts}
 use Rattle.stage4_lexer_sets.specs.Stacks.{TagsHeld}
 
 pub regexes-all : (rs : List Regex) → regexes (flatMap regex-items-of rs) ≡ rs
@@ -116,15 +117,6 @@ item-before rs tags items at h l m =
     )
 
 -- ---- the top of the stack
-
--- An item takes as many parts as its tag says.
-tag-parts : (i : RegexItem) → parts-of (regex-tag i) ≡ regex-parts i
-unfolding parts-of regex-tag regex-parts
-tag-parts empty-item = refl
-tag-parts (class-item low high) = refl
-tag-parts concat-item = refl
-tag-parts union-item = refl
-tag-parts star-item = refl
 
 -- What a turn may ask of the top of a stack, which has one entry for each regex made so far.
 pub record Top (tags : List ℕ) (at top : ℕ) : Type 0 where

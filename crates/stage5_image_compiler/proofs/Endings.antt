@@ -51,13 +51,13 @@ module _ (s : Sheet) (k : CheckedSheet) (h : PassedParts s k) where
       omega (arith, l, plain-fits s (h .limits) (h .no-empty) (sheet-typed-iff s (h .limits) .0 (h .no-fault) .1))
 
   -- With the rules in the image's order, the sheet in that order has passed.
-  pub ordered-parts : (rules : RuleColumns) → (moved : List ℕ) × RulesOf rules (words-first (s .rules)) moved
+  pub ordered-parts : (rules : RuleColumns) → RulesOf rules (words-first (s .rules)) (h .places)
       → PassedParts (words-first-sheet s) (record { verdict = Passed; rules = rules; links = k .links; types = k .types })
   unfolding words-first-sheet
   ordered-parts rules held = record {
-    places = held .0;
+    places = h .places;
     limits = ordered-limits s (h .limits);
-    rules-held = held .1;
+    rules-held = held;
     links-most = h .links-most;
     linked = h .linked;
     typed = h .typed;

@@ -10,8 +10,8 @@ use Rattle.stage1_sheet.specs.Sheet.{Sheet}
 use Rattle.stage4_lexer.specs.RuleOrder.{by-number, by-kind, words-first, words-first-sheet}
 use Rattle.stage4_lexer.specs.LongestMatch.{LongestMatch}
 use Rattle.stage4_lexer.specs.Positions.{empty-match}
-use Rattle.stage4_lexer.specs.RuleOrderLaws.{number-rule, of-number}
-use Rattle.stage4_lexer.specs.OrderedMatches.{ordered-no-match, lowest-is-best, match-changes-only, found-by-kind}
+use Rattle.stage4_lexer.specs.RuleOrderLaws.{number-rule, of-image-number}
+use Rattle.stage4_lexer.specs.OrderedMatches.{ordered-no-match, lowest-is-best, match-changes-only, match-by-kind}
 use Rattle.stage6_machine.specs.Answer.{Answer}
 use Rattle.stage6_machine.specs.OwnAnswer.{ActionOf, AnswersFrom, accepts, ends-early, no-rule, skips, takes, refuses}
 use Rattle.stage6_machine.specs.OwnAnswer.{OwnAnswer, OwnAnswerByNumber}
@@ -31,7 +31,7 @@ module _ (s : Sheet) (text : List ℕ) where
       → ActionOf (words-first-sheet s) k action → MatchOfSheet rest n action
   unfolding words-first-sheet
   of-sheet {rest} {k} {n} m a =
-      let h = of-number (s .rules) (a .1) in record {
+      let h = of-image-number (s .rules) (a .1) in record {
         rule = h .0;
         longest = lowest-is-best (s .rules) (h .1) rest n .0 m;
         acts = (a .0, number-rule (s .rules) (h .1), a .2);
@@ -57,7 +57,7 @@ module _ (s : Sheet) (text : List ℕ) (no-empty : empty-match (s .rules) 0 ≡ 
   picked : {p : ℕ} {tokens : List ℕ} {k n : ℕ} → LexesTo by-number s text p tokens → LexesTo by-kind s text p tokens → p < length text
       → LongestMatch by-number (s .rules) (drop p text) k n → LongestMatch by-kind (s .rules) (drop p text) k n ⊎ ReadingChanges s text
   picked {p} {tokens} {k} {n} f g l m =
-      let h = found-by-kind (s .rules) no-empty m in
+      let h = match-by-kind (s .rules) no-empty m in
       ⊎-elim (λ e. inl (subst (λ (i : ℕ). LongestMatch by-kind (s .rules) (drop p text) i n) (sym e) (h .1)))
       (λ c. inr (record {
         place = p;

@@ -8,8 +8,8 @@ use Prim.Native.Nat.{ℕ, zero, suc, _+_, _*_, _≤_}
 use native.Mathlib.Omega.{arith}
 use lib.Dec.{T, eqb, leb, leb→le, lit≤}
 use lib.ListN.{length}
-use Rattle.stage0_laws.specs.Lists.{All}
 use borrow.Author.Tests.{eq-eqb}
+use Rattle.stage0_laws.specs.Lists.{All}
 use Rattle.stage0_laws.specs.Members.{_&_}
 use Rattle.stage0_laws.specs.Truth.{not-holds, true-holds}
 use Rattle.stage1_sheet.specs.Limits.{most-sheet-bytes}
@@ -87,7 +87,7 @@ changes-hold sheet bytes text a image e s spells f differ short =
         (answered-by-number s (spells .limits) ((passable .has-type) .1) (none-empty (s .rules) .1 (passable .no-empty-text)) text)
 
     change : (b : Answer) × OwnAnswerByNumber s text b × ((b ≡ run image text (long-enough text)) ⊎ ReadingChanges s text)
-    change = demand-3 .changes-only sheet bytes work-bytes 65536 image e s spells text (long-enough text) short (omega arith)
+    change = demand-3 .changes-only sheet bytes work-bytes 65536 image e s spells text short (long-enough text) (omega arith)
 
     not-same : a ≡ run image text (long-enough text) → ⊥
     not-same same =

@@ -21,8 +21,8 @@ use Rattle.stage2_types.specs.SpelledOutDenotation.{spelled-out-denotes}
 use Rattle.stage2_types.specs.SpelledOutTyping.{spelled-out-has-type}
 use Rattle.stage4_lexer.specs.EmptyWord.{none-empty}
 use Rattle.stage4_lexer.specs.Words.{NoEmptyRule}
-use Rattle.stage4_lexer.specs.RuleOrder.{by-kind}
-use Rattle.stage5_image.specs.Image.{image-of}
+use Rattle.stage4_lexer.specs.RuleOrder.{by-kind, WordsAbove}
+use Rattle.stage5_image.specs.Image.{plain-image, image-of, image-bytes}
 use Rattle.stage5_image.specs.ImageFields.{ReadableAs}
 use Rattle.stage5_image.specs.ImageLength.{image-fits}
 use Rattle.stage5_image.specs.FieldsLaws.{readable-written}
@@ -76,6 +76,13 @@ module _ (f : Functions) (demand : Demand3 f) (sheet : List ℕ) (bytes : Bytes 
   -- What running answers is the own answer of the sheet with every repetition spelled out.
   pub spelled-out-answered : OwnAnswer (spelled-out-sheet s) text a
   spelled-out-answered = spelled-out-own-answer s text a .0 own
+
+-- Of any functions that meet demand 2: where no other rule stands above a word rule, the image is byte for byte the one with the rules numbered
+-- as they stand.
+pub same-bytes : (f : Functions) → Demand2 f → (sheet : List ℕ) → Bytes sheet → (work room : ℕ) (image : List ℕ)
+    → f .write sheet work room ≡ written image → (s : Sheet) → Spells sheet s → WordsAbove (s .rules) → image ≡ image-bytes (plain-image s)
+same-bytes f demand sheet bytes work room image e s spells above =
+    readable-written image (plain-image s) (demand .same-numbering sheet bytes work room image e s spells above)
 
 -- Of any functions that meet demands 1 and 2: 65,536 bytes are a buffer that is long enough for every sheet that passes.
 module _ (f : Functions) (first : Demand1 f) (second : Demand2 f) (sheet : List ℕ) (bytes : Bytes sheet) (work : ℕ) (s : Sheet)

@@ -98,7 +98,7 @@ pub record Demand2 (f : Functions) : Type 0 where
   pub unfolds-exactly : (sheet : List ℕ) → Bytes sheet → (work room : ℕ) (image : List ℕ) → f .write sheet work room ≡ written image
       → (s : Sheet) → Spells sheet s → (rules : List ℕ) → StartUnfolds ((image-of s) .rows) rules ↔ DenotedRules s rules
   -- Where no other rule stands above a word rule, the image is the one with the rules numbered as they stand, as it was before request [4];
-  -- that one has one spelling too.
+  -- byte for byte, since an image has one spelling (`Corollaries`: `same-bytes`).
   pub same-numbering : (sheet : List ℕ) → Bytes sheet → (work room : ℕ) (image : List ℕ) → f .write sheet work room ≡ written image
       → (s : Sheet) → Spells sheet s → WordsAbove (s .rules) → ReadableAs image (plain-image s)
   -- "A sheet passes checking exactly if some image buffer is long enough for writing it."
@@ -139,5 +139,5 @@ pub record Demand3 (f : Functions) : Type 0 where
   -- `by-number-one`). Of one place: `stage4_lexer` OrderedMatches: `match-changes-only`.
   pub changes-only : (sheet : List ℕ) → Bytes sheet → (work room : ℕ) (image : List ℕ) → f .write sheet work room ≡ written image
       → (s : Sheet) → Spells sheet s
-      → (text : List ℕ) (entries : ℕ) → length text ≤ most-text-bytes → long-enough text ≤ entries
+      → (text : List ℕ) → length text ≤ most-text-bytes → (entries : ℕ) → long-enough text ≤ entries
       → (a : Answer) × OwnAnswerByNumber s text a × ((a ≡ f .run image text entries) ⊎ ReadingChanges s text)

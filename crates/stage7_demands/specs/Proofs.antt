@@ -190,9 +190,9 @@ run-own-answer sheet bytes work room image e s spells text entries short long =
 
 run-changes-only : (sheet : List ℕ) → Bytes sheet → (work room : ℕ) (image : List ℕ) → write sheet work room ≡ written image
     → (s : Sheet) → Spells sheet s
-    → (text : List ℕ) (entries : ℕ) → length text ≤ most-text-bytes → long-enough text ≤ entries
+    → (text : List ℕ) → length text ≤ most-text-bytes → (entries : ℕ) → long-enough text ≤ entries
     → (a : Answer) × OwnAnswerByNumber s text a × ((a ≡ run image text entries) ⊎ ReadingChanges s text)
-run-changes-only sheet bytes work room image e s spells text entries short long =
+run-changes-only sheet bytes work room image e s spells text short entries long =
     let a = accepted-sheet sheet bytes work room image e s spells .0 in
     let none-empty = no-empty s sheet room a in
     let old = answered-by-number s (spells .limits) ((a .passable .has-type) .1) none-empty text in (

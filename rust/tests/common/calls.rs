@@ -4,7 +4,7 @@
 //! is not said here: the reference is asked only for images to run and for lengths that matter.
 
 use super::random::Random;
-use super::{generate, hexadecimal, image_of, numbers, Engine, REFERENCE};
+use super::{generate, hexadecimal, image_of, numbers, Engine, IMAGE_OF_D, REFERENCE};
 use std::fmt;
 use vinzagew::stack_length;
 
@@ -229,15 +229,11 @@ fn least_stack(image: &[u8], text: &[u8]) -> usize {
 
 /// A text around the limit, on a stack that is long enough for sheet D's image or nearly so.
 fn long_call(random: &mut Random) -> Call {
-    let image = [
-        1, 3, 0, 1, 0, 4, 47, 47, 0, 1, 0, 32, 32, 1, 1, 0, 48, 57, 2, 1, 8, 48, 57, 2, 1, 8, 7, 4,
-        0, 1, 2, 1, 1, 1, 1, 0, 1, 2, 0, 1, 2, 1, 3, 1, 1, 0, 1, 2,
-    ];
     let length = random.range(1_048_574, 1_048_577);
     let piece = *random.pick(&[&b"7"[..], b"12 /", b"7/"]);
     let entries = random.below(4);
     Call::Run {
-        image: image.to_vec(),
+        image: IMAGE_OF_D.to_vec(),
         text: piece.iter().copied().cycle().take(length).collect(),
         stack: buffer(random, entries),
         out: out(random),

@@ -13,7 +13,7 @@ use vinzagew_reference::machine::longest_match;
 use vinzagew_reference::number::{self, WIDTH_LIMIT};
 use vinzagew_reference::sheet::{CLASS_LIMIT, NODE_LIMIT, REGEX_NODE_LIMIT};
 
-/// The bytes that most classes are made of: few, so that rules compete.
+/// The bytes that most classes are made of: few, so that several rules match.
 const ALPHABET: &[u8] = b"abc01/ ";
 
 fn letter(random: &mut Random) -> u8 {
@@ -132,7 +132,7 @@ fn pattern_regex(random: &mut Random, word: &[u8], longest: usize) -> Regex {
 
 /// Tokens and rules: words, some of them equal, and patterns that match them too, in any order. Each may
 /// skip. They are few, or about as many rules and classes as the limits allow.
-fn competing_rules(random: &mut Random) -> (SheetBuilder, Vec<Token>) {
+fn overlapping_rules(random: &mut Random) -> (SheetBuilder, Vec<Token>) {
     let mut builder = SheetBuilder::new();
     let (token_count, rule_count, longest) = match random.below(6) {
         0 => (random.range(1, 24), random.range(24, 32), 1),
@@ -165,7 +165,7 @@ fn competing_rules(random: &mut Random) -> (SheetBuilder, Vec<Token>) {
 /// Tokens and rules.
 fn rules(random: &mut Random) -> (SheetBuilder, Vec<Token>) {
     if random.once_in(3) {
-        return competing_rules(random);
+        return overlapping_rules(random);
     }
     let mut builder = SheetBuilder::new();
     let (token_count, rule_count) = match random.below(8) {
@@ -435,10 +435,10 @@ pub fn nearly_passing_sheet(random: &mut Random) -> Sheet {
     typed_sheet(random, true)
 }
 
-/// A sheet that passes checking, in which words and patterns compete. Often it denotes any number of some of
+/// A sheet that passes checking, in which words and patterns match the same texts. Often it denotes any number of some of
 /// the tokens, so that a text is read far and each token counts.
-pub fn competing_sheet(random: &mut Random) -> Sheet {
-    let (builder, mut tokens) = competing_rules(random);
+pub fn overlapping_sheet(random: &mut Random) -> Sheet {
+    let (builder, mut tokens) = overlapping_rules(random);
     if random.once_in(2) {
         return sheet_of_rules(random, (builder, tokens), false);
     }

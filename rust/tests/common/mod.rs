@@ -15,6 +15,12 @@ pub mod words;
 use vinzagew_reference::image::{self, Image};
 use vinzagew_reference::Refusal;
 
+/// The image of the contract's sheet D.
+pub const IMAGE_OF_D: [u8; 48] = [
+    1, 3, 0, 1, 0, 4, 47, 47, 0, 1, 0, 32, 32, 1, 1, 0, 48, 57, 2, 1, 8, 48, 57, 2, 1, 8, 7, 4, 0,
+    1, 2, 1, 1, 1, 1, 0, 1, 2, 0, 1, 2, 1, 3, 1, 1, 0, 1, 2,
+];
+
 /// Checks a sheet: sheet, work area, out.
 pub type Check = fn(&[u8], &mut [u8], &mut [u64]);
 

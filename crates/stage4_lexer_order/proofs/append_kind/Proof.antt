@@ -1,7 +1,7 @@
 -- `stage4_lexer_order::append_kind` meets its contract. The invariant: for all rules that the columns may hold, the first k are done.
 use borrow.Author.Needs.{needs}
 use native.Mathlib.Omega.{arith}
-use mathlib.Core.Path.{sym}
+use mathlib.Core.Path.{refl, sym}
 use mathlib.Core.List.{List}
 use Prim.Native.Nat.{ℕ, _-_, _≤_, _<_}
 use lib.ListN.{length}
@@ -171,10 +171,12 @@ loop-again c =
 returns : tie.Need-returns Inv-loop μ-loop
 returns c =
     let l = c .before .before .loop in
-    let z = c .before .before .before .before .before .before .before .args in
-    λ held places moved h g. (
-      _,
-      sorting-end (omega (arith, c .before .loop-test .left, rules-counted (z .t1) held places h)) (l .inv .1 held places moved h g),
+    let z = c .before .before .before .before .before .before .before .args in (
+      refl,
+      λ held places moved h g. (
+        _,
+        sorting-end (omega (arith, c .before .loop-test .left, rules-counted (z .t1) held places h)) (l .inv .1 held places moved h g),
+      ),
     )
 
 pub append-kind-spec : {M : Type 1} → statement M

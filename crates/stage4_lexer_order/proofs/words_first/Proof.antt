@@ -1,8 +1,9 @@
 -- `stage4_lexer_order::words_first` meets its contract: the word rules are appended to no rules, and the others to them.
-use mathlib.Core.Path.{refl}
+use mathlib.Core.Path.{refl, _∙_}
 use Rattle.stage0_laws.specs.Lists.{partition}
-use Rattle.stage4_lexer.specs.RuleOrder.{words-first}
-use Rattle.stage4_lexer_order.proofs.Rules.{none-held}
+use Rattle.stage0_laws.specs.Partitions.{length-partition}
+use Rattle.stage4_lexer.specs.RuleOrder.{word-rule, words-first}
+use Rattle.stage4_lexer_order.proofs.Rules.{none-held, same-places}
 use Rattle.stage4_lexer_order.proofs.words_first.Statement.{statement}
 use Rattle.stage4_lexer_order.proofs.words_first.Tie as tie
 
@@ -14,14 +15,18 @@ append-kind-requires c κs =
 append-kind-requires-2 : tie.Need-append-kind-requires-2
 append-kind-requires-2 c κs =
     let w = c .before .pre in
-    let first = c .append-kind .ensures (w .0) (w .1) _ (w .2) (none-held _ refl refl refl) in
+    let first = c .append-kind .ensures .1 (w .0) (w .1) _ (w .2) (none-held _ refl refl refl) in
     (w .0, w .1, first .0, w .2, first .1)
 
 returns : tie.Need-returns
 unfolding words-first partition
-returns c = λ held places h.
-    let first = c .before .append-kind .ensures held places _ h (none-held _ refl refl refl) in
-    c .append-kind2 .ensures held places (first .0) h (first .1)
+returns c =
+    let words = c .before .append-kind in
+    let others = c .append-kind2 in
+    λ held places h.
+    let first = words .ensures .1 held places _ h (none-held _ refl refl refl) in
+    let all = others .ensures .1 held places (first .0) h (first .1) in
+    same-places held (partition word-rule held) places (all .0) h (all .1) (length-partition word-rule held) (others .ensures .0 ∙ words .ensures .0)
 
 pub words-first-spec : {M : Type 1} → statement M
 words-first-spec = tie.close (tie.spec append-kind-requires append-kind-requires-2 returns)
