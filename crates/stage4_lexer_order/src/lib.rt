@@ -150,7 +150,8 @@ fn append_kind(rules: RuleColumns, words: bool, sorted: RuleColumns) -> RuleColu
     }
 }
 
-// The rules in the image's order. The places stay those of the sheet's rules, in sheet order: the questions that name them were asked before.
+// The rules in the image's order. The places stay those of the sheet's rules, in sheet order: the questions that name them were asked
+// before.
 pub fn words_first(rules: RuleColumns) -> RuleColumns
     requires { ⌜ ((held : List Rule) × (places : List ℕ) × RulesOf rules held places) ⌝ }
     ensures { λ r. ⌜ ((held : List Rule) (places : List ℕ) → RulesOf rules held places → RulesOf r (words-first held) places) ⌝ }

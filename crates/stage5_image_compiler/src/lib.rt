@@ -54,8 +54,8 @@ fn grammar_of(checked: CheckedSheet) -> Grammar
     stage5_image_numbering::grammar_from(rules, links, types, productive)
 }
 
-// Question 11, asked before the first byte is written, and the image, with the rules numbered as they stand in the columns. In a buffer of so
-// many bytes every image fits, so the image is measured only for a shorter one.
+// Question 11, asked before the first byte is written, and the image, with the rules numbered as they stand in the columns. In a buffer
+// of so many bytes every image fits, so the image is measured only for a shorter one.
 fn write_if_fits(checked: CheckedSheet, image: &mut [u8]) -> Written
     requires { ⌜ ((s : Sheet) × PassedParts s checked) ⌝ }
     ensures { λ r. ⌜ ((s : Sheet) → PassedParts s checked
