@@ -45,14 +45,14 @@ module _ {A : Type 0} where
   sum-one (a ∷ l) = omega (arith, sum-one l)
 
   module _ (p : A → Bool) where
+    pub sum-partition : (f : A → ℕ) (l : List A) → sum f (partition p l) ≡ sum f l
+    unfolding partition
+    sum-partition f l = sum-append f (filter p l) (filter (λ a. not (p a)) l) ∙ sum-parts p f l
+
     pub all-partition : (P : A → Type 0) (l : List A) → All P l → All P (partition p l)
     unfolding partition
     all-partition P l h =
         all-append P (filter p l) (filter (λ a. not (p a)) l) (all-filter p P l h) (all-filter (λ a. not (p a)) P l h)
-
-    pub sum-partition : (f : A → ℕ) (l : List A) → sum f (partition p l) ≡ sum f l
-    unfolding partition
-    sum-partition f l = sum-append f (filter p l) (filter (λ a. not (p a)) l) ∙ sum-parts p f l
 
     pub length-partition : (l : List A) → length (partition p l) ≡ length l
     length-partition l = sym (sum-one (partition p l)) ∙ (sum-partition (λ a. 1) l ∙ sum-one l)

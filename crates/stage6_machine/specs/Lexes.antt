@@ -8,14 +8,14 @@ use Rattle.stage1_sheet.specs.Sheet.{Sheet}
 use Rattle.stage2_types.specs.Denotation.{Denotes}
 use Rattle.stage4_lexer.specs.RuleOrder.{Order, by-number, by-kind}
 use Rattle.stage4_lexer.specs.LongestMatch.{LongestMatch, NoMatch, NonWordAbove}
-use Rattle.stage6_machine.specs.OwnAnswer.{Allowed, ActionOf}
+use Rattle.stage6_machine.specs.OwnAnswer.{Allowed, ActionOf, own-order}
 
 pub data Lexes (s : Sheet) (text : List ℕ) : ℕ → List ℕ → Type 0 where
   to-the-end : {p : ℕ} → p ≡ length text → Lexes s text p []
   past-skip : {p : ℕ} {tokens : List ℕ} (k n : ℕ)
-      → p < length text → LongestMatch by-kind (s .rules) (drop p text) k n → ActionOf s k 0 → Lexes s text (p + n) tokens → Lexes s text p tokens
+      → p < length text → LongestMatch own-order (s .rules) (drop p text) k n → ActionOf s k 0 → Lexes s text (p + n) tokens → Lexes s text p tokens
   past-token : {p : ℕ} {tokens : List ℕ} (k n t : ℕ)
-      → p < length text → LongestMatch by-kind (s .rules) (drop p text) k n → ActionOf s k (suc t) → Lexes s text (p + n) tokens
+      → p < length text → LongestMatch own-order (s .rules) (drop p text) k n → ActionOf s k (suc t) → Lexes s text (p + n) tokens
       → Lexes s text p (t ∷ tokens)
 
 -- A place that reading comes to from the text's start, where the order says which rule is picked of those that match equally far, and the
@@ -48,6 +48,6 @@ pub record ReadingChanges (s : Sheet) (text : List ℕ) : Type 0 where
 -- denoted sequence allows after those before, or the end".
 pub data GoesNoFurther (s : Sheet) (text : List ℕ) (p : ℕ) (tokens : List ℕ) : ℕ → Type 0 where
   no-rule-matches : p < length text → NoMatch (s .rules) (drop p text) → GoesNoFurther s text p tokens 14
-  token-not-allowed : (k n t : ℕ) → p < length text → LongestMatch by-kind (s .rules) (drop p text) k n → ActionOf s k (suc t)
+  token-not-allowed : (k n t : ℕ) → p < length text → LongestMatch own-order (s .rules) (drop p text) k n → ActionOf s k (suc t)
       → (Allowed s tokens t → ⊥) → GoesNoFurther s text p tokens 15
   not-denoted : p ≡ length text → (Denotes (s .expression) tokens → ⊥) → GoesNoFurther s text p tokens 16

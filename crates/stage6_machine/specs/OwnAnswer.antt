@@ -44,10 +44,13 @@ pub data AnswersFrom (order : Order) (s : Sheet) (text : List ℕ) : ℕ → Lis
       → p < length text → LongestMatch order (s .rules) (drop p text) r n → ActionOf s r (suc k) → (Allowed s tokens k → ⊥)
       → AnswersFrom order s text p tokens (answer 15 p (length tokens))
 
--- "Kept are a place p, at first 0, and the tokens so far, at first none." The rule is picked by kind: "the sheet's own answer picks its rule by
--- it".
+-- "Longest match in demand 3 means this order, and the sheet's own answer picks its rule by it."
+abbrev pub own-order : Order
+own-order = by-kind
+
+-- "Kept are a place p, at first 0, and the tokens so far, at first none."
 abbrev pub OwnAnswer : Sheet → List ℕ → Answer → Type 0
-OwnAnswer s text a = AnswersFrom by-kind s text 0 [] a
+OwnAnswer s text a = AnswersFrom own-order s text 0 [] a
 
 -- The own answer where "the lowest rule that has it" is picked, as document 01 had it before request [4].
 abbrev pub OwnAnswerByNumber : Sheet → List ℕ → Answer → Type 0

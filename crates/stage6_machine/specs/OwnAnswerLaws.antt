@@ -5,12 +5,12 @@ use Prim.Native.Nat.{ℕ, _+_}
 use native.Mathlib.Omega.{arith}
 use Rattle.stage1_sheet.specs.Sheet.{Sheet}
 use Rattle.stage4_lexer.specs.Words.{RuleAt}
-use Rattle.stage4_lexer.specs.RuleOrder.{Order, by-number, by-kind}
+use Rattle.stage4_lexer.specs.RuleOrder.{Order, by-number}
 use Rattle.stage4_lexer.specs.LongestMatch.{LongestMatch}
 use Rattle.stage4_lexer.specs.RuleOrderLaws.{rule-one}
 use Rattle.stage4_lexer.specs.LongestMatchLaws.{longest-one, longest-not-none}
 use Rattle.stage6_machine.specs.Answer.{Answer, answer}
-use Rattle.stage6_machine.specs.OwnAnswer.{Allowed, ActionOf, AnswersFrom, accepts, ends-early, no-rule, skips, takes, refuses, OwnAnswer, OwnAnswerByNumber}
+use Rattle.stage6_machine.specs.OwnAnswer.{Allowed, ActionOf, AnswersFrom, accepts, ends-early, no-rule, skips, takes, refuses, own-order, OwnAnswer, OwnAnswerByNumber}
 
 module _ (order : Order) (s : Sheet) (text : List ℕ) where
   -- One longest match, and so one action.
@@ -67,7 +67,7 @@ module _ (order : Order) (s : Sheet) (text : List ℕ) where
   answers-one (refuses k n t l x u c) (refuses j m t' i y v d) = refl
 
 pub own-answer-one : (s : Sheet) (text : List ℕ) {a b : Answer} → OwnAnswer s text a → OwnAnswer s text b → a ≡ b
-own-answer-one s text = answers-one by-kind s text
+own-answer-one s text = answers-one own-order s text
 
 pub by-number-one : (s : Sheet) (text : List ℕ) {a b : Answer} → OwnAnswerByNumber s text a → OwnAnswerByNumber s text b → a ≡ b
 by-number-one s text = answers-one by-number s text

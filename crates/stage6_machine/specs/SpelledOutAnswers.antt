@@ -8,9 +8,8 @@ use Rattle.stage1_sheet.specs.Sheet.{Sheet}
 use Rattle.stage2_types.specs.Denotation.{Denotes}
 use Rattle.stage2_types.specs.SpelledOut.{spelled-out, spelled-out-sheet}
 use Rattle.stage2_types.specs.SpelledOutDenotation.{spelled-out-denotes}
-use Rattle.stage4_lexer.specs.RuleOrder.{by-kind}
 use Rattle.stage6_machine.specs.Answer.{Answer}
-use Rattle.stage6_machine.specs.OwnAnswer.{AnswersFrom, accepts, ends-early, no-rule, skips, takes, refuses, OwnAnswer}
+use Rattle.stage6_machine.specs.OwnAnswer.{AnswersFrom, accepts, ends-early, no-rule, skips, takes, refuses, own-order, OwnAnswer}
 
 -- The sheet with another expression.
 abbrev with-other : Sheet → Expression → Sheet
@@ -18,7 +17,7 @@ with-other s e = record { tokens = s .tokens; rules = s .rules; expression = e }
 
 -- Expressions that denote the same sequences give the same answers.
 module _ (s : Sheet) (e : Expression) (same : (tokens : List ℕ) → Denotes (s .expression) tokens ↔ Denotes e tokens) (text : List ℕ) where
-  same-answers : {p : ℕ} {tokens : List ℕ} {a : Answer} → AnswersFrom by-kind s text p tokens a → AnswersFrom by-kind (with-other s e) text p tokens a
+  same-answers : {p : ℕ} {tokens : List ℕ} {a : Answer} → AnswersFrom own-order s text p tokens a → AnswersFrom own-order (with-other s e) text p tokens a
   same-answers (accepts {tokens = tokens} h d) = accepts h (same tokens .0 d)
   same-answers (ends-early {tokens = tokens} h n) = ends-early h (λ d. n (same tokens .1 d))
   same-answers (no-rule h n) = no-rule h n

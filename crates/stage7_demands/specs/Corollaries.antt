@@ -21,7 +21,7 @@ use Rattle.stage2_types.specs.SpelledOutDenotation.{spelled-out-denotes}
 use Rattle.stage2_types.specs.SpelledOutTyping.{spelled-out-has-type}
 use Rattle.stage4_lexer.specs.EmptyWord.{none-empty}
 use Rattle.stage4_lexer.specs.Words.{NoEmptyRule}
-use Rattle.stage4_lexer.specs.RuleOrder.{by-kind, WordsAbove}
+use Rattle.stage4_lexer.specs.RuleOrder.{WordsAbove}
 use Rattle.stage5_image.specs.Image.{plain-image, image-of, image-bytes}
 use Rattle.stage5_image.specs.ImageFields.{ReadableAs}
 use Rattle.stage5_image.specs.ImageLength.{image-fits}
@@ -34,7 +34,7 @@ use Rattle.stage5_image.specs.Write.{written}
 use Rattle.stage5_image.specs.Writes.{Acceptable}
 use Rattle.stage6_machine.specs.Answer.{Answer, answer}
 use Rattle.stage6_machine.specs.Run.{most-text-bytes, long-enough}
-use Rattle.stage6_machine.specs.OwnAnswer.{OwnAnswer}
+use Rattle.stage6_machine.specs.OwnAnswer.{own-order, OwnAnswer}
 use Rattle.stage6_machine.specs.Lexes.{Lexes, LexesTo, GoesNoFurther}
 use Rattle.stage6_machine.specs.AcceptanceLaws.{accepted-iff, accepted-answer, refused-place, own-answer-not-17}
 use Rattle.stage6_machine.specs.SpelledOutAnswers.{spelled-out-own-answer}
@@ -62,7 +62,7 @@ module _ (f : Functions) (demand : Demand3 f) (sheet : List ℕ) (bytes : Bytes 
   -- "Otherwise the place named is the first where no rule matches, or whose token no denoted sequence allows after those before, or the
   -- end, and the count is that of the tokens before it."
   pub text-refused-place : (a .number ≡ 0 → ⊥)
-      → (tokens : List ℕ) × LexesTo by-kind s text (a .place) tokens × GoesNoFurther s text (a .place) tokens (a .number) × (a .count ≡ length tokens)
+      → (tokens : List ℕ) × LexesTo own-order s text (a .place) tokens × GoesNoFurther s text (a .place) tokens (a .number) × (a .count ≡ length tokens)
   text-refused-place = refused-place s text a own
 
   -- If the expression denotes nothing, no text is accepted.

@@ -1,6 +1,6 @@
 -- `stage4_lexer_order::rule_end` meets its contract. The invariant: whatever regex may stand there, the regexes due end where it ends.
 use native.Mathlib.Omega.{arith}
-use Prim.Native.Nat.{_+_, _-_, _≤_}
+use Prim.Native.Nat.{_+_, _-_, _≤_, _<_}
 use Rattle.stage1_sheet.specs.Regex.{Regex}
 use Rattle.stage1_sheet.specs.RegexItems.{regex-items-of}
 use Rattle.stage4_lexer_order.specs.Ends.{ItemsAt}
@@ -25,7 +25,9 @@ TurnAt c r =
 
 turn-at : (c : tie.In-loop Inv-loop μ-loop) (r : Regex) → let z = c .before .before .args in
     ItemsAt (z .tag .now) (z .low .now) (z .high .now) (z .item) (z .class) (regex-items-of r) → TurnAt c r
-turn-at c r h = due-turn (c .loop-test .taken) (c .before .loop .inv .2 r h)
+turn-at c r h =
+    let some : 0 < c .before .loop .due = omega (arith, c .loop-test .taken) in
+    due-turn some (c .before .loop .inv .2 r h)
 
 -- The same for the regex that the caller knows of.
 turn : (c : tie.In-loop Inv-loop μ-loop) → TurnAt c (c .before .before .pre .1 .0)
