@@ -2,13 +2,13 @@
 -- with the same members are one number; the members of a set below 2^k are below k.
 use mathlib.Core.Path.{_≡_, refl, sym, ap, ap₂, _∙_, subst}
 use mathlib.Core.Bool as B
-use mathlib.Core.Bool.{Bool, true, false, _||_, _&&_, not, cond}
+use mathlib.Core.Bool.{Bool, true, false, _||_, _&&_, not, xor, cond}
 use mathlib.Core.Logic.{_⊎_, inl, inr, ⊎-elim}
 use Prim.Native.Nat.{ℕ, zero, suc, _+_, _-_, _*_, _/_, _%_, _^_, _≤_, _<_, min, max}
 use native.Mathlib.Omega.{arith}
 use native.Mathlib.Nat.{mod-lt, pow-suc, div-lt-iff-lt-mul, mul-div-cancel, mul-mod-left, zero-lt-suc, one-mul}
 use lib.Dec.{eqb}
-use lib.Bits.{bitOr, bitAnd, or-shr, or-step, and-high, and-shr, and-step}
+use lib.Bits.{bitOr, bitAnd, bitXor, differ, or-shr, or-step, and-high, and-shr, and-step, xor-shr, xor-step}
 use lib.Pow.{pow-pos, pow-lt, pow-add, shr-shr, shl-exact, pow-mono}
 use lib.Arith.{digits-mod, lt-one}
 use borrow.Author.Tests.{eq-eqb, ne-eqb, eqb-true}
@@ -188,6 +188,35 @@ bit-and a b i =
     ap (λ (x : ℕ). eqb (x % 2) 1) (and-shr a b i)
     ∙ ap (λ (x : ℕ). eqb x 1) (and-low (a / 2 ^ i) (b / 2 ^ i))
     ∙ min-and (dig a i) (dig b i) (dig-lt a i) (dig-lt b i)
+
+-- bits of a symmetric difference
+differ-small : (x y : ℕ) → x < 2 → y < 2 → differ x y < 2
+differ-small zero y hx hy = hy
+differ-small (suc x) zero hx hy = hx
+differ-small (suc zero) (suc y) hx hy = omega arith
+differ-small (suc (suc x)) (suc y) hx hy = absurd (omega arith)
+
+xor-low : (a b : ℕ) → bitXor a b % 2 ≡ differ (a % 2) (b % 2)
+xor-low a b =
+    ap (λ (x : ℕ). x % 2) (xor-step a b)
+    ∙ digits-mod (bitXor (a / 2) (b / 2)) (differ-small (a % 2) (b % 2) (omega arith) (omega arith))
+
+differ-xor : (x y : ℕ) → x < 2 → y < 2 → eqb (differ x y) 1 ≡ xor (eqb x 1) (eqb y 1)
+unfolding xor
+differ-xor zero zero hx hy = refl
+differ-xor zero (suc zero) hx hy = refl
+differ-xor zero (suc (suc y)) hx hy = absurd (omega arith)
+differ-xor (suc zero) zero hx hy = refl
+differ-xor (suc zero) (suc zero) hx hy = refl
+differ-xor (suc zero) (suc (suc y)) hx hy = absurd (omega arith)
+differ-xor (suc (suc x)) y hx hy = absurd (omega arith)
+
+pub bit-xor : (a b i : ℕ) → bit (bitXor a b) i ≡ xor (bit a i) (bit b i)
+unfolding bit dig
+bit-xor a b i =
+    ap (λ (x : ℕ). eqb (x % 2) 1) (xor-shr a b i)
+    ∙ ap (λ (x : ℕ). eqb x 1) (xor-low (a / 2 ^ i) (b / 2 ^ i))
+    ∙ differ-xor (dig a i) (dig b i) (dig-lt a i) (dig-lt b i)
 
 -- Membership, in and out of each way to make a set.
 pub ∈-cases : (a b i : ℕ) → i ∈ bitOr a b → (i ∈ a) ⊎ (i ∈ b)

@@ -7,4 +7,5 @@ pub mod Order
 pub mod Truth
 pub mod Bits
 pub mod BitLaws
+pub mod LowestMember
 pub mod Computing

@@ -15,6 +15,8 @@ pub mod PositionSets
 pub mod Chains
 pub mod PositionList
 pub mod WalkLaws
+pub mod WordWalk
+pub mod WordWalkLaws
 pub mod LongestMatchLaws
 pub mod OrderedMatches
 pub mod PositionBounds
