@@ -103,6 +103,11 @@ pub bit-zero : (i : ℕ) → bit 0 i ≡ false
 unfolding bit dig
 bit-zero i = ap (λ (x : ℕ). eqb (x % 2) 1) (lt-one (div-lt-iff-lt-mul (pow-pos i) .1 (omega (arith, pow-pos i))))
 
+-- a shifted one under a condition
+pub bit-one-if : (x : Bool) (i j : ℕ) → bit (cond x (2 ^ i) 0) j ≡ (x && eqb i j)
+bit-one-if true i j = bit-one i j
+bit-one-if false i j = bit-zero j
+
 -- bits of a half
 dig-half : (s i : ℕ) → dig (s / 2) i ≡ dig s (1 + i)
 unfolding dig

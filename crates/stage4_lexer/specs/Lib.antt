@@ -21,5 +21,6 @@ pub mod LongestMatchLaws
 pub mod OrderedMatches
 pub mod PositionBounds
 pub mod LowestPosition
+pub mod WordWalkExamples
 pub mod MatchExamples
 pub mod OrderExamples

@@ -42,7 +42,7 @@ members-none s i (suc n) f = rw (f i (omega arith), members-none s (suc i) n (λ
 
 pub members-zero : members 0 ≡ []
 unfolding members
-members-zero = members-none 0 0 64 (λ j l. bit-zero j)
+members-zero = members-none 0 0 _ (λ j l. bit-zero j)
 
 -- Places without a member may be left out at the end.
 pub members-shorter : (s i n m : ℕ) → n ≤ m → ((j : ℕ) → i + n ≤ j → bit s j ≡ false) → members-from s i m ≡ members-from s i n
@@ -77,7 +77,7 @@ members-each s i (suc n) j l h e = go (bit s i) refl (compare-cases i j) (λ g. 
     go false f (inr (inl g)) ih = absurd (true≢false (sym e ∙ ap (bit s) (sym g) ∙ f))
     go b f (inr (inr g)) ih = absurd (omega arith)
 
-pub members-only : (s i n j : ℕ) → List·Memᴰ j (members-from s i n) → (j ∈ s) × (j < i + n)
+members-only : (s i n j : ℕ) → List·Memᴰ j (members-from s i n) → (j ∈ s) × (j < i + n)
 unfolding members-from
 members-only s i zero j m = absurd (List·Memᴰ·not-nil m)
 members-only s i (suc n) j m = go (bit s i) refl m (λ k. members-only s (suc i) n j k)
@@ -171,6 +171,11 @@ ones-members s l =
     walk-induction (λ s. ones s ≡ length (members s)) (rw members-zero)
     (λ s n l h. ones-step s n l ∙ ap suc h ∙ ap (λ (x : List ℕ). length x) (sym (members-step s n l)))
     (ones s) s l (omega arith)
+
+-- The first of them lies within the word.
+pub first-member-below : (s i : ℕ) (l : List ℕ) → members s ≡ i ∷ l → i < 64
+unfolding members
+first-member-below s i l e = members-only s 0 64 i (subst (List·Memᴰ i) (sym e) (List·Memᴰ·head refl)) .1
 
 -- "Show that the walk meets each position of the set once, rising, and no other."
 pub walk-meets-each : (s : ℕ) → s < 2 ^ 64 → MeetsEach s (word-walk s)

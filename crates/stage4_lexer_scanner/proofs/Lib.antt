@@ -1,4 +1,3 @@
--- The laws that the functions' proofs cite: one position, all positions of a byte, all bytes of a text.
-pub mod Position
+-- The laws that the functions' proofs cite: one byte by sets, and all bytes of a text.
 pub mod Byte
 pub mod Text

@@ -1,71 +1,69 @@
--- The walk over a text, as the code goes: one byte a turn, and the early end where no position is held.
-use mathlib.Core.Path.{_≡_, refl, sym, _∙_}
+-- The walk over a text, as the code goes: one byte a turn, the early end where a byte keeps nothing, and the match found so far as a set of
+-- last positions.
+use mathlib.Core.Path.{_≡_, refl, sym, ap, _∙_}
 use mathlib.Core.List.{List, [], _∷_}
-use mathlib.Core.Option.{none}
-use Prim.Native.Nat.{ℕ, suc, _+_, _≤_, _<_}
+use mathlib.Core.Option.{Option, none, some}
+use Prim.Native.Nat.{ℕ, suc, _+_, _-_, _^_, _≤_, _<_}
 use native.Mathlib.Numerals.{add-one}
+use lib.Bits.{bitAnd}
+use lib.Count.{trailingZeros}
 use lib.ListN.{length, drop, getD, drop-of-length-le}
 use lib.Seq.{drop-cons}
-use Rattle.stage0_laws.specs.BitLaws.{bit-zero}
 use Rattle.stage4_lexer.specs.Positions.{Position}
-use Rattle.stage4_lexer.specs.Match.{Match, longer}
+use Rattle.stage4_lexer.specs.Match.{Match, no-match, matched, longer}
 use Rattle.stage4_lexer.specs.Walk.{keep, follows, ended, walk, longest-match}
-use Rattle.stage4_lexer_scanner.specs.declared.Found.{Found}
-use Rattle.stage4_lexer_scanner.specs.declared.Found.the-variants.{Nothing, Rule}
-use Rattle.stage4_lexer_scanner.specs.declared.Ended.the-variants.{NoRule, Lowest}
-use Rattle.stage4_lexer_scanner.specs.declared.AfterByte.{AfterByte}
-use Rattle.stage4_lexer_scanner.specs.Meaning.{match-of, rule-of, LeadsTo}
-use Rattle.stage4_lexer_scanner.proofs.Byte.{ended-first}
+use Rattle.stage4_lexer.specs.WordWalk.{members}
+use Rattle.stage4_lexer.specs.WordWalkLaws.{members-zero, members-step}
+use Rattle.stage4_lexer.specs.LowestPosition.{follows-nothing, ended-nothing, walk-nothing}
+use Rattle.stage4_lexer_scanner.specs.declared.Longest.{Longest}
+use Rattle.stage4_lexer_scanner.specs.Sets.{first-entry, match-by}
 
--- From the empty set nothing is kept, held or ended.
-keep-none : (ps : List Position) (i b : ℕ) → keep ps i 0 b ≡ 0
-unfolding keep
-keep-none [] i b = refl
-keep-none (p ∷ ps) i b = rw (bit-zero i, keep-none ps (suc i) b)
+-- The match by a set of last positions: by none, and by some.
+pub match-by-none : (rule : List ℕ) (n : ℕ) → match-by rule 0 n ≡ no-match
+unfolding match-by first-entry longer
+match-by-none rule n = rw members-zero
 
-follows-none : (ps : List Position) (i : ℕ) → follows ps i 0 ≡ 0
-unfolding follows
-follows-none [] i = refl
-follows-none (p ∷ ps) i = rw (bit-zero i, follows-none ps (suc i))
+-- A set of last positions replaces the match before it, an empty one leaves it.
+pub match-new : (rule : List ℕ) (set n : ℕ) (m : Match) → (set ≡ 0 → ⊥) → set < 2 ^ 64
+    → match-by rule set n ≡ longer (first-entry rule (members set)) n m
+unfolding match-by first-entry longer
+match-new rule set n m h l = rw (members-step set h l)
 
-ended-none : (ps : List Position) (i : ℕ) → ended ps i 0 ≡ none
-unfolding ended
-ended-none [] i = refl
-ended-none (p ∷ ps) i = ended-first p ps i 0 _ (bit-zero i) ∙ ended-none ps (suc i)
+pub match-old : (rule : List ℕ) (set n : ℕ) (m : Match) → set ≡ 0 → m ≡ longer (first-entry rule (members set)) n m
+unfolding first-entry longer
+match-old rule set n m h = rw (h, members-zero)
 
-walk-none : (ps : List Position) (text : List ℕ) (n : ℕ) (m : Match) → walk ps 0 text n m ≡ m
-unfolding walk longer
-walk-none ps [] n m = refl
-walk-none ps (b ∷ text) n m = rw (keep-none ps 0 b, follows-none ps 0, ended-none ps 0) (walk-none ps text (suc n) m)
+-- The same rule again, some bytes later.
+pub longer-again : (o : Option ℕ) (n k : ℕ) (m : Match) → longer o k m ≡ longer o k (longer o n m)
+unfolding longer
+longer-again none n k m = refl
+longer-again (some rule) n k m = refl
 
--- A rule that ended, or none, and the best match before it.
-pub longer-none : (n : ℕ) (best : Found) → match-of best ≡ longer (rule-of NoRule) n (match-of best)
-unfolding rule-of longer
-longer-none n best = refl
-
-pub longer-rule : (rule n : ℕ) (best : Found) → match-of (Rule rule n) ≡ longer (rule-of (Lowest rule)) n (match-of best)
-unfolding match-of rule-of longer
-longer-rule rule n best = refl
+-- The match so far, with n bytes behind it: by the last positions that the latest byte kept, or else an earlier one.
+abbrev pub so-far : List ℕ → ℕ → ℕ → ℕ → Longest → Match
+so-far rule last kept n earlier = longer (first-entry rule (members (bitAnd kept last))) n (match-by rule (earlier .ending) (earlier .length))
 
 -- The walk from the code's state, with n bytes behind it.
-module _ (ps : List Position) (text : List ℕ) where
-  pub walk-from : ℕ → ℕ → Found → Match
-  walk-from held n best = walk ps held (drop n text) n (match-of best)
+module _ (ps : List Position) (rule text : List ℕ) where
+  pub walk-start : (first set : ℕ) → set ≡ 0
+      → walk ps first (drop 0 text) 0 (longer (first-entry rule (members set)) 0 (match-by rule 0 0)) ≡ longest-match ps first text
+  unfolding longest-match
+  walk-start first set e =
+      ap (λ (m : Match). walk ps first text 0 m) (sym (match-old rule set 0 (match-by rule 0 0) e) ∙ match-by-none rule 0)
 
-  pub walk-start : (first : ℕ) → walk-from first 0 Nothing ≡ longest-match ps first text
-  unfolding walk-from longest-match match-of
-  walk-start first = refl
+  pub walk-turn : (held n kept next : ℕ) (m m' : Match) → n < length text → kept ≡ keep ps 0 held (getD text n 0)
+      → next ≡ follows ps 0 kept → m' ≡ longer (ended ps 0 kept) (n + 1) m
+      → walk ps next (drop (n + 1) text) (n + 1) m' ≡ walk ps held (drop n text) n m
+  unfolding walk
+  walk-turn held n kept next m m' h k f g = rw (g, f, k, drop-cons text n 0, add-one n)
 
-  pub walk-turn : (held n : ℕ) (best next : Found) (a : AfterByte) → n < length text → LeadsTo ps held (getD text n 0) a
-      → match-of next ≡ longer (rule-of (a .ended)) (n + 1) (match-of best)
-      → walk-from (a .held) (n + 1) next ≡ walk-from held n best
-  unfolding walk-from walk
-  walk-turn held n best next a h l e = rw (e, l .next-held, l .rule-ended, drop-cons text n 0, add-one n)
+  -- A byte that keeps nothing.
+  pub walk-stops : (held n : ℕ) (m : Match) → n < length text → keep ps 0 held (getD text n 0) ≡ 0 → m ≡ walk ps held (drop n text) n m
+  unfolding longer
+  walk-stops held n m h k =
+      sym (walk-nothing ps (drop (n + 1) text) (n + 1) m)
+      ∙ walk-turn held n 0 0 m m h (sym k) (sym (follows-nothing ps 0)) (rw (ended-nothing ps 0))
 
-  pub walk-empty : (n : ℕ) (best : Found) → match-of best ≡ walk-from 0 n best
-  unfolding walk-from
-  walk-empty n best = sym (walk-none ps (drop n text) n (match-of best))
-
-  pub walk-end : (held n : ℕ) (best : Found) → length text ≤ n → match-of best ≡ walk-from held n best
-  unfolding walk-from walk
-  walk-end held n best h = rw (drop-of-length-le text {i = n} h)
+  pub walk-end : (held n : ℕ) (m : Match) → length text ≤ n → m ≡ walk ps held (drop n text) n m
+  unfolding walk
+  walk-end held n m h = rw (drop-of-length-le text {i = n} h)

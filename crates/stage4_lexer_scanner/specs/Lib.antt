@@ -1,3 +1,3 @@
--- What the scanner's answers mean, and what one position makes of one byte.
+-- What the scanner's answers mean, and what a set's positions have in the columns.
 pub mod Meaning
-pub mod Turn
+pub mod Sets

@@ -6,6 +6,8 @@ use Prim.Native.Nat.{ℕ}
 use Rattle.stage4_lexer.specs.Positions.{Position}
 use Rattle.stage4_lexer.specs.Match.{Match, no-match, matched}
 use Rattle.stage4_lexer.specs.Walk.{keep, follows, ended}
+use Rattle.stage4_lexer.specs.PositionBounds.{NeverFalling}
+use Rattle.stage4_lexer_classes.specs.ClassTable.{ClassTable}
 use Rattle.stage4_lexer_scanner.specs.declared.Found.{Found}
 use Rattle.stage4_lexer_scanner.specs.declared.Found.the-variants.{Nothing, Rule}
 use Rattle.stage4_lexer_scanner.specs.declared.Ended.{Ended}
@@ -27,3 +29,8 @@ rule-of (Lowest rule) = some rule
 pub record LeadsTo (ps : List Position) (held b : ℕ) (s : AfterByte) : Type 0 where
   pub next-held : s .held ≡ follows ps 0 (keep ps 0 held b)
   pub rule-ended : rule-of (s .ended) ≡ ended ps 0 (keep ps 0 held b)
+
+-- What a step relies on: the class table is the positions' own, and "rules of positions .. never falling".
+pub record Prepared (ps : List Position) (classes : List ℕ) : Type 0 where
+  pub own-classes : ClassTable ps classes
+  pub never-falling : NeverFalling 0 ps

@@ -1,12 +1,14 @@
-// The scanner: the longest match at the front of a text, by a walk over positions held in columns.
+// The scanner: the longest match at the front of a text, by a walk over positions held in columns. Sets of positions are words.
 // Which place of a text the front starts at, and what a match leads to, is not asked here.
 ghost use mathlib.Core.Path.{_≡_};
-ghost use Prim.Native.Nat.{_≤_};
+ghost use mathlib.Core.List.{List, _∷_};
+ghost use Prim.Native.Nat.{ℕ, _≤_, _<_};
 ghost use Rattle.stage4_lexer.specs.Match.{longer};
 ghost use Rattle.stage4_lexer.specs.Walk.{longest-match};
+ghost use Rattle.stage4_lexer.specs.WordWalk.{members, word-walk};
 ghost use Rattle.stage4_lexer_columns.specs.Held.{held-from};
-ghost use Rattle.stage4_lexer_scanner.specs.Meaning.{match-of, rule-of, LeadsTo};
-ghost use Rattle.stage4_lexer_scanner.specs.Turn.{lowest, position, with-position};
+ghost use Rattle.stage4_lexer_scanner.specs.Meaning.{match-of, rule-of, LeadsTo, Prepared};
+ghost use Rattle.stage4_lexer_scanner.specs.Sets.{joined, first-entry, match-by};
 
 // The longest match: the lowest rule that has it, and its length.
 pub enum Found {
@@ -26,61 +28,52 @@ struct AfterByte {
     ended: Ended,
 }
 
-// The lower of a rule and of the one found before it.
-fn lower(rule: u8, found: Ended) -> Ended
-    ensures { λ r. ⌜ r ≡ lowest rule found ⌝ }
+// A step of the walk over a set as a word: its lowest position, and the set without it.
+struct Step {
+    position: usize,
+    others: u64,
+}
+
+// The lowest position stands at the number of trailing zeros, and `set - 1` differs from the set there and below.
+fn lowest_first(set: u64) -> Step
+    requires { ⌜ 0 < set ⌝ }
+    ensures { λ r. ⌜ members set ≡ r .position ∷ members (r .others) ⌝ }
 {
-    match found {
-        Ended::NoRule => return Ended::Lowest(rule),
-        Ended::Lowest(other) => {
-            if rule < other {
-                return Ended::Lowest(rule);
-            }
-            return Ended::Lowest(other);
-        }
+    Step {
+        position: u64::trailing_zeros(set) as usize,
+        others: set & (set - 1),
     }
 }
 
-// One position's part in a byte: a held position whose class has the byte is kept, so its follow set joins the next held set,
-// and where it is last, its rule ends here.
-fn at_position(
-    so_far: AfterByte,
-    byte: u8,
-    is_held: bool,
-    low: u8,
-    high: u8,
-    rule: u8,
-    is_last: bool,
-    follow: u64,
-) -> AfterByte
-    ensures { λ r. ⌜ r ≡ with-position (position low high rule «is_last» follow) «is_held» byte «so_far» ⌝ }
+// The follow sets of the kept positions, together, as the walk meets them: from the lowest position to the next, until none is left.
+fn follow_sets(kept: u64, follow: &[u64; 64]) -> u64
+    ensures { λ r. ⌜ r ≡ joined (now (follow .entry)) (word-walk kept) ⌝ }
 {
-    if !is_held {
-        return so_far;
+    let mut next: u64 = 0;
+    let mut left = kept;
+    while left != 0 {
+        let step = lowest_first(left);
+        let i = step.position;
+        next |= follow[i];
+        left = step.others;
     }
-    if byte < low {
-        return so_far;
-    }
-    if high < byte {
-        return so_far;
-    }
-    let next = so_far.held | follow;
-    let found = so_far.ended;
-    if !is_last {
-        return AfterByte {
-            held: next,
-            ended: found,
-        };
-    }
-    let lowest_rule = lower(rule, found);
-    AfterByte {
-        held: next,
-        ended: lowest_rule,
-    }
+    next
 }
 
-// What a byte leads to, in one pass over the positions: `one` is a one shifted to position i. The pass ends early where all held
-// positions are below i.
+// The rule of the lowest position of a set: the lowest rule of all its positions, where rules never fall.
+fn lowest_rule(ending: u64, rule: &[u8; 64]) -> Ended
+    ensures { λ r. ⌜ rule-of r ≡ first-entry (now (rule .entry)) (members ending) ⌝ }
+{
+    if ending == 0 {
+        return Ended::NoRule;
+    }
+    let step = lowest_first(ending);
+    let i = step.position;
+    Ended::Lowest(rule[i])
+}
+
+// What a byte leads to: the class table gives the kept positions by one `and`, and only these are walked. The columns `low` and `high`
+// are what the table was filled from.
 fn after_byte<'a>(
     byte: u8,
     held: u64,
@@ -90,48 +83,51 @@ fn after_byte<'a>(
     rule: &'a [u8; 64],
     follow: &'a [u64; 64],
     last: u64,
+    classes: &'a [u64; 256],
 ) -> AfterByte
-    requires { ⌜ count ≤ 64 ⌝ }
+    requires { ⌜ (count ≤ 64)
+        × Prepared (held-from (now low) (now high) (now rule) (now follow) last 0 count) (now classes) ⌝ }
     ensures { λ r.
         ⌜ LeadsTo (held-from (now (low .entry)) (now (high .entry)) (now (rule .entry)) (now (follow .entry)) last 0 count) held byte r ⌝ }
 {
-    let mut so_far = AfterByte {
-        held: 0,
-        ended: Ended::NoRule,
-    };
-    let mut one: u64 = 1;
-    let mut i: usize = 0;
-    while i < count {
-        if held < one {
-            return so_far;
-        }
-        so_far = at_position(
-            so_far,
-            byte,
-            held & one != 0,
-            low[i],
-            high[i],
-            rule[i],
-            last & one != 0,
-            follow[i],
-        );
-        one <<= 1;
-        i += 1;
-    }
-    so_far
+    let kept = held & classes[byte as usize];
+    let next = follow_sets(kept, follow);
+    let ended = lowest_rule(kept & last, rule);
+    AfterByte { held: next, ended }
 }
 
-// A rule that ends a match after so many bytes replaces what was found before it.
-fn longer_match(ended: Ended, n: usize, best: Found) -> Found
-    ensures { λ r. ⌜ match-of r ≡ longer (rule-of ended) n (match-of best) ⌝ }
+// The longest match so far: the positions that are last where it ends, none where there is no match, and its length.
+struct Longest {
+    ending: u64,
+    length: usize,
+}
+
+// Last positions that are kept after so many bytes replace what was found before them; where there are none, it stays.
+fn longer_set(ending: u64, n: usize, earlier: Longest) -> Longest
+    ensures { λ r. ⌜ ((rule : List ℕ) → match-by rule (r .ending) (r .length)
+        ≡ longer (first-entry rule (members ending)) n (match-by rule (earlier .ending) (earlier .length))) ⌝ }
 {
+    if ending == 0 {
+        return earlier;
+    }
+    Longest { ending, length: n }
+}
+
+// The match that last positions stand for.
+fn found_match(ending: u64, length: usize, rule: &[u8; 64]) -> Found
+    ensures { λ r. ⌜ match-of r ≡ match-by (now (rule .entry)) ending length ⌝ }
+{
+    let ended = lowest_rule(ending, rule);
     match ended {
-        Ended::NoRule => return best,
-        Ended::Lowest(rule) => return Found::Rule(rule, n),
+        Ended::NoRule => return Found::Nothing,
+        Ended::Lowest(number) => return Found::Rule(number, length),
     }
 }
 
-// The longest match at the front of a text. The walk ends early where no position is held any more.
+// The longest match at the front of a text. Where a byte keeps the same positions as the byte before it, the same are held after it, and
+// nothing is walked. A match is noted as a set of positions, and only where others are kept than before: its rule is looked up once, after
+// the walk, and the one that `after_byte` tells is not asked for. The walk ends early where a byte keeps no position; nearly always the
+// positions kept last end the match, which is answered at once, without a choice between two lengths to wait for.
 pub fn longest_match<'a>(
     text: &'a [u8],
     count: usize,
@@ -141,8 +137,10 @@ pub fn longest_match<'a>(
     follow: &'a [u64; 64],
     last: u64,
     first: u64,
+    classes: &'a [u64; 256],
 ) -> Found
-    requires { ⌜ count ≤ 64 ⌝ }
+    requires { ⌜ (count ≤ 64)
+        × Prepared (held-from (now low) (now high) (now rule) (now follow) last 0 count) (now classes) ⌝ }
     ensures { λ r.
         ⌜ match-of r
         ≡ longest-match
@@ -151,17 +149,29 @@ pub fn longest_match<'a>(
         (now (text .entry)) ⌝ }
 {
     let mut held = first;
-    let mut best = Found::Nothing;
+    let mut kept: u64 = 0;
+    let mut earlier = Longest {
+        ending: 0,
+        length: 0,
+    };
     let mut n: usize = 0;
     while n < text.len() {
-        if held == 0 {
-            return best;
+        let byte = text[n];
+        let next = held & classes[byte as usize];
+        if next == 0 {
+            break;
         }
-        let after = after_byte(text[n], held, count, low, high, rule, follow, last);
+        if next != kept {
+            earlier = longer_set(kept & last, n, earlier);
+            let after = after_byte(byte, held, count, low, high, rule, follow, last, classes);
+            held = after.held;
+            kept = next;
+        }
         n += 1;
-        held = after.held;
-        let ended = after.ended;
-        best = longer_match(ended, n, best);
     }
-    best
+    let ending = kept & last;
+    if ending != 0 {
+        return found_match(ending, n, rule);
+    }
+    found_match(earlier.ending, earlier.length, rule)
 }

@@ -3,17 +3,20 @@
 ghost use mathlib.Core.Path.{_≡_};
 ghost use lib.ListN.{length};
 ghost use Rattle.stage5_image.specs.Image.{Image};
+ghost use Rattle.stage5_image.specs.ImageRanges.{InRange};
 ghost use Rattle.stage5_image_reader.specs.Decoded.{Decoded};
 ghost use Rattle.stage6_machine.specs.Run.{run-image, run, stack-after};
 ghost use Rattle.stage6_machine_turn.specs.Steps.{answer-held};
+use stage4_lexer_classes::class_table;
 use stage5_image_reader::ImageTables;
 use stage5_image_reader::Outcome;
 use stage6_machine_turn::RunAnswer;
 use stage6_machine_turn::Turn;
 
-// Runs a readable image, given by its bytes and tables. What is left on the stack is not promised.
+// Runs a readable image, given by its bytes and tables. The class table is filled once, before the text is read. What is left on the stack
+// is not promised.
 fn run_image(image: &[u8], tables: ImageTables, text: &[u8], stack: &mut [u8]) -> RunAnswer
-    requires { ⌜ ((i : Image) × Decoded (now image) tables i) ⌝ }
+    requires { ⌜ ((i : Image) × Decoded (now image) tables i × InRange i) ⌝ }
     ensures { λ r. ⌜ ((i : Image)
         → Decoded (now (image .entry)) tables i
         → answer-held r ≡ run-image i (length (now (stack .entry))) (now (text .entry))) ⌝ }
@@ -23,6 +26,7 @@ fn run_image(image: &[u8], tables: ImageTables, text: &[u8], stack: &mut [u8]) -
     }
     stack[0] = 0;
     let positions = tables.positions;
+    let classes = class_table(positions.count, &positions.low, &positions.high);
     let mut state = stage6_machine_turn::first_state();
     while state.place < text.len() {
         let p = state.place;
@@ -35,6 +39,7 @@ fn run_image(image: &[u8], tables: ImageTables, text: &[u8], stack: &mut [u8]) -
             &positions.follow,
             positions.last,
             positions.first,
+            &classes,
         );
         let after = stage6_machine_turn::one_turn(
             image,

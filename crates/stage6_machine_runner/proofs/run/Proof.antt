@@ -5,6 +5,7 @@ use native.Mathlib.Omega.{arith}
 use lib.ListN.{length, replicate}
 use denote.Ref.{now}
 use Rattle.stage0_buffers.specs.Cleared.{cleared-all}
+use Rattle.stage5_image.specs.ReadableImages.{read-in-range}
 use Rattle.stage6_machine_turn.specs.Steps.{answer-held}
 use Rattle.stage6_machine_runner.proofs.Ending.{run-too-long, run-unreadable, run-readable}
 use Rattle.stage6_machine_runner.proofs.Ending.{stack-kept-12, stack-kept-13, stack-cleared}
@@ -47,7 +48,7 @@ run-image-requires c κs =
     let told = c .before .before in
     let read = told .before .before in
     let readable = read .read-image .ensures .readable (told .enum-told .given .1) in
-    (readable .0, readable .2)
+    (readable .0, readable .2, read-in-range _ _ _ (readable .1) .0)
 
 clear-front-requires : tie.Need-clear-front-requires
 clear-front-requires c κs = search needs

@@ -1,0 +1,52 @@
+-- `stage4_lexer_classes::toggle_class` meets its contract.
+-- The high byte is not the last one, or it is and has no entry just past it.
+use borrow.Author.Needs.{needs}
+use native.Mathlib.Omega.{arith}
+use Rattle.stage4_lexer_classes.proofs.Toggling.{class-toggled, class-toggled-low}
+use Rattle.stage4_lexer_classes.proofs.toggle_class.Statement.{statement}
+use Rattle.stage4_lexer_classes.proofs.toggle_class.Tie as tie
+
+mul-table : tie.Need-mul-table
+mul-table c = search needs
+
+element-copy-out-table : tie.Need-element-copy-out-table
+element-copy-out-table c = search needs
+
+element-write-table : tie.Need-element-write-table
+element-write-table c = search needs
+
+add-past : tie.Need-add-past
+add-past c = search needs
+
+mul-table-2 : tie.Need-mul-table-2
+mul-table-2 c = search needs
+
+element-copy-out-table-2 : tie.Need-element-copy-out-table-2
+element-copy-out-table-2 c = search needs
+
+element-write-table-2 : tie.Need-element-write-table-2
+element-write-table-2 c = search needs
+
+returns : tie.Need-returns
+returns c =
+    let z = c .before .before .before in
+    class-toggled _ _ _ _ (z .pre) (omega arith) (c .before .if1 .taken)
+
+returns-2 : tie.Need-returns-2
+returns-2 c =
+    let z = c .before .before in
+    class-toggled-low _ _ _ _ (z .pre) (omega arith) (c .if1 .left)
+
+pub toggle-class-spec : {M : Type 1} → statement M
+toggle-class-spec =
+    tie.close
+    (tie.spec
+    mul-table
+    element-copy-out-table
+    element-write-table
+    add-past
+    mul-table-2
+    element-copy-out-table-2
+    element-write-table-2
+    returns
+    returns-2)

@@ -1,0 +1,3 @@
+-- The class table of a list of positions, and the steps by which it is filled.
+pub mod ClassTable
+pub mod Filling

@@ -1,0 +1,19 @@
+-- `stage4_lexer_scanner::lowest_first` meets its contract: trailing zeros tell the first member of the rising list.
+use borrow.Author.Needs.{needs}
+use native.Mathlib.Omega.{arith}
+use lib.Count.{trailing-le}
+use Rattle.stage4_lexer.specs.WordWalkLaws.{members-step}
+use Rattle.stage4_lexer_scanner.proofs.lowest_first.Statement.{statement}
+use Rattle.stage4_lexer_scanner.proofs.lowest_first.Tie as tie
+
+returns : tie.Need-returns
+returns c = members-step (c .args .set) (λ e. omega arith) (omega arith)
+
+cast-t3 : tie.Need-cast-t3
+cast-t3 c = omega (arith, trailing-le 64 (c .args .set))
+
+sub-t4 : tie.Need-sub-t4
+sub-t4 c = search needs
+
+pub lowest-first-spec : {M : Type 1} → statement M
+lowest-first-spec = tie.close (tie.spec cast-t3 sub-t4 returns)
