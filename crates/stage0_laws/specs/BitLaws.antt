@@ -1,5 +1,5 @@
--- Laws of sets held as one number: the members of a union, of an intersection, of one element and of the empty set; two sets
--- with the same members are one number; the members of a set below 2^k are below k.
+-- Laws of sets held as one number: the members of a union, of an intersection, of a symmetric difference, of one element and of the empty
+-- set; two sets with the same members are one number; the members of a set below 2^k are below k.
 use mathlib.Core.Path.{_≡_, refl, sym, ap, ap₂, _∙_, subst}
 use mathlib.Core.Bool as B
 use mathlib.Core.Bool.{Bool, true, false, _||_, _&&_, not, xor, cond}
@@ -23,28 +23,47 @@ dig-lt : (s i : ℕ) → dig s i < 2
 unfolding dig
 dig-lt s i = mod-lt (s / 2 ^ i) (zero-lt-suc 1)
 
--- bits of an or
-or-low : (a b : ℕ) → bitOr a b % 2 ≡ max (a % 2) (b % 2)
-or-low a b =
-    ap (λ (x : ℕ). x % 2) (or-step a b) ∙ digits-mod (bitOr (a / 2) (b / 2)) (omega arith)
+-- What holds of the digits 0 and 1 holds of every number below 2.
+by-digits : (P : ℕ → ℕ → Type 0) → P 0 0 → P 0 1 → P 1 0 → P 1 1 → (x y : ℕ) → x < 2 → y < 2 → P x y
+by-digits P a b c d zero zero hx hy = a
+by-digits P a b c d zero (suc zero) hx hy = b
+by-digits P a b c d (suc zero) zero hx hy = c
+by-digits P a b c d (suc zero) (suc zero) hx hy = d
+by-digits P a b c d (suc zero) (suc (suc y)) hx hy = absurd (omega arith)
+by-digits P a b c d zero (suc (suc y)) hx hy = absurd (omega arith)
+by-digits P a b c d (suc (suc x)) y hx hy = absurd (omega arith)
 
-or-dig : (a b i : ℕ) → dig (bitOr a b) i ≡ max (dig a i) (dig b i)
-unfolding dig
-or-dig a b i = ap (λ (x : ℕ). x % 2) (or-shr a b i) ∙ or-low (a / 2 ^ i) (b / 2 ^ i)
+-- An operation that goes digit by digit: its bits are those that one pair of digits gives.
+module _ (op digit : ℕ → ℕ → ℕ) (flag : Bool → Bool → Bool) (shift : (a b k : ℕ) → op a b / 2 ^ k ≡ op (a / 2 ^ k) (b / 2 ^ k))
+    (step : (a b : ℕ) → op a b ≡ op (a / 2) (b / 2) * 2 + digit (a % 2) (b % 2)) (small : (x y : ℕ) → x < 2 → y < 2 → digit x y < 2)
+    (told : (x y : ℕ) → x < 2 → y < 2 → eqb (digit x y) 1 ≡ flag (eqb x 1) (eqb y 1)) where
+  low-digit : (a b : ℕ) → op a b % 2 ≡ digit (a % 2) (b % 2)
+  low-digit a b =
+      ap (λ (x : ℕ). x % 2) (step a b) ∙ digits-mod (op (a / 2) (b / 2)) (small (a % 2) (b % 2) (omega arith) (omega arith))
 
-max-or : (x y : ℕ) → x < 2 → y < 2 → eqb (max x y) 1 ≡ (eqb x 1 || eqb y 1)
-max-or zero zero hx hy = refl
-max-or zero (suc zero) hx hy = refl
-max-or zero (suc (suc y)) hx hy = absurd (omega arith)
-max-or (suc zero) zero hx hy = refl
-max-or (suc zero) (suc zero) hx hy = refl
-max-or (suc zero) (suc (suc y)) hx hy = absurd (omega arith)
-max-or (suc (suc x)) y hx hy = absurd (omega arith)
+  bit-of : (a b i : ℕ) → bit (op a b) i ≡ flag (bit a i) (bit b i)
+  unfolding bit dig
+  bit-of a b i =
+      ap (λ (x : ℕ). eqb (x % 2) 1) (shift a b i)
+      ∙ ap (λ (x : ℕ). eqb x 1) (low-digit (a / 2 ^ i) (b / 2 ^ i))
+      ∙ told (dig a i) (dig b i) (dig-lt a i) (dig-lt b i)
 
+-- bits of a union, of an intersection and of a symmetric difference
 pub bit-or : (a b i : ℕ) → bit (bitOr a b) i ≡ (bit a i || bit b i)
-unfolding bit dig
-bit-or a b i =
-    ap (λ (x : ℕ). eqb x 1) (or-dig a b i) ∙ max-or (dig a i) (dig b i) (dig-lt a i) (dig-lt b i)
+bit-or =
+    bit-of bitOr max _||_ or-shr or-step (λ x y hx hy. omega arith)
+    (by-digits (λ x y. eqb (max x y) 1 ≡ (eqb x 1 || eqb y 1)) refl refl refl refl)
+
+pub bit-and : (a b i : ℕ) → bit (bitAnd a b) i ≡ (bit a i && bit b i)
+bit-and =
+    bit-of bitAnd min _&&_ and-shr and-step (λ x y hx hy. omega arith)
+    (by-digits (λ x y. eqb (min x y) 1 ≡ (eqb x 1 && eqb y 1)) refl refl refl refl)
+
+pub bit-xor : (a b i : ℕ) → bit (bitXor a b) i ≡ xor (bit a i) (bit b i)
+unfolding xor
+bit-xor =
+    bit-of bitXor differ xor xor-shr xor-step (by-digits (λ x y. differ x y < 2) (omega arith) (omega arith) (omega arith) (omega arith))
+    (by-digits (λ x y. eqb (differ x y) 1 ≡ xor (eqb x 1) (eqb y 1)) refl refl refl refl)
 
 -- the digit that a shifted one picks
 and-one : (s i : ℕ) → bitAnd s (2 ^ i) ≡ dig s i * 2 ^ i
@@ -172,56 +191,6 @@ bit-ext-all a b e =
 
 pub or-assoc : (a b c : ℕ) → bitOr (bitOr a b) c ≡ bitOr a (bitOr b c)
 or-assoc a b c = bit-ext-all (bitOr (bitOr a b) c) (bitOr a (bitOr b c)) (λ i. simp bit-or (B.or-assoc (bit a i) (bit b i) (bit c i)))
-
--- bits of an and
-and-low : (a b : ℕ) → bitAnd a b % 2 ≡ min (a % 2) (b % 2)
-and-low a b =
-    ap (λ (x : ℕ). x % 2) (and-step a b) ∙ digits-mod (bitAnd (a / 2) (b / 2)) (omega arith)
-
-min-and : (x y : ℕ) → x < 2 → y < 2 → eqb (min x y) 1 ≡ (eqb x 1 && eqb y 1)
-min-and zero zero hx hy = refl
-min-and zero (suc zero) hx hy = refl
-min-and zero (suc (suc y)) hx hy = absurd (omega arith)
-min-and (suc zero) zero hx hy = refl
-min-and (suc zero) (suc zero) hx hy = refl
-min-and (suc zero) (suc (suc y)) hx hy = absurd (omega arith)
-min-and (suc (suc x)) y hx hy = absurd (omega arith)
-
-pub bit-and : (a b i : ℕ) → bit (bitAnd a b) i ≡ (bit a i && bit b i)
-unfolding bit dig
-bit-and a b i =
-    ap (λ (x : ℕ). eqb (x % 2) 1) (and-shr a b i)
-    ∙ ap (λ (x : ℕ). eqb x 1) (and-low (a / 2 ^ i) (b / 2 ^ i))
-    ∙ min-and (dig a i) (dig b i) (dig-lt a i) (dig-lt b i)
-
--- bits of a symmetric difference
-differ-small : (x y : ℕ) → x < 2 → y < 2 → differ x y < 2
-differ-small zero y hx hy = hy
-differ-small (suc x) zero hx hy = hx
-differ-small (suc zero) (suc y) hx hy = omega arith
-differ-small (suc (suc x)) (suc y) hx hy = absurd (omega arith)
-
-xor-low : (a b : ℕ) → bitXor a b % 2 ≡ differ (a % 2) (b % 2)
-xor-low a b =
-    ap (λ (x : ℕ). x % 2) (xor-step a b)
-    ∙ digits-mod (bitXor (a / 2) (b / 2)) (differ-small (a % 2) (b % 2) (omega arith) (omega arith))
-
-differ-xor : (x y : ℕ) → x < 2 → y < 2 → eqb (differ x y) 1 ≡ xor (eqb x 1) (eqb y 1)
-unfolding xor
-differ-xor zero zero hx hy = refl
-differ-xor zero (suc zero) hx hy = refl
-differ-xor zero (suc (suc y)) hx hy = absurd (omega arith)
-differ-xor (suc zero) zero hx hy = refl
-differ-xor (suc zero) (suc zero) hx hy = refl
-differ-xor (suc zero) (suc (suc y)) hx hy = absurd (omega arith)
-differ-xor (suc (suc x)) y hx hy = absurd (omega arith)
-
-pub bit-xor : (a b i : ℕ) → bit (bitXor a b) i ≡ xor (bit a i) (bit b i)
-unfolding bit dig
-bit-xor a b i =
-    ap (λ (x : ℕ). eqb (x % 2) 1) (xor-shr a b i)
-    ∙ ap (λ (x : ℕ). eqb x 1) (xor-low (a / 2 ^ i) (b / 2 ^ i))
-    ∙ differ-xor (dig a i) (dig b i) (dig-lt a i) (dig-lt b i)
 
 -- Membership, in and out of each way to make a set.
 pub ∈-cases : (a b i : ℕ) → i ∈ bitOr a b → (i ∈ a) ⊎ (i ∈ b)

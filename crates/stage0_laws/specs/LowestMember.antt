@@ -16,7 +16,7 @@ use Rattle.stage0_laws.specs.Bits.{bit, _∈_}
 use Rattle.stage0_laws.specs.BitLaws.{bit-or, bit-one}
 use Rattle.stage0_laws.specs.Order.{compare-cases}
 
--- The lowest set digit of n, a number of k digits, is the one at t; what stands above it is `top`.
+-- For these laws: the lowest set digit of n, a number of k digits, is the one at t; what stands above it is `top`.
 pub record Lowest (k n t : ℕ) : Type 0 where
   pub top : ℕ
   pub form : n ≡ top * 2 ^ suc t + 2 ^ t

@@ -7,6 +7,7 @@ pub mod RuleOrderLaws
 pub mod Positions
 pub mod Match
 pub mod Walk
+pub mod SetWalk
 pub mod Computing
 pub mod Least
 pub mod SetBounds
@@ -15,12 +16,11 @@ pub mod PositionSets
 pub mod Chains
 pub mod PositionList
 pub mod WalkLaws
-pub mod WordWalk
-pub mod WordWalkLaws
+pub mod SetWalkLaws
 pub mod LongestMatchLaws
 pub mod OrderedMatches
 pub mod PositionBounds
 pub mod LowestPosition
-pub mod WordWalkExamples
+pub mod SetWalkExamples
 pub mod MatchExamples
 pub mod OrderExamples

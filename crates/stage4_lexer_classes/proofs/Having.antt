@@ -17,6 +17,7 @@ use Rattle.stage0_laws.specs.Order.{compare-cases, lt-or-le}
 use Rattle.stage4_lexer.specs.Walk.{has-byte}
 use Rattle.stage4_lexer_columns.specs.Held.{held-position, held-from}
 use Rattle.stage4_lexer_classes.specs.ClassTable.{having, ClassTable}
+use Rattle.stage4_lexer_classes.specs.ClassTableLaws.{having-at}
 use Rattle.stage4_lexer_classes.specs.Filling.{edge, Edges, swept}
 
 -- A class has a byte.
@@ -71,36 +72,11 @@ module _ (low high : List ℕ) (n : ℕ) (t : List ℕ) (e : Edges low high n t)
       bit-xor (swept t b) (getD t (suc b) 0) j
       ∙ rw (swept-bit b j (omega arith), e .members (suc b) j h) (swept-next b j (ltb j n) refl)
 
--- The positions whose class has a byte: of none, and of one more.
-none-between : (i j : ℕ) → (leb i j && ltb j (i + 0)) ≡ false
-none-between i j = ⊎-elim (λ h. rw (lt-leb i j h)) (λ h. rw (le-ltb j (i + 0) (omega arith), B.and-false)) (lt-or-le j i)
-
-one-more : (f : ℕ → Bool) (i n j : ℕ)
-    → ((f i && eqb i j) || ((leb (suc i) j && ltb j (suc i + n)) && f j)) ≡ ((leb i j && ltb j (i + suc n)) && f j)
-one-more f i n j = go (compare-cases i j)
-  where
-    go : (i < j) ⊎ ((i ≡ j) ⊎ (j < i))
-        → ((f i && eqb i j) || ((leb (suc i) j && ltb j (suc i + n)) && f j)) ≡ ((leb i j && ltb j (i + suc n)) && f j)
-    go (inl l) =
-        rw (ne-eqb i j (λ e. omega arith), B.and-false, le-leb (suc i) j l, le-leb i j (omega arith))
-        (ap (λ (k : ℕ). ltb j k && f j) (omega arith))
-    go (inr (inl q)) =
-        rw (← q, eq-eqb i i refl, B.and-true, lt-leb (suc i) i (omega arith), le-leb i i (omega arith), lt-ltb i (i + suc n) (omega arith))
-        (B.or-false (f i))
-    go (inr (inr l)) = rw (ne-eqb i j (λ e. omega arith), B.and-false, lt-leb (suc i) j (omega arith), lt-leb i j l)
-
-having-bit : (low high rule follow : List ℕ) (last b i n j : ℕ)
-    → bit (having (held-from low high rule follow last i n) i b) j
-    ≡ ((leb i j && ltb j (i + n)) && between (getD low j 0) (getD high j 0) b)
-unfolding having held-from held-position has-byte
-having-bit low high rule follow last b i zero j = rw (bit-zero, none-between)
-having-bit low high rule follow last b i (suc n) j =
-    simp (bit-or, bit-one-if, having-bit low high rule follow last b (suc i) n j)
-    (one-more (λ k. between (getD low k 0) (getD high k 0) b) i n j)
-
+-- The positions whose class has a byte, of all that some columns hold.
 having-all : (low high rule follow : List ℕ) (last b n j : ℕ)
     → bit (having (held-from low high rule follow last 0 n) 0 b) j ≡ (ltb j n && between (getD low j 0) (getD high j 0) b)
-having-all low high rule follow last b n j = having-bit low high rule follow last b 0 n j ∙ rw (le-leb 0 j (omega arith), zero-add n)
+unfolding has-byte held-position
+having-all low high rule follow last b n j = having-at low high rule follow last b 0 n j ∙ rw (le-leb 0 j (omega arith), zero-add n)
 
 -- So a table that holds the edges becomes the class table by the sweep.
 pub swept-classes : (low high : List ℕ) (n : ℕ) (t t' : List ℕ) → Edges low high n t

@@ -1,38 +1,33 @@
 -- One byte by the class table and by sets: the positions that it keeps, their follow sets, and the rule that ends with it. How a set's
--- positions are met one after the other is said in stage4_lexer's WordWalkLaws.
+-- positions are met one after the other is said in stage4_lexer's SetWalkLaws.
 use mathlib.Core.Path.{_≡_, refl, sym, ap, _∙_}
 use mathlib.Core.Bool.{Bool, true, false, _&&_, _||_, cond}
 use mathlib.Core.Bool as B
 use mathlib.Core.List.{List, [], _∷_}
-use mathlib.Core.Option.{Option, none, some}
+use mathlib.Core.Option.{some}
 use Prim.Native.Nat.{ℕ, zero, suc, _+_, _^_, _≤_, _<_}
 use native.Mathlib.Omega.{arith}
 use lib.Dec.{eqb}
 use lib.ListN.{getD}
 use lib.Bits.{bitOr, bitAnd, or-zero-l}
-use borrow.Author.Tests.{ne-eqb, eqb-true}
+use borrow.Author.Tests.{eqb-true}
 use Rattle.stage0_laws.specs.Bits.{bit}
 use Rattle.stage0_laws.specs.BitLaws.{bit-or, bit-and, bit-one-if, bit-zero, bit-ext-all}
 use Rattle.stage4_lexer.specs.Positions.{Position}
 use Rattle.stage4_lexer.specs.Walk.{has-byte, keep, follows, ended}
-use Rattle.stage4_lexer.specs.WordWalk.{members, members-from, word-walk}
-use Rattle.stage4_lexer.specs.WordWalkLaws.{members-shorter, walk-meets-members}
-use Rattle.stage4_lexer.specs.PositionBounds.{NeverFalling}
+use Rattle.stage4_lexer.specs.SetWalk.{members, members-from, set-walk}
+use Rattle.stage4_lexer.specs.SetWalkLaws.{members-shorter, walk-meets-members}
 use Rattle.stage4_lexer.specs.LowestPosition.{first-ended, ended-first}
 use Rattle.stage4_lexer_columns.specs.Held.{held-position, held-from}
-use Rattle.stage4_lexer_classes.specs.ClassTable.{having, ClassTable}
+use Rattle.stage4_lexer_classes.specs.ClassTable.{having}
+use Rattle.stage4_lexer_classes.specs.ClassTableLaws.{having-first, having-above}
 use Rattle.stage4_lexer_scanner.specs.declared.AfterByte.{AfterByte}
 use Rattle.stage4_lexer_scanner.specs.Meaning.{rule-of, LeadsTo, Prepared}
 use Rattle.stage4_lexer_scanner.specs.Sets.{joined, first-entry}
 
 -- ---- the kept positions
 
-having-bit : (p : Position) (ps : List Position) (i b j : ℕ)
-    → bit (having (p ∷ ps) i b) j ≡ ((has-byte p b && eqb i j) || bit (having ps (suc i) b) j)
-unfolding having
-having-bit p ps i b j = simp (bit-or, bit-one-if)
-
--- One position's part: it is held where it is looked for.
+-- One position's part, where e says whether it is the one that is asked for: then the two places are one.
 same-place : (e held-i held-j has rest : Bool) → (e ≡ true → held-i ≡ held-j)
     → (((held-i && has) && e) || (held-j && rest)) ≡ (held-j && ((has && e) || rest))
 same-place true true true true rest f = refl
@@ -47,7 +42,7 @@ unfolding keep having
 keep-bit [] i held b j = rw (bit-zero j) (sym (B.and-false (bit held j)))
 keep-bit (p ∷ ps) i held b j =
     bit-or (cond (bit held i && has-byte p b) (2 ^ i) 0) (keep ps (suc i) held b) j
-    ∙ rw (bit-one-if (bit held i && has-byte p b) i j, keep-bit ps (suc i) held b j, having-bit p ps i b j)
+    ∙ rw (bit-one-if (bit held i && has-byte p b) i j, keep-bit ps (suc i) held b j, having-first p ps i b j)
     (same-place (eqb i j) (bit held i) (bit held j) (has-byte p b) (bit (having ps (suc i) b) j) (λ e. ap (bit held) (eqb-true i j e)))
 
 -- "one `and` gives the kept positions of a byte"
@@ -60,13 +55,6 @@ keep-and ps held b =
 module _ (low high rule follow : List ℕ) (last : ℕ) where
   abbrev column-positions : ℕ → ℕ → List Position
   column-positions i n = held-from low high rule follow last i n
-
-  having-high : (i n b j : ℕ) → i + n ≤ j → bit (having (column-positions i n) i b) j ≡ false
-  unfolding held-from having
-  having-high i zero b j h = bit-zero j
-  having-high i (suc n) b j h =
-      having-bit (held-position low high rule follow last i) (column-positions (suc i) n) i b j
-      ∙ rw (ne-eqb i j (λ e. omega arith), having-high (suc i) n b j (omega arith), B.and-false (has-byte (held-position low high rule follow last i) b))
 
   follows-members : (i n kept : ℕ) → joined follow (members-from kept i n) ≡ follows (column-positions i n) i kept
   unfolding held-from held-position follows joined members-from
@@ -105,7 +93,7 @@ module _ (low high rule follow : List ℕ) (last : ℕ) where
     -- No position from the count on is kept.
     kept-high : (held b j : ℕ) → 0 + count ≤ j → bit (keep all-positions 0 held b) j ≡ false
     kept-high held b j h =
-        keep-bit all-positions 0 held b j ∙ rw (having-high 0 count b j h) (B.and-false (bit held j))
+        keep-bit all-positions 0 held b j ∙ rw (having-above low high rule follow last b 0 count j h) (B.and-false (bit held j))
 
     pub follows-kept : (held b : ℕ) → joined follow (members (keep all-positions 0 held b)) ≡ follows all-positions 0 (keep all-positions 0 held b)
     unfolding members
@@ -124,7 +112,7 @@ module _ (low high rule follow : List ℕ) (last : ℕ) where
         ∙ sym (ended-first all-positions 0 (prepared .never-falling) 0 kept)
 
     pub leads-to : (held b kept : ℕ) (s : AfterByte) → b < 256 → kept ≡ bitAnd held (getD classes b 0) → kept < 2 ^ 64
-        → s .held ≡ joined follow (word-walk kept) → rule-of (s .ended) ≡ first-entry rule (members (bitAnd kept last))
+        → s .held ≡ joined follow (set-walk kept) → rule-of (s .ended) ≡ first-entry rule (members (bitAnd kept last))
         → LeadsTo all-positions held b s
     leads-to held b kept s h e l f g =
         let k : kept ≡ keep all-positions 0 held b = e ∙ kept-is held b h in

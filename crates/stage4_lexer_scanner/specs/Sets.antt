@@ -1,12 +1,15 @@
 -- What columns have at a list of positions: their sets together, and the first one's entry; and the match that a set of last positions
 -- stands for.
+use mathlib.Core.Bool.{cond}
 use mathlib.Core.List.{List, [], _∷_}
 use mathlib.Core.Option.{Option, none, some}
 use Prim.Native.Nat.{ℕ}
 use lib.Bits.{bitOr}
+use lib.Dec.{eqb}
 use lib.ListN.{getD}
 use Rattle.stage4_lexer.specs.Match.{Match, no-match, longer}
-use Rattle.stage4_lexer.specs.WordWalk.{members}
+use Rattle.stage4_lexer.specs.SetWalk.{members}
+use Rattle.stage4_lexer_scanner.specs.declared.EndedBy.{EndedBy}
 
 -- The sets of all positions of a list, together.
 unfoldable pub joined : List ℕ → List ℕ → ℕ
@@ -21,3 +24,7 @@ first-entry entries (i ∷ l) = some (getD entries i 0)
 -- The match that a set of last positions stands for, after so many bytes: the lowest position's rule; none by the empty set.
 unfoldable pub match-by : List ℕ → ℕ → ℕ → Match
 match-by rule ending n = longer (first-entry rule (members ending)) n no-match
+
+-- A set of last positions after so many bytes replaces an earlier match, the empty set leaves it.
+unfoldable pub latest-ended : ℕ → ℕ → EndedBy → EndedBy
+latest-ended ending n earlier = cond (eqb ending 0) earlier (record { ending = ending; length = n })

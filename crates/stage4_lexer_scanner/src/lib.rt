@@ -1,14 +1,13 @@
 // The scanner: the longest match at the front of a text, by a walk over positions held in columns. Sets of positions are words.
 // Which place of a text the front starts at, and what a match leads to, is not asked here.
 ghost use mathlib.Core.Path.{_≡_};
-ghost use mathlib.Core.List.{List, _∷_};
-ghost use Prim.Native.Nat.{ℕ, _≤_, _<_};
-ghost use Rattle.stage4_lexer.specs.Match.{longer};
+ghost use mathlib.Core.List.{_∷_};
+ghost use Prim.Native.Nat.{_≤_, _<_};
 ghost use Rattle.stage4_lexer.specs.Walk.{longest-match};
-ghost use Rattle.stage4_lexer.specs.WordWalk.{members, word-walk};
+ghost use Rattle.stage4_lexer.specs.SetWalk.{members, set-walk};
 ghost use Rattle.stage4_lexer_columns.specs.Held.{held-from};
 ghost use Rattle.stage4_lexer_scanner.specs.Meaning.{match-of, rule-of, LeadsTo, Prepared};
-ghost use Rattle.stage4_lexer_scanner.specs.Sets.{joined, first-entry, match-by};
+ghost use Rattle.stage4_lexer_scanner.specs.Sets.{joined, first-entry, match-by, latest-ended};
 
 // The longest match: the lowest rule that has it, and its length.
 pub enum Found {
@@ -47,7 +46,7 @@ fn lowest_first(set: u64) -> Step
 
 // The follow sets of the kept positions, together, as the walk meets them: from the lowest position to the next, until none is left.
 fn follow_sets(kept: u64, follow: &[u64; 64]) -> u64
-    ensures { λ r. ⌜ r ≡ joined (now (follow .entry)) (word-walk kept) ⌝ }
+    ensures { λ r. ⌜ r ≡ joined (now (follow .entry)) (set-walk kept) ⌝ }
 {
     let mut next: u64 = 0;
     let mut left = kept;
@@ -72,8 +71,8 @@ fn lowest_rule(ending: u64, rule: &[u8; 64]) -> Ended
     Ended::Lowest(rule[i])
 }
 
-// What a byte leads to: the class table gives the kept positions by one `and`, and only these are walked. The columns `low` and `high`
-// are what the table was filled from.
+// What a byte leads to: the class table gives the kept positions by one `and`, and only these are walked. `count`, `low` and `high` are not
+// read: the promise speaks of them, since the table was filled from them.
 fn after_byte<'a>(
     byte: u8,
     held: u64,
@@ -96,21 +95,20 @@ fn after_byte<'a>(
     AfterByte { held: next, ended }
 }
 
-// The longest match so far: the positions that are last where it ends, none where there is no match, and its length.
-struct Longest {
+// A match, by the last positions that end it, none where there is no match, and its length.
+struct EndedBy {
     ending: u64,
     length: usize,
 }
 
-// Last positions that are kept after so many bytes replace what was found before them; where there are none, it stays.
-fn longer_set(ending: u64, n: usize, earlier: Longest) -> Longest
-    ensures { λ r. ⌜ ((rule : List ℕ) → match-by rule (r .ending) (r .length)
-        ≡ longer (first-entry rule (members ending)) n (match-by rule (earlier .ending) (earlier .length))) ⌝ }
+// Last positions that are kept after so many bytes replace an earlier match; where there are none, it stays.
+fn latest(ending: u64, n: usize, earlier: EndedBy) -> EndedBy
+    ensures { λ r. ⌜ r ≡ latest-ended ending n «earlier» ⌝ }
 {
     if ending == 0 {
         return earlier;
     }
-    Longest { ending, length: n }
+    EndedBy { ending, length: n }
 }
 
 // The match that last positions stand for.
@@ -124,10 +122,10 @@ fn found_match(ending: u64, length: usize, rule: &[u8; 64]) -> Found
     }
 }
 
-// The longest match at the front of a text. Where a byte keeps the same positions as the byte before it, the same are held after it, and
-// nothing is walked. A match is noted as a set of positions, and only where others are kept than before: its rule is looked up once, after
-// the walk, and the one that `after_byte` tells is not asked for. The walk ends early where a byte keeps no position; nearly always the
-// positions kept last end the match, which is answered at once, without a choice between two lengths to wait for.
+// The longest match at the front of a text. The first byte has none before it. From then on, where a byte keeps the same positions as the
+// byte before it, the same are held after it, and nothing is walked. Where it keeps others, a match that ended before it is noted as a set; the
+// rule is looked up once, after the walk, and the one that `after_byte` tells is not used. The walk ends where a byte keeps no position.
+// If those kept last end a match, that is the longest, otherwise the one noted is.
 pub fn longest_match<'a>(
     text: &'a [u8],
     count: usize,
@@ -148,21 +146,29 @@ pub fn longest_match<'a>(
         first
         (now (text .entry)) ⌝ }
 {
-    let mut held = first;
-    let mut kept: u64 = 0;
-    let mut earlier = Longest {
+    if text.len() < 1 {
+        return Found::Nothing;
+    }
+    let front = text[0];
+    let mut kept = first & classes[front as usize];
+    if kept == 0 {
+        return Found::Nothing;
+    }
+    let begun = after_byte(front, first, count, low, high, rule, follow, last, classes);
+    let mut held = begun.held;
+    let mut earlier = EndedBy {
         ending: 0,
         length: 0,
     };
-    let mut n: usize = 0;
+    let mut n: usize = 1;
     while n < text.len() {
         let byte = text[n];
         let next = held & classes[byte as usize];
-        if next == 0 {
-            break;
-        }
         if next != kept {
-            earlier = longer_set(kept & last, n, earlier);
+            if next == 0 {
+                break;
+            }
+            earlier = latest(kept & last, n, earlier);
             let after = after_byte(byte, held, count, low, high, rule, follow, last, classes);
             held = after.held;
             kept = next;

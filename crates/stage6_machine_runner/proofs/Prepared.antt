@@ -1,6 +1,6 @@
 -- What the scanner relies on, for tables that hold a readable image: the bytes of each class stand in order, and rules never fall.
-use mathlib.Core.Path.{_≡_, sym, ap, subst, _∙_}
-use mathlib.Core.List.{List, [], _∷_}
+use mathlib.Core.Path.{sym, subst}
+use mathlib.Core.List.{List}
 use mathlib.Core.Logic.{⊎-elim}
 use Prim.Native.Nat.{ℕ, zero, suc, _+_, _≤_, _<_}
 use native.Mathlib.Omega.{arith}
@@ -13,7 +13,7 @@ use Rattle.stage4_lexer_columns.specs.Held.{held-position, held-from, held-posi
 use Rattle.stage4_lexer_classes.specs.ClassTable.{ClassTable}
 use Rattle.stage4_lexer_scanner.specs.Meaning.{Prepared}
 use Rattle.stage5_image.specs.Image.{Image}
-use Rattle.stage5_image.specs.ImageRanges.{InRange, PositionInRange}
+use Rattle.stage5_image.specs.ImageRanges.{InRange}
 use Rattle.stage5_image_reader.specs.Decoded.{Decoded}
 use Rattle.stage5_image_reader.specs.declared.ImageTables.{ImageTables}
 

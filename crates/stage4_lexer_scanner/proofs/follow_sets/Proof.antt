@@ -1,28 +1,24 @@
--- `stage4_lexer_scanner::follow_sets` meets its contract. The loop's invariant: what was joined so far, with the follow sets of the
--- positions that are left, is the whole. Its measure: the ones left.
-use mathlib.Core.Path.{_≡_, refl, sym, ap, _∙_}
-use mathlib.Core.List.{List, _∷_}
+-- `stage4_lexer_scanner::follow_sets` meets its contract. The loop's invariant: the positions met so far and those of the set that is left are
+-- the ones that the walk meets, and their follow sets were joined. Its measure: the ones left.
+use mathlib.Core.Path.{ap}
+use mathlib.Core.List.{List}
 use Prim.Native.Nat.{ℕ, _<_, _^_}
 use native.Mathlib.Omega.{arith}
-use lib.Bits.{bitOr, or-zero-l, or-zero-r}
 use lib.Count.{ones}
-use lib.ListN.{length, getD}
-use denote.Ref.{now}
-use Rattle.stage0_laws.specs.BitLaws.{or-assoc}
-use Rattle.stage4_lexer.specs.WordWalk.{members}
-use Rattle.stage4_lexer.specs.WordWalkLaws.{members-zero, ones-members, first-member-below, walk-meets-members}
-use Rattle.stage4_lexer_scanner.specs.Sets.{joined}
+use lib.ListN.{length}
+use Rattle.stage4_lexer.specs.SetWalkLaws.{ones-members, first-member-below}
+use Rattle.stage4_lexer_scanner.proofs.Walked.{Walked, walked-start, walked-step, walked-end}
 use Rattle.stage4_lexer_scanner.proofs.follow_sets.Statement.{statement}
 use Rattle.stage4_lexer_scanner.proofs.follow_sets.Tie as tie
 
 abbrev Inv-loop : tie.InvT-loop
-Inv-loop kept follow next₀ left₀ next left = (left < 2 ^ 64) × (bitOr next (joined follow (members left)) ≡ joined follow (members kept))
+Inv-loop kept follow next₀ left₀ next left = (left < 2 ^ 64) × Walked follow kept left next
 
 abbrev μ-loop : tie.MeasureT-loop
 μ-loop kept follow next₀ left₀ next left = ones left
 
 loop-holds : tie.Need-loop-holds Inv-loop μ-loop
-loop-holds c = (omega arith, or-zero-l _)
+loop-holds c = (omega arith, walked-start _ _ (omega arith))
 
 lowest-first-requires : tie.Need-lowest-first-requires Inv-loop μ-loop
 lowest-first-requires c κs = omega arith
@@ -45,26 +41,14 @@ loop-less c =
     )
 
 loop-again : tie.Need-loop-again Inv-loop μ-loop
-unfolding joined
 loop-again c =
     let l = c .before .before .before .loop in
-    let f = now (c .before .before .before .before .args .follow) in
-    let step = c .before .lowest-first .result in (
-      omega arith,
-      or-assoc (l .next) (getD f (step .position) 0) (joined f (members (step .others)))
-          ∙ ap (λ (x : List ℕ). bitOr (l .next) (joined f x)) (sym (c .before .lowest-first .ensures))
-          ∙ l .inv .1,
-    )
+    (omega arith, walked-step _ _ (l .left) (l .next) _ _ (c .before .lowest-first .ensures) (l .inv .1))
 
 returns : tie.Need-returns Inv-loop μ-loop
-unfolding joined
 returns c =
     let l = c .before .loop in
-    let f = now (c .before .before .args .follow) in
-    sym (or-zero-r (l .next))
-    ∙ ap (bitOr (l .next)) (sym (ap (λ (s : ℕ). joined f (members s)) (c .loop-test .left) ∙ ap (joined f) members-zero))
-    ∙ l .inv .1
-    ∙ ap (joined f) (sym (walk-meets-members (c .before .before .args .kept) (omega arith)))
+    walked-end _ _ (l .left) (l .next) (c .loop-test .left) (l .inv .1)
 
 pub follow-sets-spec : {M : Type 1} → statement M
 follow-sets-spec =

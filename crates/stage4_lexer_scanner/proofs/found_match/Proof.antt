@@ -1,9 +1,7 @@
 -- `stage4_lexer_scanner::found_match` meets its contract.
 use borrow.Author.Needs.{needs}
-use mathlib.Core.Path.{_≡_, sym, ap, _∙_}
-use mathlib.Core.Option.{Option}
-use Prim.Native.Nat.{ℕ}
-use Rattle.stage4_lexer.specs.Match.{no-match, longer}
+use mathlib.Core.Path.{sym, ap, _∙_}
+use Rattle.stage4_lexer.specs.Match.{longer}
 use Rattle.stage4_lexer_scanner.specs.Meaning.{match-of, rule-of}
 use Rattle.stage4_lexer_scanner.specs.Sets.{match-by}
 use Rattle.stage4_lexer_scanner.proofs.found_match.Statement.{statement}

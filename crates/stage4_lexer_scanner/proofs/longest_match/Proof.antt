@@ -1,92 +1,119 @@
 -- `stage4_lexer_scanner::longest_match` meets its contract. The loop's invariant: the walk over the rest of the text, from the held set and the
 -- match so far, gives the longest match of the whole text; and what is held follows from the positions kept by the byte before.
 use mathlib.Core.Path.{_≡_, refl, sym, ap, _∙_}
-use mathlib.Core.Logic.{_⊎_, inl, inr, ⊎-elim}
+use mathlib.Core.List.{List}
+use mathlib.Core.Logic.{⊎-elim}
 use mathlib.Core.Option.{Option}
 use Prim.Native.Nat.{ℕ, _+_, _-_, _^_, _≤_, _<_}
 use native.Mathlib.Omega.{arith}
 use lib.Bits.{bitAnd, and-le-r}
 use lib.ListN.{length, drop, getD}
 use denote.Ref.{now}
-use Rattle.stage4_lexer.specs.Match.{Match, longer}
+use Rattle.stage4_lexer.specs.Match.{longer}
+use Rattle.stage4_lexer.specs.Positions.{Position}
+use Rattle.stage4_lexer.specs.SetWalk.{members}
 use Rattle.stage4_lexer.specs.Walk.{keep, follows, ended, walk, longest-match}
-use Rattle.stage4_lexer.specs.WordWalk.{members}
 use Rattle.stage4_lexer_columns.specs.Held.{held-from}
+use Rattle.stage4_lexer_scanner.specs.Meaning.{match-of}
 use Rattle.stage4_lexer_scanner.specs.Sets.{first-entry, match-by}
 use Rattle.stage4_lexer_scanner.proofs.Byte.{kept-is, ended-kept}
-use Rattle.stage4_lexer_scanner.proofs.Text.{match-new, match-old, longer-again, so-far, walk-start, walk-turn, walk-stops, walk-end}
+use Rattle.stage4_lexer_scanner.proofs.Text.{match-new, match-old, match-latest, longer-again, so-far}
+use Rattle.stage4_lexer_scanner.proofs.Text.{walk-start, walk-begun, walk-turn, walk-stops, walk-end}
 use Rattle.stage4_lexer_scanner.proofs.longest_match.Statement.{statement}
 use Rattle.stage4_lexer_scanner.proofs.longest_match.Tie as tie
 
 abbrev Inv-loop : tie.InvT-loop
-Inv-loop text count low high rule follow last first classes held₀ kept₀ earlier₀ n₀ held kept earlier n =
+Inv-loop text count low high rule follow last first classes front kept₀ held₀ earlier₀ n₀ kept held earlier n =
     let ps = held-from low high rule follow last 0 count in
     (n ≤ length text) × (walk ps held (drop n text) n (so-far rule last kept n earlier) ≡ longest-match ps first text)
-    × ((kept ≡ 0) ⊎ (held ≡ follows ps 0 kept))
+    × (held ≡ follows ps 0 kept)
 
 abbrev μ-loop : tie.MeasureT-loop
-μ-loop text count low high rule follow last first classes held₀ kept₀ earlier₀ n₀ held kept earlier n = length text - n
+μ-loop text count low high rule follow last first classes front kept₀ held₀ earlier₀ n₀ kept held earlier n = length text - n
 
--- What the byte keeps, and what is held after it.
-step-here : (c : tie.Joined2 Inv-loop μ-loop)
-    → let l = c .before .before .before .before .before .loop in
-    let a = c .before .before .before .before .before .before .before .args in
-    let ps = held-from (now (a .low)) (now (a .high)) (now (a .rule)) (now (a .follow)) (a .last) 0 (a .count) in
-    (c .if2 .kept ≡ keep ps 0 (l .held) (getD (now (a .text)) (l .n) 0)) × (c .if2 .held ≡ follows ps 0 (c .if2 .kept))
-step-here c =
-    let l = c .before .before .before .before .before .loop in
-    let start = c .before .before .before .before .before .before .before in
-    let a = start .args in
-    let ps = held-from (now (a .low)) (now (a .high)) (now (a .rule)) (now (a .follow)) (a .last) 0 (a .count) in
-    let next = kept-is (now (a .low)) (now (a .high)) (now (a .rule)) (now (a .follow)) (a .last) (a .count) (start .pre .0)
-    (now (a .classes)) (start .pre .1) (l .held) (getD (now (a .text)) (l .n) 0) (c .before .before .before .shared-slice-known2 .given (l .n) .fits) in
-    ⊎-elim
-    (λ w. let k = w .4 ∙ next in (k, w .3 ∙ w .2 .ensures .next-held ∙ ap (follows ps 0) (sym k)))
-    (λ w. (
-      w .2 ∙ sym (w .0 .left) ∙ next,
-      ⊎-elim (λ z. absurd (c .before .if1 .left (w .0 .left ∙ z))) (λ e. w .1 ∙ e ∙ ap (follows ps 0) (sym (w .2))) (l .inv .2),
-    ))
-    (c .if2 .came)
+-- ---- the columns' own positions
 
--- The match so far, with the byte's.
-match-here : (c : tie.Joined2 Inv-loop μ-loop)
-    → let l = c .before .before .before .before .before .loop in
-    let a = c .before .before .before .before .before .before .before .args in
-    so-far (now (a .rule)) (a .last) (c .if2 .kept) (l .n + 1) (c .if2 .earlier)
-    ≡ longer (first-entry (now (a .rule)) (members (bitAnd (c .if2 .kept) (a .last)))) (l .n + 1)
-    (so-far (now (a .rule)) (a .last) (l .kept) (l .n) (l .earlier))
-match-here c =
-    let l = c .before .before .before .before .before .loop in
-    let a = c .before .before .before .before .before .before .before .args in
-    let rule = now (a .rule) in
-    let rule-here = first-entry rule (members (bitAnd (c .if2 .kept) (a .last))) in
-    ⊎-elim
-    (λ w. ap (so-far rule (a .last) (c .if2 .kept) (l .n + 1)) (w .5) ∙ ap (longer rule-here (l .n + 1)) (w .1 .ensures rule))
-    (λ w. ap (so-far rule (a .last) (c .if2 .kept) (l .n + 1)) (w .3)
-    ∙ longer-again rule-here (l .n) (l .n + 1) (match-by rule (l .earlier .ending) (l .earlier .length))
-    ∙ ap (λ (x : ℕ). longer rule-here (l .n + 1) (so-far rule (a .last) x (l .n) (l .earlier))) (w .2))
-    (c .if2 .came)
+abbrev own : tie.Start Inv-loop μ-loop → List Position
+own s = let a = s .args in held-from (now (a .low)) (now (a .high)) (now (a .rule)) (now (a .follow)) (a .last) 0 (a .count)
+
+own-kept : (s : tie.Start Inv-loop μ-loop) (held b : ℕ) → b < 256
+    → bitAnd held (getD (now (s .args .classes)) b 0) ≡ keep (own s) 0 held b
+own-kept s = kept-is _ _ _ _ _ _ (s .pre .0) _ (s .pre .1)
+
+-- The rule that ends with a byte, by the positions that it keeps.
+own-ended : (s : tie.Start Inv-loop μ-loop) (held b kept : ℕ) → kept ≡ keep (own s) 0 held b
+    → first-entry (now (s .args .rule)) (members (bitAnd kept (s .args .last))) ≡ ended (own s) 0 kept
+own-ended s held b kept e =
+    ap (λ (x : ℕ). first-entry (now (s .args .rule)) (members (bitAnd x (s .args .last)))) e
+    ∙ ended-kept _ _ _ _ _ _ (s .pre .0) _ (s .pre .1) held b
+    ∙ ap (ended (own s) 0) (sym e)
+
+-- ---- before the loop
+
+returns : tie.Need-returns Inv-loop μ-loop
+unfolding match-of
+returns c =
+    let s = c .before .before in
+    walk-end (own s) (now (s .args .text)) (s .args .first) 0 _ (omega arith) ∙ walk-start (own s) (now (s .args .text)) (s .args .first)
+
+shared-slice-read-front : tie.Need-shared-slice-read-front Inv-loop μ-loop
+shared-slice-read-front c = omega arith
+
+cast-kept : tie.Need-cast-kept Inv-loop μ-loop
+cast-kept c = omega (arith, c .shared-slice-known2 .given 0)
+
+mul-kept : tie.Need-mul-kept Inv-loop μ-loop
+mul-kept c = omega (arith, c .shared-slice-known2 .given 0)
+
+element-copy-out-kept : tie.Need-element-copy-out-kept Inv-loop μ-loop
+element-copy-out-kept c = c .shared-slice-known2 .given 0 .fits
+
+returns-2 : tie.Need-returns-2 Inv-loop μ-loop
+unfolding match-of
+returns-2 c =
+    let known = c .before .before in
+    let s = known .before .before .before in
+    let kept = own-kept s (s .args .first) _ (known .shared-slice-known2 .given 0 .fits) in
+    walk-stops (own s) (now (s .args .text)) (s .args .first) 0 _ (omega arith) (sym kept ∙ c .if2 .taken)
+    ∙ walk-start (own s) (now (s .args .text)) (s .args .first)
+
+after-byte-requires : tie.Need-after-byte-requires Inv-loop μ-loop
+after-byte-requires c κs = c .before .before .before .before .before .pre
 
 loop-holds : tie.Need-loop-holds Inv-loop μ-loop
-loop-holds c = (omega arith, walk-start _ _ _ _ _ refl, inl refl)
+loop-holds c =
+    let known = c .before .before .before in
+    let s = known .before .before .before in
+    let a = s .args in
+    let b = getD (now (a .text)) 0 0 in
+    let kept = own-kept s (a .first) b (known .shared-slice-known2 .given 0 .fits) in
+    let next = c .after-byte .ensures .next-held ∙ ap (follows (own s) 0) (sym kept) in (
+      omega arith,
+      walk-begun (own s) (now (a .rule)) (now (a .text)) (a .first) _ _ (a .last) (omega arith) kept next (own-ended s (a .first) b _ kept),
+      next,
+    )
+
+-- ---- a turn
 
 shared-slice-read-byte : tie.Need-shared-slice-read-byte Inv-loop μ-loop
 shared-slice-read-byte c = omega arith
 
 cast-next : tie.Need-cast-next Inv-loop μ-loop
-cast-next c = omega (arith, c .shared-slice-known2 .given (c .before .before .loop .n))
+cast-next c = omega (arith, c .shared-slice-known3 .given (c .before .before .loop .n))
 
 mul-next : tie.Need-mul-next Inv-loop μ-loop
-mul-next c = omega (arith, c .shared-slice-known2 .given (c .before .before .loop .n))
+mul-next c = omega (arith, c .shared-slice-known3 .given (c .before .before .loop .n))
 
 element-copy-out-next : tie.Need-element-copy-out-next Inv-loop μ-loop
-element-copy-out-next c = c .shared-slice-known2 .given (c .before .before .loop .n) .fits
+element-copy-out-next c = c .shared-slice-known3 .given (c .before .before .loop .n) .fits
 
-longer-set-requires : tie.Need-longer-set-requires Inv-loop μ-loop
-longer-set-requires c κs = tt
+latest-requires : tie.Need-latest-requires Inv-loop μ-loop
+latest-requires c κs = tt
 
-after-byte-requires : tie.Need-after-byte-requires Inv-loop μ-loop
-after-byte-requires c κs = c .before .before .before .before .before .before .before .before .pre
+after-byte-requires-2 : tie.Need-after-byte-requires-2 Inv-loop μ-loop
+after-byte-requires-2 c κs =
+    let head = c .before .before .before .before .before .before in
+    head .before .before .before .before .before .before .before .pre
 
 add-n : tie.Need-add-n Inv-loop μ-loop
 add-n c = omega arith
@@ -94,63 +121,96 @@ add-n c = omega arith
 loop-less : tie.Need-loop-less Inv-loop μ-loop
 loop-less c = omega arith
 
+-- What the byte keeps, and what is held after it.
+step-here : (c : tie.Joined3 Inv-loop μ-loop)
+    → let head = c .before .before .before .before in
+    let s = head .before .before .before .before .before .before .before in
+    (c .if3 .kept ≡ keep (own s) 0 (head .loop .held) (getD (now (s .args .text)) (head .loop .n) 0))
+    × (c .if3 .held ≡ follows (own s) 0 (c .if3 .kept))
+step-here c =
+    let head = c .before .before .before .before in
+    let s = head .before .before .before .before .before .before .before in
+    let next = own-kept s (head .loop .held) _ (c .before .before .shared-slice-known3 .given (head .loop .n) .fits) in
+    ⊎-elim
+    (λ w. let k = w .4 ∙ next in (k, w .5 ∙ w .3 .ensures .next-held ∙ ap (follows (own s) 0) (sym k)))
+    (λ w. (w .1 ∙ sym (w .0 .left) ∙ next, w .2 ∙ head .loop .inv .2 ∙ ap (follows (own s) 0) (sym (w .1))))
+    (c .if3 .came)
+
+-- The match so far, with the byte's.
+match-here : (c : tie.Joined3 Inv-loop μ-loop)
+    → let head = c .before .before .before .before in
+    let l = head .loop in
+    let a = head .before .before .before .before .before .before .before .args in
+    so-far (now (a .rule)) (a .last) (c .if3 .kept) (l .n + 1) (c .if3 .earlier)
+    ≡ longer (first-entry (now (a .rule)) (members (bitAnd (c .if3 .kept) (a .last)))) (l .n + 1)
+    (so-far (now (a .rule)) (a .last) (l .kept) (l .n) (l .earlier))
+match-here c =
+    let head = c .before .before .before .before in
+    let l = head .loop in
+    let a = head .before .before .before .before .before .before .before .args in
+    let rule = now (a .rule) in
+    let rule-here = first-entry rule (members (bitAnd (c .if3 .kept) (a .last))) in
+    let small : bitAnd (l .kept) (a .last) < 2 ^ 64 = omega (arith, and-le-r (l .kept) (a .last)) in
+    ⊎-elim
+    (λ w. ap (so-far rule (a .last) (c .if3 .kept) (l .n + 1)) (w .6 ∙ w .2 .ensures)
+    ∙ ap (longer rule-here (l .n + 1)) (match-latest rule (bitAnd (l .kept) (a .last)) (l .n) (l .earlier) small))
+    (λ w. ap (so-far rule (a .last) (c .if3 .kept) (l .n + 1)) (w .3)
+    ∙ longer-again rule-here (l .n) (l .n + 1) (match-by rule (l .earlier .ending) (l .earlier .length))
+    ∙ ap (λ (x : ℕ). longer rule-here (l .n + 1) (so-far rule (a .last) x (l .n) (l .earlier))) (w .1))
+    (c .if3 .came)
+
 loop-again : tie.Need-loop-again Inv-loop μ-loop
 loop-again c =
-    let l = c .before .before .before .before .before .loop in
-    let start = c .before .before .before .before .before .before .before in
-    let a = start .args in
-    let ps = held-from (now (a .low)) (now (a .high)) (now (a .rule)) (now (a .follow)) (a .last) 0 (a .count) in
-    let k = step-here c .0 in
-    let old = so-far (now (a .rule)) (a .last) (l .kept) (l .n) (l .earlier) in
-    let more : l .n < length (now (a .text)) = c .before .before .before .before .loop-test .taken in
-    let rules = ap (λ (x : ℕ). first-entry (now (a .rule)) (members (bitAnd x (a .last)))) k
-    ∙ ended-kept (now (a .low)) (now (a .high)) (now (a .rule)) (now (a .follow)) (a .last) (a .count) (start .pre .0) (now (a .classes))
-    (start .pre .1) (l .held) (getD (now (a .text)) (l .n) 0)
-    ∙ ap (ended ps 0) (sym k) in (
+    let head = c .before .before .before .before in
+    let l = head .loop in
+    let s = head .before .before .before .before .before .before .before in
+    let old = so-far (now (s .args .rule)) (s .args .last) (l .kept) (l .n) (l .earlier) in
+    let more : l .n < length (now (s .args .text)) = c .before .before .before .loop-test .taken in
+    let k = step-here c .0 in (
       omega arith,
-      walk-turn ps (now (a .rule)) (now (a .text)) (l .held) (l .n) (c .if2 .kept) (c .if2 .held) old _ more k (step-here c .1)
-          (match-here c ∙ ap (λ (o : Option ℕ). longer o (l .n + 1) old) rules)
+      walk-turn (own s) (now (s .args .text)) (l .held) (l .n) (c .if3 .kept) (c .if3 .held) old _ more k (step-here c .1)
+          (match-here c ∙ ap (λ (o : Option ℕ). longer o (l .n + 1) old) (own-ended s (l .held) _ (c .if3 .kept) k))
           ∙ l .inv .1,
-      inr (step-here c .1),
+      step-here c .1,
     )
+
+-- ---- after the loop
 
 -- The walk has come to its end: the text's, or a byte that keeps nothing.
 ended-here : (c : tie.Left-loop Inv-loop μ-loop)
     → let l = c .before .loop in
-    let a = c .before .before .before .args in
-    let ps = held-from (now (a .low)) (now (a .high)) (now (a .rule)) (now (a .follow)) (a .last) 0 (a .count) in
-    so-far (now (a .rule)) (a .last) (l .kept) (l .n) (l .earlier) ≡ longest-match ps (a .first) (now (a .text))
+    let s = c .before .before .before .before .before .before .before .before in
+    so-far (now (s .args .rule)) (s .args .last) (l .kept) (l .n) (l .earlier) ≡ longest-match (own s) (s .args .first) (now (s .args .text))
 ended-here c =
     let l = c .before .loop in
-    let start = c .before .before .before in
-    let a = start .args in
-    let ps = held-from (now (a .low)) (now (a .high)) (now (a .rule)) (now (a .follow)) (a .last) 0 (a .count) in
-    let m = so-far (now (a .rule)) (a .last) (l .kept) (l .n) (l .earlier) in
+    let s = c .before .before .before .before .before .before .before .before in
+    let m = so-far (now (s .args .rule)) (s .args .last) (l .kept) (l .n) (l .earlier) in
     ⊎-elim
-    (λ w. walk-end ps (now (a .rule)) (now (a .text)) (l .held) (l .n) m (w .left))
-    (λ w. walk-stops ps (now (a .rule)) (now (a .text)) (l .held) (l .n) m (w .0 .taken)
-    (sym (kept-is (now (a .low)) (now (a .high)) (now (a .rule)) (now (a .follow)) (a .last) (a .count) (start .pre .0)
-    (now (a .classes)) (start .pre .1) (l .held) _ (w .1 .given (l .n) .fits)) ∙ w .3 .taken))
+    (λ w. walk-end (own s) (now (s .args .text)) (l .held) (l .n) m (w .left))
+    (λ w. walk-stops (own s) (now (s .args .text)) (l .held) (l .n) m (w .0 .taken)
+    (sym (own-kept s (l .held) _ (w .1 .given (l .n) .fits)) ∙ w .4 .taken))
     (c .loop-test .came)
     ∙ l .inv .1
 
 found-match-requires : tie.Need-found-match-requires Inv-loop μ-loop
 found-match-requires c κs = tt
 
-returns : tie.Need-returns Inv-loop μ-loop
-returns c =
-    let a = c .before .before .before .before .before .args in
-    let set = bitAnd (c .before .before .before .loop .kept) (a .last) in
-    let small : set < 2 ^ 64 = omega (arith, and-le-r (c .before .before .before .loop .kept) (a .last)) in
-    c .found-match .ensures ∙ match-new (now (a .rule)) set _ _ (c .before .if3 .taken) small ∙ ended-here (c .before .before)
+returns-3 : tie.Need-returns-3 Inv-loop μ-loop
+returns-3 c =
+    let left = c .before .before in
+    let a = left .before .before .before .before .before .before .before .before .args in
+    let set = bitAnd (left .before .loop .kept) (a .last) in
+    let small : set < 2 ^ 64 = omega (arith, and-le-r (left .before .loop .kept) (a .last)) in
+    c .found-match .ensures ∙ match-new (now (a .rule)) set _ _ (c .before .if5 .taken) small ∙ ended-here left
 
 found-match-requires-2 : tie.Need-found-match-requires-2 Inv-loop μ-loop
 found-match-requires-2 c κs = tt
 
-returns-2 : tie.Need-returns-2 Inv-loop μ-loop
-returns-2 c =
-    let a = c .before .before .before .before .before .args in
-    c .found-match2 .ensures ∙ match-old (now (a .rule)) _ _ _ (c .before .if3 .left) ∙ ended-here (c .before .before)
+returns-4 : tie.Need-returns-4 Inv-loop μ-loop
+returns-4 c =
+    let left = c .before .before in
+    let a = left .before .before .before .before .before .before .before .before .args in
+    c .found-match2 .ensures ∙ match-old (now (a .rule)) _ _ _ (c .before .if5 .left) ∙ ended-here left
 
 pub longest-match-spec : {M : Type 1} → statement M
 longest-match-spec =
@@ -158,17 +218,24 @@ longest-match-spec =
     (tie.spec
     Inv-loop
     μ-loop
+    returns
+    shared-slice-read-front
+    cast-kept
+    mul-kept
+    element-copy-out-kept
+    returns-2
+    after-byte-requires
     loop-holds
     shared-slice-read-byte
     cast-next
     mul-next
     element-copy-out-next
-    longer-set-requires
-    after-byte-requires
+    latest-requires
+    after-byte-requires-2
     add-n
     loop-less
     loop-again
     found-match-requires
-    returns
+    returns-3
     found-match-requires-2
-    returns-2)
+    returns-4)

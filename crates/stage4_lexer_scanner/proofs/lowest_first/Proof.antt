@@ -1,8 +1,9 @@
--- `stage4_lexer_scanner::lowest_first` meets its contract: trailing zeros tell the first member of the rising list.
+-- `stage4_lexer_scanner::lowest_first` meets its contract: trailing zeros tell the first member of the rising list. This fact stands before
+-- what the operations ask for, so that a step which takes another member is refused at it.
 use borrow.Author.Needs.{needs}
 use native.Mathlib.Omega.{arith}
 use lib.Count.{trailing-le}
-use Rattle.stage4_lexer.specs.WordWalkLaws.{members-step}
+use Rattle.stage4_lexer.specs.SetWalkLaws.{members-step}
 use Rattle.stage4_lexer_scanner.proofs.lowest_first.Statement.{statement}
 use Rattle.stage4_lexer_scanner.proofs.lowest_first.Tie as tie
 

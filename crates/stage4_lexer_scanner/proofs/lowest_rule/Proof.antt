@@ -1,6 +1,6 @@
 -- `stage4_lexer_scanner::lowest_rule` meets its contract.
 use borrow.Author.Needs.{needs}
-use Rattle.stage4_lexer.specs.WordWalkLaws.{members-zero, first-member-below}
+use Rattle.stage4_lexer.specs.SetWalkLaws.{members-zero, first-member-below}
 use Rattle.stage4_lexer_scanner.specs.Meaning.{rule-of}
 use Rattle.stage4_lexer_scanner.specs.Sets.{first-entry}
 use Rattle.stage4_lexer_scanner.proofs.lowest_rule.Statement.{statement}

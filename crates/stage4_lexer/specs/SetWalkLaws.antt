@@ -13,18 +13,18 @@ use lib.ListN.{length}
 use borrow.Author.Tests.{eq-eqb, ne-eqb, eqb-true, eqb-false}
 use Rattle.stage0_laws.specs.Bits.{bit, _∈_}
 use Rattle.stage0_laws.specs.BitLaws.{bit-zero, bit-high}
-use Rattle.stage0_laws.specs.LowestMember.{Lowest, lowest, lowest-in, lowest-least, bit-cleared, ones-cleared}
+use Rattle.stage0_laws.specs.LowestMember.{lowest, lowest-in, lowest-least, bit-cleared, ones-cleared}
 use Rattle.stage0_laws.specs.Order.{compare-cases, lt-or-le}
-use Rattle.stage4_lexer.specs.WordWalk.{steps, word-walk, members-from, members, Rises, MeetsEach}
+use Rattle.stage4_lexer.specs.SetWalk.{steps, set-walk, members-from, members, Rises, MeetsEach}
 
 -- ---- the rising list
 
 -- One place more, by whether it is a member.
-pub members-in : (s i n : ℕ) → i ∈ s → members-from s i (suc n) ≡ i ∷ members-from s (suc i) n
+members-in : (s i n : ℕ) → i ∈ s → members-from s i (suc n) ≡ i ∷ members-from s (suc i) n
 unfolding members-from
 members-in s i n e = rw e
 
-pub members-out : (s i n : ℕ) → bit s i ≡ false → members-from s i (suc n) ≡ members-from s (suc i) n
+members-out : (s i n : ℕ) → bit s i ≡ false → members-from s i (suc n) ≡ members-from s (suc i) n
 unfolding members-from
 members-out s i n e = rw e
 
@@ -34,7 +34,7 @@ unfolding members-from
 members-same s u i zero f = refl
 members-same s u i (suc n) f = rw (f i (omega arith), members-same s u (suc i) n (λ j l. f j (omega arith)))
 
--- Where no member lies within the n places.
+-- Where no member lies from i on.
 members-none : (s i n : ℕ) → ((j : ℕ) → i ≤ j → bit s j ≡ false) → members-from s i n ≡ []
 unfolding members-from
 members-none s i zero f = refl
@@ -125,8 +125,8 @@ members-step s h l =
     members-first s (bitAnd s (s - 1)) t 0 64 (omega arith) (omega (arith, w .small)) (lowest-in 64 s t w) (lowest-least 64 s t w)
     (bit-cleared 64 s t w)
 
-ones-step : (s : ℕ) → (s ≡ 0 → ⊥) → s < 2 ^ 64 → ones s ≡ suc (ones (bitAnd s (s - 1)))
-ones-step s h l = omega (arith, ones-cleared 64 s (trailingZeros 64 s) (lowest 64 s h l))
+ones-lowest : (s : ℕ) → (s ≡ 0 → ⊥) → s < 2 ^ 64 → ones s ≡ suc (ones (bitAnd s (s - 1)))
+ones-lowest s h l = omega (arith, ones-cleared 64 s (trailingZeros 64 s) (lowest 64 s h l))
 
 -- ---- the walk
 
@@ -137,10 +137,10 @@ walk-induction Q z f zero s l h = go (eqb s 0) refl
   where
     go : (b : Bool) → eqb s 0 ≡ b → Q s
     go true e = subst Q (sym (eqb-true s 0 e)) z
-    go false e = let o = ones-step s (eqb-false s 0 e) l in absurd (omega arith)
+    go false e = let o = ones-lowest s (eqb-false s 0 e) l in absurd (omega arith)
 walk-induction Q z f (suc k) s l h =
     go (eqb s 0) refl
-    (λ n. f s n l (walk-induction Q z f k (bitAnd s (s - 1)) (omega (arith, and-le-l s (s - 1))) (omega (arith, ones-step s n l))))
+    (λ n. f s n l (walk-induction Q z f k (bitAnd s (s - 1)) (omega (arith, and-le-l s (s - 1))) (omega (arith, ones-lowest s n l))))
   where
     go : (b : Bool) → eqb s 0 ≡ b → ((s ≡ 0 → ⊥) → Q s) → Q s
     go true e g = subst Q (sym (eqb-true s 0 e)) z
@@ -156,11 +156,11 @@ unfolding steps
 steps-more k s n = rw (ne-eqb s 0 n)
 
 -- The list of those met is the rising list of the members.
-pub walk-meets-members : (s : ℕ) → s < 2 ^ 64 → word-walk s ≡ members s
-unfolding word-walk
+pub walk-meets-members : (s : ℕ) → s < 2 ^ 64 → set-walk s ≡ members s
+unfolding set-walk
 walk-meets-members s l =
     walk-induction (λ s. steps (ones s) s ≡ members s) (steps-zero (ones 0) ∙ sym members-zero)
-    (λ s n l h. ap (λ (k : ℕ). steps k s) (ones-step s n l) ∙ steps-more (ones (bitAnd s (s - 1))) s n
+    (λ s n l h. ap (λ (k : ℕ). steps k s) (ones-lowest s n l) ∙ steps-more (ones (bitAnd s (s - 1))) s n
     ∙ ap (λ (x : List ℕ). trailingZeros 64 s ∷ x) h ∙ sym (members-step s n l))
     (ones s) s l (omega arith)
 
@@ -169,7 +169,7 @@ pub ones-members : (s : ℕ) → s < 2 ^ 64 → ones s ≡ length (members s)
 unfolding ones
 ones-members s l =
     walk-induction (λ s. ones s ≡ length (members s)) (rw members-zero)
-    (λ s n l h. ones-step s n l ∙ ap suc h ∙ ap (λ (x : List ℕ). length x) (sym (members-step s n l)))
+    (λ s n l h. ones-lowest s n l ∙ ap suc h ∙ ap (λ (x : List ℕ). length x) (sym (members-step s n l)))
     (ones s) s l (omega arith)
 
 -- The first of them lies within the word.
@@ -178,7 +178,7 @@ unfolding members
 first-member-below s i l e = members-only s 0 64 i (subst (List·Memᴰ i) (sym e) (List·Memᴰ·head refl)) .1
 
 -- "Show that the walk meets each position of the set once, rising, and no other."
-pub walk-meets-each : (s : ℕ) → s < 2 ^ 64 → MeetsEach s (word-walk s)
+pub walk-meets-each : (s : ℕ) → s < 2 ^ 64 → MeetsEach s (set-walk s)
 unfolding members
 walk-meets-each s l = rw (walk-meets-members s l) (record {
   rising = members-rise s 0 64;

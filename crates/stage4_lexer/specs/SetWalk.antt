@@ -8,14 +8,14 @@ use lib.Count.{ones, trailingZeros}
 use lib.Dec.{eqb}
 use Rattle.stage0_laws.specs.Bits.{bit, _∈_}
 
--- So many steps of the walk. The lowest position stands at the number of trailing zeros, and clearing it gives the set that is left.
+-- At most so many steps of the walk. The lowest position stands at the number of trailing zeros, and clearing it gives the set that is left.
 unfoldable pub steps : ℕ → ℕ → List ℕ
 steps zero s = []
 steps (suc k) s = cond (eqb s 0) [] (trailingZeros 64 s ∷ steps k (bitAnd s (s - 1)))
 
 -- The positions that the walk meets, in their order: a step for each one that is left.
-unfoldable pub word-walk : ℕ → List ℕ
-word-walk s = steps (ones s) s
+unfoldable pub set-walk : ℕ → List ℕ
+set-walk s = steps (ones s) s
 
 -- The rising list of a set's positions, of those among the n from i on.
 unfoldable pub members-from : ℕ → ℕ → ℕ → List ℕ
