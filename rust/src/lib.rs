@@ -3,7 +3,7 @@
 //! A *sheet* has lexer rules and one typed context-free expression. [`check`](check()) says whether a
 //! sheet passes, [`write`](write()) turns it into an [`Image`], and [`Image::run`] reads a text by
 //! it. All three call a static library whose code is proved to meet its contract, document 01 with
-//! requests 1 to 4 of document 02; this package links it and lends it the buffers that it needs. The
+//! requests 1 to 5 of document 02; this package links it and lends it the buffers that it needs. The
 //! places and numbers in this documentation are those of the contract.
 //!
 //! [`builder`] writes sheets as Rust code. A number of a sheet may be padded with empty high groups, and

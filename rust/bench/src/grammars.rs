@@ -11,6 +11,8 @@ pub struct Grammar {
     pub sheet: Sheet,
     /// A text of at most [`TEXT_LIMIT`] bytes that it accepts, and not many fewer.
     pub text: Vec<u8>,
+    /// A text of 8 bytes that it accepts.
+    pub short_text: &'static [u8; 8],
 }
 
 /// The grammars that the targets are about.
@@ -25,6 +27,24 @@ pub fn pairs() -> Vec<[Grammar; 2]> {
         [json(), json_with_repetition()],
         [csv(), csv_with_repetition()],
     ]
+}
+
+/// The grammars of [`all`], made so that running only scans: all rules skip, and the expression denotes the
+/// empty sequence alone. They accept the same texts, with no tokens.
+pub fn scanning_alone() -> Vec<Grammar> {
+    let skipping = |grammar: Grammar| {
+        let mut builder = SheetBuilder::new();
+        // A sheet has one token at least. No rule returns this one.
+        builder.token("unused");
+        for rule in grammar.sheet.rules() {
+            builder.skip(rule.regex.clone());
+        }
+        Grammar {
+            sheet: builder.finish(Expression::epsilon()).expect("bound"),
+            ..grammar
+        }
+    };
+    all().into_iter().map(skipping).collect()
 }
 
 /// Numbers that vary from one to the next and are the same in every run.
@@ -63,6 +83,7 @@ fn sheet_d() -> Grammar {
         name: "sheet D",
         sheet: builder.finish(number.then(more)).expect("bound"),
         text: fill("7", "", |state, _| format!(" /{}", varied(state) % 10_000)),
+        short_text: b"12/3/456",
     }
 }
 
@@ -88,6 +109,7 @@ fn s_expressions() -> Grammar {
             let (one, other) = (varied(state), varied(state));
             format!("(define f{one} (lambda (x y) (plus x (times y {other}))))\n")
         }),
+        short_text: b"(ab (c))",
     }
 }
 
@@ -128,11 +150,7 @@ fn json_with_lists(
     for word in [&b"true"[..], b"false", b"null"] {
         builder.rule(scalar, Regex::literal(word));
     }
-    builder.skip(Regex::alternative([
-        Regex::byte(b' '),
-        Regex::class(b'\t', b'\n'),
-        Regex::byte(b'\r'),
-    ]));
+    builder.skip(json_blank());
 
     let value = Expression::fix(|value| {
         let member = string.then(colon.then(value.clone())).label("member");
@@ -147,11 +165,20 @@ fn json_with_lists(
         name,
         sheet: builder.finish(value).expect("bound"),
         text: json_text(),
+        short_text: b"[1,\"ab\"]",
     }
 }
 
 fn digit() -> Regex {
     Regex::class(b'0', b'9')
+}
+
+fn json_blank() -> Regex {
+    Regex::alternative([
+        Regex::byte(b' '),
+        Regex::class(b'\t', b'\n'),
+        Regex::byte(b'\r'),
+    ])
 }
 
 fn json_string() -> Regex {
@@ -250,5 +277,6 @@ fn csv_with_lines(
             let (one, other) = (varied(state), varied(state) % 1_000);
             format!("{one},\"plot {other}, \"\"north\"\"\",,{other}\r\n")
         }),
+        short_text: b"ab,\"c\",\n",
     }
 }

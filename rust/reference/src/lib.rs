@@ -1,6 +1,6 @@
 //! A plain implementation of checking sheets, writing their images and running images.
 //!
-//! It was written from the contract (document 01 with requests 1 to 4 of document 02) alone, without a
+//! It was written from the contract (document 01 with requests 1 to 5 of document 02) alone, without a
 //! look at the proved code, and it is made to be read, not to be fast. Its three main functions,
 //! [`sheet_check`], [`sheet_write`] and [`image_run`], have the same results and the same effects on
 //! every buffer as the functions of the static library, so that the two can be compared to the last byte.
