@@ -1,7 +1,7 @@
 /*
  * Vinzagew: a proved grammar compiler, and the machine that reads by its images.
  *
- * The functions of the static library libvinzagew.a. Their contract is document 01 with requests 1 to 4
+ * The functions of the static library libvinzagew.a. Their contract is document 01 with requests 1 to 5
  * of document 02; the numbers and places below are the contract's.
  *
  * A sheet and an image are numbers in groups of seven bits, lowest group first, one byte a group, with

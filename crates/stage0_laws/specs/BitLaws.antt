@@ -1,9 +1,9 @@
 -- Laws of sets held as one number: the members of a union, of an intersection, of a symmetric difference, of one element and of the empty
 -- set; two sets with the same members are one number; the members of a set below 2^k are below k.
-use mathlib.Core.Path.{_≡_, refl, sym, ap, ap₂, _∙_, subst}
+use mathlib.Core.Path.{_≡_, refl, sym, ap, ap₂, _∙_}
 use mathlib.Core.Bool as B
 use mathlib.Core.Bool.{Bool, true, false, _||_, _&&_, not, xor, cond}
-use mathlib.Core.Logic.{_⊎_, inl, inr, ⊎-elim}
+use mathlib.Core.Logic.{_⊎_, inl, inr}
 use Prim.Native.Nat.{ℕ, zero, suc, _+_, _-_, _*_, _/_, _%_, _^_, _≤_, _<_, min, max}
 use native.Mathlib.Omega.{arith}
 use native.Mathlib.Nat.{mod-lt, pow-suc, div-lt-iff-lt-mul, mul-div-cancel, mul-mod-left, zero-lt-suc, one-mul}
@@ -23,7 +23,7 @@ dig-lt : (s i : ℕ) → dig s i < 2
 unfolding dig
 dig-lt s i = mod-lt (s / 2 ^ i) (zero-lt-suc 1)
 
--- What holds of the digits 0 and 1 holds of every number below 2.
+-- What holds of the digits 0 and 1 holds of every two numbers below 2.
 by-digits : (P : ℕ → ℕ → Type 0) → P 0 0 → P 0 1 → P 1 0 → P 1 1 → (x y : ℕ) → x < 2 → y < 2 → P x y
 by-digits P a b c d zero zero hx hy = a
 by-digits P a b c d zero (suc zero) hx hy = b

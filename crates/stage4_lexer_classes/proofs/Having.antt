@@ -1,19 +1,18 @@
 -- The swept edges of the classes are the class table, position by position.
 -- How the edges and the sweep come about is not said here.
 use mathlib.Core.Path.{_≡_, refl, sym, ap, _∙_}
-use mathlib.Core.Bool.{Bool, true, false, xor, _&&_, _||_}
-use mathlib.Core.Bool as B
+use mathlib.Core.Bool.{Bool, true, false, xor, _&&_}
 use mathlib.Core.List.{List}
-use mathlib.Core.Logic.{_⊎_, inl, inr, ⊎-elim}
-use Prim.Native.Nat.{ℕ, zero, suc, _+_, _≤_, _<_}
+use mathlib.Core.Logic.{_⊎_, inl, inr}
+use Prim.Native.Nat.{ℕ, zero, suc, _≤_, _<_}
 use native.Mathlib.Omega.{arith}
 use native.Mathlib.Nat.{zero-add}
 use lib.Dec.{eqb, ltb, leb, eqb·suc-suc}
 use lib.ListN.{getD}
-use borrow.Author.Tests.{eq-eqb, ne-eqb, lt-ltb, le-ltb, le-leb, lt-leb, ltb-true}
+use borrow.Author.Tests.{eq-eqb, ne-eqb, le-leb, lt-leb, ltb-true}
 use Rattle.stage0_laws.specs.Bits.{bit}
-use Rattle.stage0_laws.specs.BitLaws.{bit-or, bit-xor, bit-zero, bit-one-if, bit-ext-all}
-use Rattle.stage0_laws.specs.Order.{compare-cases, lt-or-le}
+use Rattle.stage0_laws.specs.BitLaws.{bit-xor, bit-ext-all}
+use Rattle.stage0_laws.specs.Order.{compare-cases}
 use Rattle.stage4_lexer.specs.Walk.{has-byte}
 use Rattle.stage4_lexer_columns.specs.Held.{held-position, held-from}
 use Rattle.stage4_lexer_classes.specs.ClassTable.{having, ClassTable}

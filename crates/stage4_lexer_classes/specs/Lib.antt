@@ -1,4 +1,4 @@
--- The class table of a list of positions, and the steps by which it is filled.
+-- The class table of a list of positions, the steps by which it is filled, and the laws of its sets.
 pub mod ClassTable
-pub mod ClassTableLaws
 pub mod Filling
+pub mod ClassTableLaws

@@ -6,7 +6,6 @@ use mathlib.Core.Bool as B
 use mathlib.Core.List.{List, [], _∷_}
 use mathlib.Core.Option.{some}
 use Prim.Native.Nat.{ℕ, zero, suc, _+_, _^_, _≤_, _<_}
-use native.Mathlib.Omega.{arith}
 use lib.Dec.{eqb}
 use lib.ListN.{getD}
 use lib.Bits.{bitOr, bitAnd, or-zero-l}
@@ -45,7 +44,7 @@ keep-bit (p ∷ ps) i held b j =
     ∙ rw (bit-one-if (bit held i && has-byte p b) i j, keep-bit ps (suc i) held b j, having-first p ps i b j)
     (same-place (eqb i j) (bit held i) (bit held j) (has-byte p b) (bit (having ps (suc i) b) j) (λ e. ap (bit held) (eqb-true i j e)))
 
--- "one `and` gives the kept positions of a byte"
+-- One `and` gives the positions that a byte keeps.
 keep-and : (ps : List Position) (held b : ℕ) → bitAnd held (having ps 0 b) ≡ keep ps 0 held b
 keep-and ps held b =
     bit-ext-all (bitAnd held (having ps 0 b)) (keep ps 0 held b) (λ j. bit-and held (having ps 0 b) j ∙ sym (keep-bit ps 0 held b j))

@@ -20,7 +20,7 @@ use Rattle.stage4_lexer.specs.LowestPosition.{follows-nothing, ended-nothing, w
 use Rattle.stage4_lexer_scanner.specs.declared.EndedBy.{EndedBy}
 use Rattle.stage4_lexer_scanner.specs.Sets.{first-entry, match-by, latest-ended}
 
--- The match by a set of last positions: by none, and by some.
+-- The empty set stands for no match.
 pub match-by-none : (rule : List ℕ) (n : ℕ) → match-by rule 0 n ≡ no-match
 unfolding match-by first-entry longer
 match-by-none rule n = rw members-zero

@@ -123,9 +123,9 @@ fn found_match(ending: u64, length: usize, rule: &[u8; 64]) -> Found
 }
 
 // The longest match at the front of a text. The first byte has none before it. From then on, where a byte keeps the same positions as the
-// byte before it, the same are held after it, and nothing is walked. Where it keeps others, a match that ended before it is noted as a set; the
-// rule is looked up once, after the walk, and the one that `after_byte` tells is not used. The walk ends where a byte keeps no position.
-// If those kept last end a match, that is the longest, otherwise the one noted is.
+// byte before it, the same are held after it, and nothing is walked. Where it keeps others, a match that ended before it is noted as a
+// set; the rule is looked up once, after the walk, and the one that `after_byte` tells is not used. The walk ends where a byte keeps no
+// position. If those that the latest byte kept end a match, that is the longest, otherwise the one noted is.
 pub fn longest_match<'a>(
     text: &'a [u8],
     count: usize,

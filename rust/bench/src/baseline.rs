@@ -14,9 +14,11 @@ const RULE_LIMIT: u8 = 32;
 const POSITION_LIMIT: u8 = 64;
 const NONTERMINAL_LIMIT: u8 = 64;
 const PRODUCTION_LIMIT: u8 = 32;
+/// Most images have no more nonterminals, and a table for so few is soon cleared.
+const FEW_NONTERMINALS: u8 = 16;
 
 /// Runs an image over a text: number, place and count.
-// The library's function is called too: neither becomes a part of the loop that measures it.
+// Reached by a call, as the library's function is, so that neither is inlined into the loop that measures it.
 #[inline(never)]
 pub fn run(image: &[u8], text: &[u8], stack: &mut [u8]) -> [usize; 3] {
     if text.len() > TEXT_LIMIT {
@@ -26,12 +28,12 @@ pub fn run(image: &[u8], text: &[u8], stack: &mut [u8]) -> [usize; 3] {
         bytes: image,
         place: 0,
     };
-    // Most images have few nonterminals, and the table for few of them is soon cleared.
-    let mut machine = Machine::<16>::new(Scanner::new(), image);
+    let mut machine = Machine::<{ FEW_NONTERMINALS as usize }>::new(Scanner::new(), image);
     match machine.scanner.fill(&mut reader) {
         None => [13, reader.place, 0],
-        Some(count) if count <= 16 => machine.run(reader, count, text, stack),
-        Some(count) => Machine::<64>::new(machine.scanner, image).run(reader, count, text, stack),
+        Some(count) if count <= FEW_NONTERMINALS => machine.run(reader, count, text, stack),
+        Some(count) => Machine::<{ NONTERMINAL_LIMIT as usize }>::new(machine.scanner, image)
+            .run(reader, count, text, stack),
     }
 }
 

@@ -1,9 +1,9 @@
-//! The grammars that are measured, each with a text that it accepts. Nothing is measured here.
+//! The grammars that are measured, each with a long and a short text that it accepts. Nothing is measured here.
 
 use vinzagew::builder::{Expression, Regex, Sheet, SheetBuilder, Token};
 use vinzagew::TEXT_LIMIT;
 
-/// A grammar with a way to make texts.
+/// A grammar with two texts.
 pub struct Grammar {
     /// What the grammar reads.
     pub name: &'static str,

@@ -1,6 +1,6 @@
 -- `stage4_lexer_scanner::longest_match` meets its contract. The loop's invariant: the walk over the rest of the text, from the held set and the
 -- match so far, gives the longest match of the whole text; and what is held follows from the positions kept by the byte before.
-use mathlib.Core.Path.{_≡_, refl, sym, ap, _∙_}
+use mathlib.Core.Path.{_≡_, sym, ap, _∙_}
 use mathlib.Core.List.{List}
 use mathlib.Core.Logic.{⊎-elim}
 use mathlib.Core.Option.{Option}
