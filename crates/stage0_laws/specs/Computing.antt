@@ -1,7 +1,8 @@
 -- One name that opens every definition of this stage and of the stages below it, for theorems that compute.
 use Rattle.stage0_laws.specs.Bits.{bit}
 use Rattle.stage0_laws.specs.Lists.{filter, partition, settle}
+use Rattle.stage0_laws.specs.Meeting.{is-met, meet, meet-all, meet-rows, number-of}
 
 unfoldable pub computing-laws : Unit {0}
-unfolding bit filter partition settle
+unfolding bit filter partition settle is-met meet meet-all meet-rows number-of
 computing-laws = tt

@@ -8,4 +8,8 @@ pub mod Truth
 pub mod Bits
 pub mod BitLaws
 pub mod LowestMember
+pub mod Meeting
+pub mod MeetingLaws
+pub mod DistinctMembers
+pub mod Reaching
 pub mod Computing

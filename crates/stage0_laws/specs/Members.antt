@@ -55,3 +55,9 @@ of-flatMap f [] b m = absurd (List·Memᴰ·not-nil m)
 of-flatMap f (a ∷ l) b m =
     ⊎-elim (λ k. (a, List·Memᴰ·head refl, k)) (λ k. let r = of-flatMap f l b k in (r .0, List·Memᴰ·tail (r .1), r .2))
     (List·Memᴰ·append-cases (f a) m)
+
+-- The entry of a mapped list at a place within it.
+pub getD-map-inside : {A B : Type 0} (f : A → B) (l : List A) (i : ℕ) (a : A) (b : B) → i < length l → getD (map f l) i b ≡ f (getD l i a)
+getD-map-inside f [] i a b h = absurd (not-suc-le-zero h)
+getD-map-inside f (x ∷ l) zero a b h = refl
+getD-map-inside f (x ∷ l) (suc i) a b h = getD-map-inside f l i a b (omega arith)

@@ -8,6 +8,7 @@ pub mod Positions
 pub mod Match
 pub mod Walk
 pub mod SetWalk
+pub mod Table
 pub mod Computing
 pub mod Least
 pub mod SetBounds
@@ -21,6 +22,8 @@ pub mod LongestMatchLaws
 pub mod OrderedMatches
 pub mod PositionBounds
 pub mod LowestPosition
+pub mod TableLaws
 pub mod SetWalkExamples
+pub mod TableExamples
 pub mod MatchExamples
 pub mod OrderExamples

@@ -26,8 +26,8 @@ use Rattle.stage3_normal_form.specs.TailNodes.{tail-nodes, tails-within, tail-n
 use Rattle.stage4_lexer.specs.RuleOrder.{words-first-sheet}
 use Rattle.stage4_lexer.specs.OrderedMatches.{ordered-empty-match, ordered-limits}
 use Rattle.stage4_lexer.specs.Positions.{Position, empty-match}
-use Rattle.stage5_image.specs.DistinctNodes.{distinct-few}
-use Rattle.stage5_image.specs.MetNodes.{first-met-member}
+use Rattle.stage0_laws.specs.DistinctMembers.{distinct-few}
+use Rattle.stage0_laws.specs.MeetingLaws.{first-met-member}
 use Rattle.stage5_image.specs.Fusion.{fused}
 use Rattle.stage5_image.specs.Image.{Image, plain-image, image-of, flag, flag-numbers, position-numbers, production-numbers, row-numbers, image-numbers, image-bytes}
 use Rattle.stage5_image.specs.ImageLaws.{normal-form-inside, normal-form-some, plain-in-range}

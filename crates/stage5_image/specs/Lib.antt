@@ -13,8 +13,6 @@ pub mod Write
 pub mod Writes
 pub mod Computing
 pub mod FusionLaws
-pub mod MetNodes
-pub mod DistinctNodes
 pub mod NumberingLaws
 pub mod Simulation
 pub mod UnfoldingLaws

@@ -16,8 +16,9 @@ use Rattle.stage5_image.specs.FusionLaws.{fused-rising, fused-count}
 use Rattle.stage5_image.specs.Image.{skips-rule}
 use Rattle.stage5_image.specs.ImageRanges.{ProductionInRange, Rising, RowInRange}
 use Rattle.stage0_laws.specs.Members.{all-of, all-member, all-map}
-use Rattle.stage5_image.specs.Numbering.{reached, number-of, renumbered, renumbered-row, numbered}
-use Rattle.stage5_image.specs.MetNodes.{Met, met-member}
+use Rattle.stage0_laws.specs.Meeting.{number-of}
+use Rattle.stage5_image.specs.Numbering.{reached, renumbered, renumbered-row, numbered}
+use Rattle.stage0_laws.specs.MeetingLaws.{Met, met-member}
 use Rattle.stage5_image.specs.NumberingLaws.{TailsInside, numbered-count, row-at-number}
 use Rattle.stage5_image.specs.Simulation.{image-simulates, fused-row-of, fused-length, reached-fused}
 

@@ -15,8 +15,9 @@ use Rattle.stage5_image.specs.Fusion.{by-rule, fused-from, fused-row, fu
 use Rattle.stage5_image.specs.FusionLaws.{as-rule, rule-production, FusedOf, fused-of}
 use Rattle.stage3_normal_form.specs.ProductionLaws.{Found, production-found}
 use Rattle.stage0_laws.specs.Members.{all-of}
-use Rattle.stage5_image.specs.Numbering.{reached, number-of, renumbered, renumbered-row, numbered}
-use Rattle.stage5_image.specs.MetNodes.{Met, number-below as node-number}
+use Rattle.stage0_laws.specs.Meeting.{number-of}
+use Rattle.stage5_image.specs.Numbering.{reached, renumbered, renumbered-row, numbered}
+use Rattle.stage0_laws.specs.MeetingLaws.{Met, number-below as node-number}
 use Rattle.stage5_image.specs.NumberingLaws.{TailsInside, Reached, reached-is, row-at-number, tail-member, of-tail-members, numbered-count}
 use Rattle.stage5_image.specs.Unfolding.{Returns}
 

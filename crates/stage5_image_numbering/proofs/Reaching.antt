@@ -16,8 +16,9 @@ use Rattle.stage3_normal_form.specs.NormalForm.{normal-form}
 use Rattle.stage3_normal_form_walk.specs.Columns.{tail-held}
 use Rattle.stage3_normal_form_walk.specs.declared.Tail.{Tail}
 use Rattle.stage5_image.specs.Fusion.{fused-from, fused-row, fused}
-use Rattle.stage5_image.specs.MetNodes.{first-met, meet-all-order}
-use Rattle.stage5_image.specs.Numbering.{is-met, meet-all, tail-members, meet-rows, reached, number-of}
+use Rattle.stage0_laws.specs.Reaching.{rows-more, row-done, rows-done}
+use Rattle.stage0_laws.specs.Meeting.{is-met, meet-all, meet-rows, number-of}
+use Rattle.stage5_image.specs.Numbering.{tail-members, tails-of, reached}
 use Rattle.stage5_image.specs.Simulation.{fused-row-of}
 use Rattle.stage5_image_numbering.specs.Below.{concat-below}
 use Rattle.stage5_image_numbering.specs.Grammar.{GrammarOf, Numbers, members-of}
@@ -71,40 +72,6 @@ start-numbers (suc n) h = rw (ne-eqb 0 (suc n) (omega arith)) (all-same 63 n 64 
 
 -- ---- all rows
 
--- Those met stay in front.
-rows-more : (rows : List Row) (k i : ℕ) (met : List ℕ) → (more : List ℕ) × (meet-rows rows k i met ≡ met ++ more)
-unfolding meet-rows
-rows-more rows zero i met = ([], sym (append-nil met))
-rows-more rows (suc k) i met =
-    let new = tail-members ((row-of rows (getD met i 0)) .productions) in
-    go new (ltb i (length met)) (rows-more rows k (suc i) (meet-all met new))
-  where
-    go : (new : List ℕ) (b : Bool) → (more : List ℕ) × (meet-rows rows k (suc i) (meet-all met new) ≡ meet-all met new ++ more)
-        → (more : List ℕ) × (elim b [ true ↦ meet-rows rows k (suc i) (meet-all met new) | false ↦ met ] ≡ met ++ more)
-    go new true r = (
-      first-met met new ++ r .0,
-      r .1 ∙ ap (λ (l : List ℕ). l ++ r .0) (meet-all-order met new) ∙ append-assoc met (first-met met new) (r .0),
-    )
-    go new false r = ([], sym (append-nil met))
-
-row-done : (rows : List Row) (k i : ℕ) (met : List ℕ) → i < length met
-    → meet-rows rows (suc k) i met ≡ meet-rows rows k (suc i) (meet-all met (tail-members ((row-of rows (getD met i 0)) .productions)))
-unfolding meet-rows
-row-done rows k i met l =
-    ap (λ (b : Bool). elim b [
-      | true ↦ meet-rows rows k (suc i) (meet-all met (tail-members ((row-of rows (getD met i 0)) .productions)))
-      | false ↦ met
-    ]) (lt-ltb i (length met) l)
-
-rows-done : (rows : List Row) (k i : ℕ) (met : List ℕ) → length met ≤ i → meet-rows rows k i met ≡ met
-unfolding meet-rows
-rows-done rows zero i met l = refl
-rows-done rows (suc k) i met l =
-    ap (λ (b : Bool). elim b [
-      | true ↦ meet-rows rows k (suc i) (meet-all met (tail-members ((row-of rows (getD met i 0)) .productions)))
-      | false ↦ met
-    ]) (le-ltb i (length met) l)
-
 fused-members : (rules : List Rule) (row : Row) → tail-members ((fused-row rules row) .productions) ≡ tail-members (fused-from rules 0
     (row .productions))
 unfolding fused-row
@@ -114,7 +81,7 @@ fused-members rules row = refl
 pub record Walked (rules : List Rule) (e : Expression) (c : Numbering) (i : ℕ) : Type 0 where
   pub met : List ℕ
   pub numbers : Numbers c met
-  pub rest : meet-rows (fused rules (normal-form e)) (size e - i) i met ≡ reached (fused rules (normal-form e))
+  pub rest : meet-rows (tails-of (fused rules (normal-form e))) (size e - i) i met ≡ reached (fused rules (normal-form e))
 
 module _ (g : Grammar) (rules : List Rule) (e : Expression) (h : GrammarOf g rules e) where
   pub walked-start : (c : Numbering) → Numbers c (0 ∷ []) → Walked rules e c 0
@@ -122,7 +89,7 @@ module _ (g : Grammar) (rules : List Rule) (e : Expression) (h : GrammarOf g rul
     met = 0 ∷ [];
     numbers = n;
     rest = unfold reached in
-        ap (λ (k : ℕ). meet-rows (fused rules (normal-form e)) k 0 (0 ∷ []))
+        ap (λ (k : ℕ). meet-rows (tails-of (fused rules (normal-form e))) k 0 (0 ∷ []))
         (let s = rows-size g rules e h in let z : size e - 0 ≡ length (fused rules (normal-form e)) = omega arith in z);
   }
 
@@ -132,12 +99,12 @@ module _ (g : Grammar) (rules : List Rule) (e : Expression) (h : GrammarOf g rul
 
     few : length (w .met) ≤ size e
     few =
-        let m = rows-more rows (size e - i) i (w .met) in
+        let m = rows-more (tails-of rows) (size e - i) i (w .met) in
         omega (arith, ap length (sym (w .rest) ∙ m .1), length-append (w .met) (m .0), reached-here g rules e h .few, rows-size g rules e h)
 
     pub next-node : (node : ℕ) → node ≡ getD (c .met) i 0 → i < c .count → node < size e
     next-node node is b =
-        let m = rows-more rows (size e - i) i (w .met) in
+        let m = rows-more (tails-of rows) (size e - i) i (w .met) in
         let l : i < length (w .met) = omega (arith, w .numbers .count) in
         let all : reached rows ≡ w .met ++ m .0 = sym (w .rest) ∙ m .1 in
         let same : getD (reached rows) i 0 ≡ getD (c .met) i 0 =
@@ -159,12 +126,12 @@ module _ (g : Grammar) (rules : List Rule) (e : Expression) (h : GrammarOf g rul
         ap (λ (r : Row). tail-members (r .productions)) (fused-row-of rules (normal-form e) (getD (w .met) i 0))
         ∙ fused-members rules (row-of (normal-form e) (getD (w .met) i 0))
         ∙ ap (λ (n : ℕ). tail-members (fused-from rules 0 (productions-of e n))) here in
-        let step : meet-rows rows (size e - (i + 1)) (i + 1) (meet-all (w .met) members) ≡ reached rows =
-        ap (λ (k : ℕ). meet-rows rows (size e - (i + 1)) k (meet-all (w .met) members)) (add-one i)
-        ∙ sym (ap (λ (k : ℕ). meet-rows rows k i (w .met)) (let f = few in let z : size e - i ≡ suc (size e - (i + 1)) = omega arith in z)
-        ∙ row-done rows (size e - (i + 1)) i (w .met) l
-        ∙ ap (λ (m : List ℕ). meet-rows rows (size e - (i + 1)) (suc i) (meet-all (w .met) m)) row) ∙ w .rest in
-        let m = rows-more rows (size e - (i + 1)) (i + 1) (meet-all (w .met) members) in
+        let step : meet-rows (tails-of rows) (size e - (i + 1)) (i + 1) (meet-all (w .met) members) ≡ reached rows =
+        ap (λ (k : ℕ). meet-rows (tails-of rows) (size e - (i + 1)) k (meet-all (w .met) members)) (add-one i)
+        ∙ sym (ap (λ (k : ℕ). meet-rows (tails-of rows) k i (w .met)) (let f = few in let z : size e - i ≡ suc (size e - (i + 1)) = omega arith in z)
+        ∙ row-done (tails-of rows) (size e - (i + 1)) i (w .met) l
+        ∙ ap (λ (m : List ℕ). meet-rows (tails-of rows) (size e - (i + 1)) (suc i) (meet-all (w .met) m)) row) ∙ w .rest in
+        let m = rows-more (tails-of rows) (size e - (i + 1)) (i + 1) (meet-all (w .met) members) in
         record {
           met = meet-all (w .met) members;
           numbers = joins (w .met) (w .numbers)
@@ -181,4 +148,4 @@ module _ (g : Grammar) (rules : List Rule) (e : Expression) (h : GrammarOf g rul
 
     pub walked-end : c .count ≤ i → Numbers c (reached rows)
     walked-end b =
-        subst (Numbers c) (sym (rows-done rows (size e - i) i (w .met) (omega (arith, w .numbers .count))) ∙ w .rest) (w .numbers)
+        subst (Numbers c) (sym (rows-done (tails-of rows) (size e - i) i (w .met) (omega (arith, w .numbers .count))) ∙ w .rest) (w .numbers)

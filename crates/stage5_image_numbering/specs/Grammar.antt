@@ -12,7 +12,7 @@ use Rattle.stage1_sheet.specs.Limits.{most-rules}
 use Rattle.stage1_sheet.specs.Sheet.{Rule}
 use Rattle.stage2_types.specs.LeastTypes.{type-of, least-types}
 use Rattle.stage3_normal_form_walk.specs.Columns.{ColumnsOf}
-use Rattle.stage5_image.specs.Numbering.{is-met, number-of}
+use Rattle.stage0_laws.specs.Meeting.{is-met, number-of}
 use Rattle.stage5_image_numbering.specs.declared.Grammar.{Grammar}
 use Rattle.stage5_image_numbering.specs.declared.Numbering.{Numbering}
 

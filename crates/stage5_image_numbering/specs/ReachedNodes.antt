@@ -13,7 +13,7 @@ use Rattle.stage3_normal_form.specs.KeptRows.{normal-form-length}
 use Rattle.stage5_image.specs.Fusion.{fused}
 use Rattle.stage5_image.specs.ImageLaws.{normal-form-inside, normal-form-some}
 use Rattle.stage0_laws.specs.Members.{member-at, of-flatMap}
-use Rattle.stage5_image.specs.MetNodes.{first-met-member}
+use Rattle.stage0_laws.specs.MeetingLaws.{first-met-member}
 use Rattle.stage5_image.specs.Numbering.{reached}
 use Rattle.stage5_image.specs.NumberingLaws.{row-by-row, Reached, TailsInside, tail-member}
 use Rattle.stage5_image.specs.Simulation.{fused-length, fused-inside, reached-fused}

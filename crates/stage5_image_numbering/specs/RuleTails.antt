@@ -13,7 +13,7 @@ use Rattle.stage3_normal_form.specs.Productions.{Production, production-of}
 use Rattle.stage5_image.specs.Fusion.{by-rule, fused-from}
 use Rattle.stage5_image.specs.ImageNumbers.{all-numbers}
 use Rattle.stage5_image.specs.Numbering.{tail-members}
-use Rattle.stage5_image.specs.NumberingLaws.{getD-map-inside}
+use Rattle.stage0_laws.specs.Members.{getD-map-inside}
 use Rattle.stage5_image.specs.Simulation.{tail-of}
 use Rattle.stage5_image_numbering.specs.Below.{concat-below}
 

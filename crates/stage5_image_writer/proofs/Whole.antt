@@ -23,9 +23,11 @@ use Rattle.stage5_image.specs.Fusion.{fused-row, fused}
 use Rattle.stage5_image.specs.Image.{Image, skips-rule, plain-image, image-bytes, flag, flag-numbers, position-numbers, row-numbers, image-numbers}
 use Rattle.stage5_image.specs.ImageLaws.{normal-form-inside, normal-form-some}
 use Rattle.stage5_image.specs.ImageNumbers.{flag-number, one-position-numbers, one-row-numbers, flags-are, positions-are, rows-are}
-use Rattle.stage5_image.specs.MetNodes.{Met, met-at}
-use Rattle.stage5_image.specs.Numbering.{is-met, reached, number-of, renumbered, renumbered-row, numbered}
-use Rattle.stage5_image.specs.NumberingLaws.{getD-map-inside, TailsInside, Reached, numbered-count, numbered-row, tail-member}
+use Rattle.stage0_laws.specs.MeetingLaws.{Met, met-at}
+use Rattle.stage0_laws.specs.Meeting.{is-met, number-of}
+use Rattle.stage5_image.specs.Numbering.{reached, renumbered, renumbered-row, numbered}
+use Rattle.stage0_laws.specs.Members.{getD-map-inside}
+use Rattle.stage5_image.specs.NumberingLaws.{TailsInside, Reached, numbered-count, numbered-row, tail-member}
 use Rattle.stage5_image.specs.Simulation.{fused-row-of, fused-length, fused-inside, reached-fused}
 use Rattle.stage5_image_numbering.specs.Below.{concat-below, concat-below-list}
 use Rattle.stage5_image_numbering.specs.Grammar.{GrammarOf, Numbers}

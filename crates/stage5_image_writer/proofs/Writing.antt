@@ -18,7 +18,7 @@ use Rattle.stage4_lexer_columns.specs.Held.{held-position}
 use Rattle.stage4_lexer_columns.specs.declared.PositionColumns.{PositionColumns}
 use Rattle.stage5_image.specs.Image.{flag}
 use Rattle.stage5_image.specs.ImageNumbers.{just, tail-is}
-use Rattle.stage5_image.specs.NumberingLaws.{getD-map-inside}
+use Rattle.stage0_laws.specs.Members.{getD-map-inside}
 use Rattle.stage5_image_numbering.specs.Below.{concat-below, concat-below-list}
 use Rattle.stage5_image_numbering.specs.RuleTails.{rule-part}
 use Rattle.stage5_image_numbering.specs.declared.Grammar.{Grammar}

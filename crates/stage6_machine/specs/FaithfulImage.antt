@@ -26,8 +26,9 @@ use Rattle.stage4_lexer.specs.Words.{RuleAt, first-rule, later-rule}
 use Rattle.stage4_lexer.specs.Positions.{empty-match}
 use Rattle.stage4_lexer.specs.LongestMatchLaws.{Right, match-right}
 use Rattle.stage5_image.specs.Fusion.{fused}
-use Rattle.stage5_image.specs.Numbering.{reached, number-of, numbered}
-use Rattle.stage5_image.specs.MetNodes.{Met}
+use Rattle.stage0_laws.specs.Meeting.{number-of}
+use Rattle.stage5_image.specs.Numbering.{reached, numbered}
+use Rattle.stage0_laws.specs.MeetingLaws.{Met}
 use Rattle.stage5_image.specs.Simulation.{Simulates, image-simulates}
 use Rattle.stage5_image.specs.ImageLaws.{normal-form-inside, normal-form-some}
 use Rattle.stage5_image.specs.Image.{Image, plain-image, skips-rule}

@@ -1,4 +1,4 @@
--- Nodes that stand once each and are all among the members of a list are no more than that list is long.
+-- Numbers that stand once each and are all among the members of a list are no more than that list is long.
 use mathlib.Core.Path.{_≡_, refl, sym, ap, subst, _∙_}
 use mathlib.Core.Bool.{Bool, true, false, _||_}
 use mathlib.Core.List.{List, [], _∷_, _++_, List·Memᴰ, List·Memᴰ·head, List·Memᴰ·tail, List·Memᴰ·not-nil, List·Memᴰ·cases-cons}
@@ -11,10 +11,10 @@ use lib.Dec.{eqb}
 use lib.ListN.{getD, length, take, take-append-drop, drop}
 use lib.Seq.{take-suc, length-take-le}
 use borrow.Author.Tests.{eq-eqb}
 use Rattle.stage0_laws.specs.Truth.{true-holds}
 use Rattle.stage0_laws.specs.Members.{member-at}
-use Rattle.stage5_image.specs.Numbering.{is-met, number-of}
-use Rattle.stage5_image.specs.MetNodes.{Met, Once, met-last, number-left, number-below}
+use Rattle.stage0_laws.specs.Meeting.{is-met, number-of}
+use Rattle.stage0_laws.specs.MeetingLaws.{Met, Once, met-last, number-left, number-below}
 
 -- ---- members of a list that have not been met
 
@@ -50,7 +50,7 @@ unmet-less (n ∷ l) met m k e =
 
 -- ---- distinct members
 
--- A node that stands once has not been met before its place.
+-- A number that stands once has not been met before its place.
 new-at-place : (met : List ℕ) → Once met → (i : ℕ) → i < length met → is-met (getD met i 0) (take i met) ≡ false
 new-at-place met once i h = go (is-met (getD met i 0) (take i met)) refl
   where

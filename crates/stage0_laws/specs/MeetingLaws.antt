@@ -1,4 +1,4 @@
--- The nodes met so far: which they are, in which order they joined, and the number of each.
+-- The numbers met so far: which they are, in which order they joined, and the place of each.
 use mathlib.Core.Path.{_≡_, refl, sym, ap, subst, _∙_}
 use mathlib.Core.Bool.{Bool, true, false, _||_, cond}
 use mathlib.Core.List.{List, [], _∷_, _++_, append-assoc, append-nil, List·Memᴰ, List·Memᴰ·head, List·Memᴰ·tail, List·Memᴰ·not-nil, List·Memᴰ·cases-cons}
@@ -11,12 +11,12 @@ use lib.Dec.{T, eqb, eqb→eq, eqb-refl}
 use lib.ListN.{getD, length, length-append, List·getD-append}
 use lib.Seq.{getD-append-seam}
 use borrow.Author.Tests.{eq-eqb}
 use Rattle.stage0_laws.specs.Truth.{or-left, or-right, or-cases, true-holds}
-use Rattle.stage5_image.specs.Numbering.{is-met, meet, meet-all, number-of}
+use Rattle.stage0_laws.specs.Meeting.{is-met, meet, meet-all, number-of}
 
 -- ---- what has been met
 
--- Node n is among those met.
+-- Number n is among those met.
 abbrev pub Met : ℕ → List ℕ → Type 0
 Met n met = T (is-met n met)
 
@@ -121,9 +121,9 @@ meet-all-has n met (k ∷ tail) m =
     ⊎-elim (λ e. meet-all-keeps n (meet met k) tail (subst (λ (z : ℕ). Met z (meet met k)) (sym e) (meet-has met k)))
     (λ h. meet-all-has n (meet met k) tail h) (List·Memᴰ·cases-cons m)
 
--- ---- a node's number
+-- ---- a number's place
 
--- Each node stands once: the node at a place has that place as its number.
+-- Each number stands once: the one at a place has that place.
 abbrev pub Once : List ℕ → Type 0
 Once met = (i : ℕ) → i < length met → number-of met (getD met i 0) ≡ i
 
@@ -133,8 +133,8 @@ number-below n (m ∷ met) t = go (eqb m n) refl (λ x. number-below n met x) t
   where
     go : (b : Bool) → eqb m n ≡ b → (Met n met → (number-of met n < length met) × (getD met (number-of met n) 0 ≡ n))
         → T (b || is-met n met)
-        → (elim b [ true ↦ 0 | false ↦ suc (number-of met n) ] < suc (length met))
-        × (getD (m ∷ met) (elim b [ true ↦ 0 | false ↦ suc (number-of met n) ]) 0 ≡ n)
+        → (cond b 0 (suc (number-of met n)) < suc (length met))
+        × (getD (m ∷ met) (cond b 0 (suc (number-of met n))) 0 ≡ n)
     go true e ih x = (omega arith, eqb→eq m n (subst T (sym e) tt))
     go false e ih x = let r = ih x in ((let a = r .0 in omega arith), r .1)
 
@@ -143,7 +143,7 @@ unfolding is-met number-of
 number-left n (m ∷ met) more t = go (eqb m n) (λ x. number-left n met more x) t
   where
     go : (b : Bool) → (Met n met → number-of (met ++ more) n ≡ number-of met n) → T (b || is-met n met)
-        → _≡_ {A = ℕ} (elim b [ true ↦ 0 | false ↦ suc (number-of (met ++ more) n) ]) (elim b [ true ↦ 0 | false ↦ suc (number-of met n) ])
+        → _≡_ {A = ℕ} (cond b 0 (suc (number-of (met ++ more) n))) (cond b 0 (suc (number-of met n)))
     go true ih x = refl
     go false ih x = ap suc (ih x)
 
@@ -153,11 +153,11 @@ number-last n [] e = rw (eq-eqb n n refl, number-of)
 number-last n (m ∷ met) e = go (eqb m n) (λ x. number-last n met x) e
   where
     go : (b : Bool) → (is-met n met ≡ false → number-of (met ++ (n ∷ [])) n ≡ length met) → (b || is-met n met) ≡ false
-        → _≡_ {A = ℕ} (elim b [ true ↦ 0 | false ↦ suc (number-of (met ++ (n ∷ [])) n) ]) (suc (length met))
+        → _≡_ {A = ℕ} (cond b 0 (suc (number-of (met ++ (n ∷ [])) n))) (suc (length met))
     go true ih x = let z : _≡_ {A = ℕ} 0 1 = cc in absurd (omega arith)
     go false ih x = ap suc (ih x)
 
--- The node at a place has been met.
+-- The number at a place has been met.
 pub met-at : (met : List ℕ) (i : ℕ) → i < length met → Met (getD met i 0) met
 unfolding is-met
 met-at [] i h = absurd (not-suc-le-zero h)
