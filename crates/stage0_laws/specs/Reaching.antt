@@ -94,7 +94,7 @@ pub record RowsDone (row : ℕ → List ℕ) (start : List ℕ) (Inside : ℕ �
   pub done : (j : ℕ) → j < i → j < length met → (x : ℕ) → List·Memᴰ x (row (getD met j 0)) → Met x met
   pub ordered : met ≡ meet-all start (flatMap row (take i met))
 
-flatMap-last : (row : ℕ → List ℕ) (met : List ℕ) (n : ℕ) → flatMap row (met ++ (n ∷ [])) ≡ flatMap row met ++ row n
+pub flatMap-last : (row : ℕ → List ℕ) (met : List ℕ) (n : ℕ) → flatMap row (met ++ (n ∷ [])) ≡ flatMap row met ++ row n
 unfolding flatMap
 flatMap-last row [] n = append-nil (row n)
 flatMap-last row (m ∷ met) n = ap (λ (l : List ℕ). row m ++ l) (flatMap-last row met n) ∙ sym (append-assoc (row m) (flatMap row met) (row n))

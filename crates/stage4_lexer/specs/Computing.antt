@@ -4,9 +4,9 @@ use Rattle.stage4_lexer.specs.Positions.{nullable, first, last, follow, 
 use Rattle.stage4_lexer.specs.Match.{longer}
 use Rattle.stage4_lexer.specs.Walk.{has-byte, keep, follows, lower, ended, walk, longest-match}
 use Rattle.stage4_lexer.specs.SetWalk.{steps, set-walk, members-from, members}
-use Rattle.stage4_lexer.specs.Table.{bytes-from, held-in, next-sets, table-rows, table-entries, rule-or-none, winner-in, table-winners, winning, row-walk, match-by-rows}
+use Rattle.stage4_lexer.specs.Table.{bytes-from, held-in, next-sets, table-rows, table-entries, rule-or-none, winner-in, table-winners, written-over, winning, row-walk, match-by-rows}
 use Rattle.stage1_sheet.specs.Computing.{computing-sheet}
 
 unfoldable pub computing-lexer : Unit {0}
-unfolding is-word word-rule words-first words-first-sheet nullable first last follow part-positions positions-from positions first-from first-positions empty-match longer has-byte keep follows lower ended walk longest-match steps set-walk members-from members bytes-from held-in next-sets table-rows table-entries rule-or-none winner-in table-winners winning row-walk match-by-rows computing-sheet
+unfolding is-word word-rule words-first words-first-sheet nullable first last follow part-positions positions-from positions first-from first-positions empty-match longer has-byte keep follows lower ended walk longest-match steps set-walk members-from members bytes-from held-in next-sets table-rows table-entries rule-or-none winner-in table-winners written-over winning row-walk match-by-rows computing-sheet
 computing-lexer = tt

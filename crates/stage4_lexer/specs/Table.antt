@@ -2,11 +2,11 @@
 -- reached, rows in order, bytes rising". Its rows, entries and winners, from an image's positions and first set, and the longest match by
 -- rows. Which buffers hold the table, and when it is built, is not said here.
 use mathlib.Core.Bool.{cond}
-use mathlib.Core.List.{List, [], _∷_, map, flatMap}
+use mathlib.Core.List.{List, [], _∷_, _++_, map, flatMap}
 use mathlib.Core.Option.{Option, none, some}
 use Prim.Native.Nat.{ℕ, zero, suc, _+_, _*_, _^_}
 use lib.Dec.{eqb}
-use lib.ListN.{length, getD}
+use lib.ListN.{length, getD, drop}
 use Rattle.stage0_laws.specs.Meeting.{meet-rows, number-of}
 use Rattle.stage4_lexer.specs.Positions.{Position}
 use Rattle.stage4_lexer.specs.Match.{Match, no-match, longer}
@@ -58,6 +58,10 @@ winner-in ps row = cond (eqb row (start-row ps)) no-winner (rule-or-none (ended 
 
 unfoldable pub table-winners : List Position → ℕ → List ℕ
 table-winners ps first = map (winner-in ps) (table-rows ps first)
+
+-- "Entries past the last row keep what they held."
+unfoldable pub written-over : List ℕ → List ℕ → List ℕ
+written-over new buffer = new ++ drop (length new) buffer
 
 -- ---- the longest match by rows
 

@@ -37,11 +37,21 @@ unfolding bytes-from
 bytes-count b zero = refl
 bytes-count b (suc n) = ap suc (bytes-count (suc b) n)
 
-mapped-byte : (f : ℕ → ℕ) (b n i : ℕ) → i < n → getD (map f (bytes-from b n)) i 0 ≡ f (b + i)
+pub mapped-byte : (f : ℕ → ℕ) (b n i : ℕ) → i < n → getD (map f (bytes-from b n)) i 0 ≡ f (b + i)
 unfolding bytes-from
 mapped-byte f b zero i h = absurd (not-suc-le-zero h)
 mapped-byte f b (suc n) zero h = ap f (let z : b ≡ b + 0 = omega arith in z)
 mapped-byte f b (suc n) (suc i) h = mapped-byte f (suc b) n i (omega arith) ∙ ap f (let z : suc b + i ≡ b + suc i = omega arith in z)
+
+-- Rows of one width, one after the other.
+pub rows-length : (f : ℕ → List ℕ) (width : ℕ) → ((x : ℕ) → length (f x) ≡ width) → (l : List ℕ) → length (flatMap f l) ≡ length l * width
+unfolding flatMap
+rows-length f width same [] = omega arith
+rows-length f width same (x ∷ l) =
+    omega (arith, length-append (f x) (flatMap f l), same x, rows-length f width same l, suc-times (length l) width)
+  where
+    suc-times : (n w : ℕ) → suc n * w ≡ w + n * w
+    suc-times n w = omega arith
 
 -- The entries of a row stand together.
 row-at : (f : ℕ → List ℕ) (width : ℕ) → ((x : ℕ) → length (f x) ≡ width) → (l more : List ℕ) (r b : ℕ) → r < length l → b < width
@@ -79,6 +89,14 @@ pub start-held : (ps : List Position) (first : ℕ) → held-in ps first (start-
 unfolding held-in
 start-held ps first = rw (eq-eqb (start-row ps) (start-row ps) refl)
 
+pub start-winner : (ps : List Position) → winner-in ps (start-row ps) ≡ no-winner
+unfolding winner-in
+start-winner ps = rw (eq-eqb (start-row ps) (start-row ps) refl)
+
+pub set-winner : (ps : List Position) (x : ℕ) → x < start-row ps → winner-in ps x ≡ rule-or-none (ended ps 0 x)
+unfolding winner-in
+set-winner ps x h = rw (ne-eqb x (start-row ps) (λ e. absurd (omega arith)))
+
 pub kept-winner : (ps : List Position) (held b : ℕ) → winner-in ps (keep ps 0 held b) ≡ rule-or-none (ended ps 0 (keep ps 0 held b))
 unfolding winner-in
 kept-winner ps held b = rw (not-start ps held b)
@@ -91,7 +109,7 @@ mapped-member f b (suc n) (suc i) h =
     List·Memᴰ·tail (subst (λ (k : ℕ). List·Memᴰ (f k) (map f (bytes-from (suc b) n))) (let z : suc b + i ≡ b + suc i = omega arith in z)
     (mapped-member f (suc b) n i (omega arith)))
 
-power-some : (n : ℕ) → 0 < 2 ^ n
+pub power-some : (n : ℕ) → 0 < 2 ^ n
 power-some n = let l = lt-pow-self n in omega arith
 
 module _ (ps : List Position) (first : ℕ) where
@@ -156,12 +174,16 @@ module _ (ps : List Position) (first : ℕ) where
 
   -- ---- the entries and winners of a row
 
-  next-count : (x : ℕ) → length (next-sets ps first x) ≡ row-entries
+  pub next-count : (x : ℕ) → length (next-sets ps first x) ≡ row-entries
   unfolding next-sets
   next-count x = length-map (bytes-from 0 row-entries) (keep ps 0 (held-in ps first x)) ∙ bytes-count 0 row-entries
 
-  row-length : (x : ℕ) → length (map (number-of rows) (next-sets ps first x)) ≡ row-entries
+  pub row-length : (x : ℕ) → length (map (number-of rows) (next-sets ps first x)) ≡ row-entries
   row-length x = length-map (next-sets ps first x) (number-of rows) ∙ next-count x
+
+  pub entries-length : length (table-entries ps first) ≡ length rows * row-entries
+  unfolding table-entries
+  entries-length = rows-length (λ row. map (number-of rows) (next-sets ps first row)) row-entries row-length rows
 
   pub entry-at : (more : List ℕ) (x : ℕ) → Met x rows → (b : ℕ) → b < row-entries
       → getD (table-entries ps first ++ more) (number-of rows x * row-entries + b) 0 ≡ number-of rows (keep ps 0 (held-in ps first x) b)

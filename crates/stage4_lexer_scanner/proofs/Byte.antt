@@ -94,21 +94,25 @@ module _ (low high rule follow : List ℕ) (last : ℕ) where
     kept-high held b j h =
         keep-bit all-positions 0 held b j ∙ rw (having-above low high rule follow last b 0 count j h) (B.and-false (bit held j))
 
-    pub follows-kept : (held b : ℕ) → joined follow (members (keep all-positions 0 held b)) ≡ follows all-positions 0 (keep all-positions 0 held b)
+    -- The follow sets of a set's positions together, and the rule of the lowest that is last, where no position from the count on is in it.
+    pub follows-of : (kept : ℕ) → ((j : ℕ) → 0 + count ≤ j → bit kept j ≡ false) → joined follow (members kept) ≡ follows all-positions 0 kept
     unfolding members
-    follows-kept held b =
-        let kept = keep all-positions 0 held b in
-        ap (joined follow) (members-shorter kept 0 count 64 most (kept-high held b)) ∙ follows-members 0 count kept
+    follows-of kept high = ap (joined follow) (members-shorter kept 0 count 64 most high) ∙ follows-members 0 count kept
+
+    pub ended-of : (kept : ℕ) → ((j : ℕ) → 0 + count ≤ j → bit kept j ≡ false)
+        → first-entry rule (members (bitAnd kept last)) ≡ ended all-positions 0 kept
+    unfolding members
+    ended-of kept high =
+        ap (first-entry rule) (members-shorter (bitAnd kept last) 0 count 64 most (λ j h. bit-and kept last j ∙ rw (high j h)))
+        ∙ ended-members 0 count kept
+        ∙ sym (ended-first all-positions 0 (prepared .never-falling) 0 kept)
+
+    pub follows-kept : (held b : ℕ) → joined follow (members (keep all-positions 0 held b)) ≡ follows all-positions 0 (keep all-positions 0 held b)
+    follows-kept held b = follows-of (keep all-positions 0 held b) (kept-high held b)
 
     pub ended-kept : (held b : ℕ)
         → first-entry rule (members (bitAnd (keep all-positions 0 held b) last)) ≡ ended all-positions 0 (keep all-positions 0 held b)
-    unfolding members
-    ended-kept held b =
-        let kept = keep all-positions 0 held b in
-        ap (first-entry rule)
-        (members-shorter (bitAnd kept last) 0 count 64 most (λ j h. bit-and kept last j ∙ rw (kept-high held b j h)))
-        ∙ ended-members 0 count kept
-        ∙ sym (ended-first all-positions 0 (prepared .never-falling) 0 kept)
+    ended-kept held b = ended-of (keep all-positions 0 held b) (kept-high held b)
 
     pub leads-to : (held b kept : ℕ) (s : AfterByte) → b < 256 → kept ≡ bitAnd held (getD classes b 0) → kept < 2 ^ 64
         → s .held ≡ joined follow (set-walk kept) → rule-of (s .ended) ≡ first-entry rule (members (bitAnd kept last))

@@ -16,7 +16,7 @@ pub enum Found {
 }
 
 // The lowest rule of which a match ends with a byte.
-enum Ended {
+pub enum Ended {
     NoRule,
     Lowest(u8),
 }
@@ -45,7 +45,7 @@ fn lowest_first(set: u64) -> Step
 }
 
 // The follow sets of the kept positions, together, as the walk meets them: from the lowest position to the next, until none is left.
-fn follow_sets(kept: u64, follow: &[u64; 64]) -> u64
+pub fn follow_sets(kept: u64, follow: &[u64; 64]) -> u64
     ensures { λ r. ⌜ r ≡ joined (now (follow .entry)) (set-walk kept) ⌝ }
 {
     let mut next: u64 = 0;
@@ -60,7 +60,7 @@ fn follow_sets(kept: u64, follow: &[u64; 64]) -> u64
 }
 
 // The rule of the lowest position of a set: the lowest rule of all its positions, where rules never fall.
-fn lowest_rule(ending: u64, rule: &[u8; 64]) -> Ended
+pub fn lowest_rule(ending: u64, rule: &[u8; 64]) -> Ended
     ensures { λ r. ⌜ rule-of r ≡ first-entry (now (rule .entry)) (members ending) ⌝ }
 {
     if ending == 0 {

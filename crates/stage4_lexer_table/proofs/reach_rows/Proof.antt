@@ -1,0 +1,98 @@
+-- `reach_rows` meets its contract. The loop's invariant: the rows up to row i are done, and those met lead to all rows.
+use mathlib.Core.Path.{_≡_, refl}
+use mathlib.Core.Logic.{inl, inr}
+use Prim.Native.Nat.{_-_, _≤_}
+use native.Mathlib.Omega.{arith}
+use lib.ListN.{length}
+use Rattle.stage4_lexer_columns.specs.Held.{held-from}
+use Rattle.stage4_lexer_table.proofs.Reaching.{Reached, reached-start, reached-next, reached-end}
+use Rattle.stage4_lexer_table.proofs.reach_rows.Statement.{statement}
+use Rattle.stage4_lexer_table.proofs.reach_rows.Tie as tie
+
+abbrev Inv-loop : tie.InvT-loop
+Inv-loop count low high rule follow last first classes sets₀ met₀ i₀ sets met i =
+    (length sets ≡ 256) × (met ≤ 256)
+    × Reached (held-from low high rule follow last 0 count) first count sets met i
+
+abbrev μ-loop : tie.MeasureT-loop
+μ-loop count low high rule follow last first classes sets₀ met₀ i₀ sets met i = 256 - i
+
+meet-row-requires : tie.Need-meet-row-requires Inv-loop μ-loop
+meet-row-requires c κs = (refl, omega arith)
+
+loop-holds : tie.Need-loop-holds Inv-loop μ-loop
+loop-holds c =
+    let start = c .before .before in
+    let e = c .meet-row .ensures in (
+      e .0,
+      e .1,
+      reached-start _ _ _ _ _ (start .args .first) (start .args .count) (start .pre .0) _ (start .pre .1) _ _ _ refl refl
+          (λ so-far below m h. e .2 _ so-far below m h),
+    )
+
+mul-follow-sets : tie.Need-mul-follow-sets Inv-loop μ-loop
+mul-follow-sets c = omega arith
+
+array-read-follow-sets : tie.Need-array-read-follow-sets Inv-loop μ-loop
+array-read-follow-sets c = omega arith
+
+follow-sets-requires : tie.Need-follow-sets-requires Inv-loop μ-loop
+follow-sets-requires c κs = tt
+
+meet-row-requires-2 : tie.Need-meet-row-requires-2 Inv-loop μ-loop
+meet-row-requires-2 c κs = let l = c .before .before .before .before .loop in (l .inv .0, l .inv .1)
+
+add-i : tie.Need-add-i Inv-loop μ-loop
+add-i c = omega arith
+
+loop-less : tie.Need-loop-less Inv-loop μ-loop
+loop-less c = omega arith
+
+loop-again : tie.Need-loop-again Inv-loop μ-loop
+loop-again c =
+    let head = c .before .before .before .before .before in
+    let l = head .loop in
+    let start = head .before .before .before in
+    let e = c .meet-row2 .ensures in (
+      e .0,
+      e .1,
+      reached-next _ _ _ _ _ (start .args .first) (start .args .count) (start .pre .0) _ (start .pre .1) (l .sets) _ (l .met) _ (l .i)
+          (omega (arith, l .inv .0, l .inv .1)) (c .before .before .before .before .loop-test .taken) (c .before .before .before .if1 .left) (l .inv .2)
+          _ (c .before .before .follow-sets .ensures) (λ so-far below m h. e .2 _ so-far below m h),
+    )
+
+returns : tie.Need-returns Inv-loop μ-loop
+returns c =
+    let l = c .before .loop in
+    let start = c .before .before .before .before in (
+      l .inv .1,
+      reached-end _ _ _ _ _ (start .args .first) (start .args .count) (start .pre .0) _ (start .pre .1) (l .sets) (l .met) (l .i)
+          (omega (arith, l .inv .0, l .inv .1)) (inl (c .loop-test .left)) (l .inv .2),
+    )
+
+returns-2 : tie.Need-returns-2 Inv-loop μ-loop
+returns-2 c =
+    let l = c .before .before .loop in
+    let start = c .before .before .before .before .before in (
+      l .inv .1,
+      reached-end _ _ _ _ _ (start .args .first) (start .args .count) (start .pre .0) _ (start .pre .1) (l .sets) (l .met) (l .i)
+          (omega (arith, l .inv .0, l .inv .1)) (inr (c .if1 .taken)) (l .inv .2),
+    )
+
+pub reach-rows-spec : {M : Type 1} → statement M
+reach-rows-spec =
+    tie.close
+    (tie.spec
+    Inv-loop
+    μ-loop
+    meet-row-requires
+    loop-holds
+    mul-follow-sets
+    array-read-follow-sets
+    follow-sets-requires
+    meet-row-requires-2
+    add-i
+    loop-less
+    loop-again
+    returns
+    returns-2)
