@@ -3,6 +3,8 @@ pub mod Answer
 pub mod Turn
 pub mod Run
 pub mod Runs
+pub mod TableRun
+pub mod TableRuns
 pub mod OwnAnswer
 pub mod Lexes
 pub mod Computing
@@ -16,4 +18,5 @@ pub mod TakingLaws
 pub mod RunAnswers
 pub mod FaithfulImage
 pub mod StackLaws
+pub mod TableRunLaws
 pub mod Examples

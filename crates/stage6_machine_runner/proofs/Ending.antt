@@ -1,42 +1,14 @@
--- No run of a readable image ends with 12 or 13, so that the stack ends all zero.
-use mathlib.Core.Path.{_≡_, refl, sym, ap, subst, _∙_}
-use mathlib.Core.Bool.{Bool, true, false, _||_, cond}
-use mathlib.Core.List.{List, [], _∷_}
+-- Each way in which a run ends, as the definition has it, and that 12 and 13 leave the stack.
+use mathlib.Core.Path.{_≡_, ap, _∙_}
+use mathlib.Core.List.{List}
 use Prim.Native.Nat.{ℕ, _≤_, _<_}
-use native.Mathlib.Omega.{arith}
-use lib.Dec.{ltb, eqb}
-use lib.ListN.{length, replicate}
+use lib.ListN.{length}
 use borrow.Author.Tests.{lt-ltb, le-ltb}
 use Rattle.stage1_sheet.specs.Field.{stop, got}
 use Rattle.stage5_image.specs.Image.{Image}
 use Rattle.stage5_image.specs.ImageReading.{read-image}
 use Rattle.stage6_machine.specs.Answer.{Answer, answer}
 use Rattle.stage6_machine.specs.Run.{run-from, first-state, run-image, run-reading, run, stack-after}
-use Rattle.stage6_machine.specs.Runs.{RunsFrom, nullable-at-end, pending-at-end, nothing-matched, rule-skipped, rule-untaken, stack-overflowed, rule-taken}
-use Rattle.stage6_machine.specs.RunsLaws.{start-runs}
-
--- The answer is one after which the stack is cleared.
-abbrev Clears : Answer → Type 0
-Clears a = (eqb (a .number) 12 || eqb (a .number) 13) ≡ false
-
-from-clears : {i : Image} {text : List ℕ} {entries p : ℕ} {l : List ℕ} {count : ℕ} {a : Answer} → RunsFrom i text entries p l count a → Clears a
-from-clears (nullable-at-end e n) = refl
-from-clears (pending-at-end e n) = refl
-from-clears (nothing-matched l m) = refl
-from-clears (rule-skipped rule n l m k r) = from-clears r
-from-clears (rule-untaken rule n l m k t) = refl
-from-clears (stack-overflowed rule n next l m k t o) = refl
-from-clears (rule-taken rule n next l m k t o r) = from-clears r
-
-image-clears : (i : Image) (entries : ℕ) (text : List ℕ) → Clears (run-image i entries text)
-unfolding run-image
-image-clears i entries text = by-test (ltb entries 1)
-  where
-    by-test : (b : Bool) → Clears (cond b (answer 17 0 0) (run-from i entries text (length text) first-state))
-    by-test true = refl
-    by-test false = from-clears (start-runs i text entries)
-
--- ---- the whole run
 
 module _ (i : Image) (entries : ℕ) (text : List ℕ) where
   pub run-no-entry : entries < 1 → answer 17 0 0 ≡ run-image i entries text
@@ -71,10 +43,3 @@ stack-kept-12 a stack e = rw e
 pub stack-kept-13 : (a : Answer) (place : ℕ) (stack : List ℕ) → a ≡ answer 13 place 0 → stack ≡ stack-after a stack
 unfolding stack-after
 stack-kept-13 a place stack e = rw e
-
-pub stack-cleared : (i : Image) (entries : ℕ) (text : List ℕ) (a : Answer) (stack : List ℕ) → a ≡ run-image i entries text
-    → replicate (length stack) 0 ≡ stack-after a stack
-unfolding stack-after
-stack-cleared i entries text a stack e =
-    let c : Clears a = subst Clears (sym e) (image-clears i entries text) in
-    rw c

@@ -37,6 +37,24 @@ pub record Going (i : Image) (bytes : List ℕ) (t : ImageTables) (text stack : 
   pub same : run-from i (length stack) text turns (state-held stack s) ≡ whole
   pub ready : Ready bytes (t .productions) (t .empty) (i .rows) (t .nonterminals) stack (s .depth)
 
+-- What the scanner sees of a text is the rest from the place on.
+pub rest-of : (text : List ℕ) (p : ℕ) → take (length text - p) (drop p text) ≡ drop p text
+rest-of text p = take-all (length text - p) (drop p text) (simp length-drop (omega arith))
+
+-- What it finds over the tables is the image's longest match.
+pub scanned : (i : Image) (bytes : List ℕ) (t : ImageTables) → Decoded bytes t i → (text : List ℕ) (p : ℕ) (f : Found)
+    → let c = t .positions in
+    match-of f ≡ longest-match (held-from (c .low) (c .high) (c .rule) (c .follow) (c .last) 0 (c .count)) (c .first)
+    (take (length text - p) (drop p text))
+    → match-of f ≡ match-at i text p
+unfolding held-positions
+scanned i bytes t decoded text p f e =
+    let part = take (length text - p) (drop p text) in
+    e
+    ∙ ap (λ (ps : List Position). longest-match ps (t .positions .first) part) (decoded .positions)
+    ∙ ap (λ (k : ℕ). longest-match (i .positions) k part) (decoded .first)
+    ∙ ap (λ (l : List ℕ). longest-match (i .positions) (i .first) l) (rest-of text p)
+
 -- At the start: 0 alone is pending.
 going-start : (i : Image) (bytes : List ℕ) (t : ImageTables) → Decoded bytes t i → (text stack : List ℕ) → getD stack 0 0 ≡ 0
     → 1 ≤ length stack
@@ -78,28 +96,10 @@ module _ (i : Image) (bytes : List ℕ) (t : ImageTables) (decoded : Decoded byt
       ∙ going .same
 
   module _ (more : s .place < length text) (f : Found) where
-    -- The scanner's answer over the tables and the rest of the text.
-    abbrev Scanned : Type 0
-    Scanned =
-        let c = t .positions in
-        match-of f ≡ longest-match (held-from (c .low) (c .high) (c .rule) (c .follow) (c .last) 0 (c .count)) (c .first)
-        (take (length text - s .place) (drop (s .place) text))
-
-    -- It is the image's longest match.
-    scanned : Scanned → match-of f ≡ match-at i text (s .place)
-    unfolding held-positions
-    scanned e =
-        let part = take (length text - s .place) (drop (s .place) text) in
-        let rest : part ≡ drop (s .place) text = take-all (length text - s .place) (drop (s .place) text) (simp length-drop (omega arith)) in
-        e
-        ∙ ap (λ (ps : List Position). longest-match ps (t .positions .first) part) (decoded .positions)
-        ∙ ap (λ (k : ℕ). longest-match (i .positions) k part) (decoded .first)
-        ∙ ap (λ (l : List ℕ). longest-match (i .positions) (i .first) l) rest
-
     -- The match is not empty, lies within the text, and its rule is one of the image's.
-    pub going-fits : Scanned → length text < 18446744073709551616 → MatchFits f s
+    pub going-fits : match-of f ≡ match-at i text (s .place) → length text < 18446744073709551616 → MatchFits f s
     unfolding match-of
-    going-fits e small = by-match f (scanned e)
+    going-fits e small = by-match f e
       where
         by-match : (g : Found) → match-of g ≡ match-at i text (s .place) → MatchFits g s
         by-match found.Nothing e = tt
@@ -109,13 +109,13 @@ module _ (i : Image) (bytes : List ℕ) (t : ImageTables) (decoded : Decoded byt
             let l = length-drop (s .place) text in
             (omega (arith, r, decoded .most-rules), omega (arith, w .1, l, more, small), omega (arith, w .0, going .counted))
 
-    module _ (e : Scanned) (fits : MatchFits f s) where
+    module _ (e : match-of f ≡ match-at i text (s .place)) (fits : MatchFits f s) where
       -- The machine's turn in the text, and a turn more.
       turned : (x : machine.Turn) → machine.turn i (length stack) (match-of f) now-state ≡ x
           → text-turn i (length stack) text now-state ≡ x
       turned x g =
           turn-before-end i (length stack) text now-state more
-          ∙ sym (ap (λ m. machine.turn i (length stack) m now-state) (scanned e)) ∙ g
+          ∙ sym (ap (λ m. machine.turn i (length stack) m now-state) e) ∙ g
 
       present : run-from i (length stack) text (suc (going .turns - 1)) now-state ≡ whole
       present =

@@ -8,7 +8,8 @@ use Rattle.stage0_buffers.specs.Cleared.{cleared-all}
 use Rattle.stage5_image.specs.ReadableImages.{read-in-range}
 use Rattle.stage6_machine_turn.specs.Steps.{answer-held}
 use Rattle.stage6_machine_runner.proofs.Ending.{run-too-long, run-unreadable, run-readable}
-use Rattle.stage6_machine_runner.proofs.Ending.{stack-kept-12, stack-kept-13, stack-cleared}
+use Rattle.stage6_machine_runner.proofs.Ending.{stack-kept-12, stack-kept-13}
+use Rattle.stage6_machine.specs.StackLaws.{stack-cleared}
 use borrow.Author.Needs.{needs}
 use Rattle.stage6_machine_runner.proofs.run.Statement.{statement}
 use Rattle.stage6_machine_runner.proofs.run.Tie as tie

@@ -8,12 +8,13 @@ use lib.Seq.{getD-set-same}
 use denote.Ref.{now}
 use Rattle.stage5_image.specs.Image.{Image}
 use Rattle.stage5_image_reader.specs.Decoded.{Decoded}
-use Rattle.stage6_machine.specs.Run.{run-from, first-state}
+use Rattle.stage4_lexer_scanner.specs.Meaning.{match-of}
+use Rattle.stage6_machine.specs.Run.{match-at, run-from, first-state}
 use Rattle.stage6_machine_turn.specs.Steps.{answer-held, turn-step, MatchFits}
 use Rattle.stage6_machine_turn.specs.declared.Turn.the-variants.{Next, Done}
 use Rattle.stage6_machine_turn.specs.StackLaws.{ready-entries}
 use Rattle.stage6_machine_runner.proofs.Prepared.{low-high, prepared}
-use Rattle.stage6_machine_runner.proofs.Turns.{Going, going-first, going-ends, going-fits, going-done, going-next}
+use Rattle.stage6_machine_runner.proofs.Turns.{Going, scanned, going-first, going-ends, going-fits, going-done, going-next}
 use Rattle.stage6_machine_runner.proofs.Ending.{run-no-entry, run-some-entry}
 use Rattle.stage6_machine_runner.proofs.run_image.Statement.{statement}
 use Rattle.stage6_machine_runner.proofs.run_image.Tie as tie
@@ -29,7 +30,18 @@ abbrev μ-loop : tie.MeasureT-loop
 
 -- ---- what is known within a turn, for any image that the tables hold
 
--- What was found fits the state.
+-- What was found is the image's longest match.
+found-here : (c : tie.After-longest-match Inv-loop μ-loop) (i : Image)
+    → let head = c .before .before .before .before .before .before .before .before .before .before in
+    let start = head .before .before .before .before .before .before .before .before .before .before .before in
+    Decoded (now (start .args .image)) (start .args .t2) i
+    → match-of (c .longest-match .result) ≡ match-at i (now (start .args .text)) (head .loop .state .place)
+found-here c i d =
+    let head = c .before .before .before .before .before .before .before .before .before .before in
+    let a = head .before .before .before .before .before .before .before .before .before .before .before .args in
+    scanned i (now (a .image)) (a .t2) d (now (a .text)) (head .loop .state .place) (c .longest-match .result) (c .longest-match .ensures)
+
+-- It fits the state.
 fits-here : (c : tie.After-longest-match Inv-loop μ-loop) (i : Image)
     → let head = c .before .before .before .before .before .before .before .before .before .before in
     let start = head .before .before .before .before .before .before .before .before .before .before .before in
@@ -42,7 +54,7 @@ fits-here c i d =
     let more : l .state .place < length text = c .before .before .before .before .before .before .before .before .if2 .taken in
     let small : length text < 18446744073709551616 = omega arith in
     going-fits i (now (start .args .image)) (start .args .t2) d text (l .stack) (l .state) _ (l .inv .1 i d) more
-    (c .longest-match .result) (c .longest-match .ensures) small
+    (c .longest-match .result) (found-here c i d) small
 
 -- The state after the turn.
 next-here : (c : tie.After-after2 Inv-loop μ-loop) (i : Image)
@@ -69,7 +81,7 @@ next-here c i d =
     let e : turn-step (now (start .args .image)) (t .productions) (t .empty) (t .skips) (l .stack) (scan .longest-match .result) (l .state) .outcome
     ≡ Next (c .after2 .given .0 .0) = sym (turn .one-turn .ensures .0) ∙ c .after2 .given .1 in
     going-next i (now (start .args .image)) (start .args .t2) d text (l .stack) (l .state) _ (l .inv .1 i d) more
-    (scan .longest-match .result) (scan .longest-match .ensures) (fits-here scan i d) _ (c .after2 .given .0 .0)
+    (scan .longest-match .result) (found-here scan i d) (fits-here scan i d) _ (c .after2 .given .0 .0)
     (turn .one-turn .kept .1 .1 .1 .1 .0) (turn .one-turn .ensures .1) e
 
 answer-requires : tie.Need-answer-requires Inv-loop μ-loop
@@ -151,7 +163,7 @@ returns-2 c =
     ≡ Done (c .before .after .given .0 .0) = sym (turn .one-turn .ensures .0) ∙ c .before .after .given .1 in
     λ i d.
     let g = going-done i (now (start .args .image)) (start .args .t2) d text (l .stack) (l .state) _ (l .inv .1 i d) more
-    (scan .longest-match .result) (scan .longest-match .ensures) (fits-here scan i d) (c .before .after .given .0 .0) e in
+    (scan .longest-match .result) (found-here scan i d) (fits-here scan i d) (c .before .after .given .0 .0) e in
     run-some-entry i _ _ _ (length-set (now (start .args .stack)) 0 0) (head .before .before .before .before .before .before .before .if1 .left) _ g
 
 enum-known-after-2 : tie.Need-enum-known-after-2 Inv-loop μ-loop
