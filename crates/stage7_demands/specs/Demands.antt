@@ -3,8 +3,9 @@
 --   `stage5_image_checker`: `check` answers `check`, and leaves `work-after`;
 --   `stage5_image_compiler`: `write` answers `write`, and leaves `image-after` and `work-after`;
 --   `stage6_machine_runner`: `run` answers `run`, and leaves `stack-after`;
+--   `stage6_machine_table`: `run_table` answers `run-table`, and leaves `table-after`, `winners-after` and `table-stack-after`;
 --   `stage7_engine`: `read_text` has `OwnAnswer` itself in its contract, and all three buffers; so has `program_line`, with its own buffers;
---   `vinzagew`: `sheet_check`, `sheet_write` and `image_run` hand on the first three.
+--   `vinzagew`: `sheet_check`, `sheet_write`, `image_run` and `image_run_table` hand on the first four.
 use mathlib.Core.Path.{_≡_}
 use mathlib.Core.List.{List, [], _++_}
 use mathlib.Core.Logic.{_↔_, _⊎_}
@@ -16,7 +17,8 @@ use Rattle.stage1_sheet.specs.WellFormed.{Spells}
 use Rattle.stage1_sheet.specs.Spelling.{Bytes}
 use Rattle.stage1_sheet.specs.Twins.{Twins, SamePlace}
 use Rattle.stage4_lexer.specs.RuleOrder.{WordsAbove}
-use Rattle.stage5_image.specs.Image.{plain-image, image-of}
+use Rattle.stage4_lexer.specs.Table.{most-rows}
+use Rattle.stage5_image.specs.Image.{Image, plain-image, image-of}
 use Rattle.stage5_image.specs.ImageFields.{ReadableAs}
 use Rattle.stage5_image.specs.Unfolding.{StartUnfolds, DenotedRules}
 use Rattle.stage5_image.specs.Check.{work-bytes, Verdict, failed, passed, CheckAnswer}
@@ -28,6 +30,8 @@ use Rattle.stage6_machine.specs.Run.{most-text-bytes, long-enough}
 use Rattle.stage6_machine.specs.OwnAnswer.{OwnAnswer, OwnAnswerByNumber}
 use Rattle.stage6_machine.specs.Lexes.{ReadingChanges}
 use Rattle.stage6_machine.specs.Runs.{Runs}
+use Rattle.stage6_machine.specs.TableRun.{lent-entries, rows-of, entries-of, winners-of}
+use Rattle.stage6_machine.specs.TableRuns.{RunsTable}
 
 -- What checking, writing and running answer, and what the lent buffers hold at the end, as functions of all that is handed over. Checking
 -- and writing leave the work area alike, whatever they answer: by the one `work-after`.
@@ -41,10 +45,15 @@ pub record Functions : Type 0 where
   pub work-after : List ℕ → List ℕ
   pub run : List ℕ → List ℕ → ℕ → Answer
   pub stack-after : Answer → List ℕ → List ℕ
+  -- With a table: of image, text and the lengths of table, winners and stack; and of image, text, table and winners as they were lent.
+  pub run-table : List ℕ → List ℕ → ℕ → ℕ → ℕ → Answer
+  pub table-after : List ℕ → List ℕ → List ℕ → List ℕ → List ℕ
+  pub winners-after : List ℕ → List ℕ → List ℕ → List ℕ → List ℕ
+  pub table-stack-after : List ℕ → List ℕ → List ℕ → List ℕ → List ℕ → List ℕ
 
 -- Demand 1. "A caller may hand over any sheet, image, text and buffers, of any length and content, and always gets an answer that
 -- document 01 fixes: a result, or the number and place of the first question that fails, and what every lent buffer then holds."
--- The answers are those of three relations in the page's terms, which have one answer each.
+-- The answers are those of four relations in the page's terms, which have one answer each.
 pub record Demand1 (f : Functions) : Type 0 where
   pub checking : (sheet : List ℕ) → Bytes sheet → (work : ℕ) → Checks sheet work (f .check sheet work)
   pub one-verdict : (sheet : List ℕ) → Bytes sheet → (work : ℕ) (u v : Verdict) → Checks sheet work u → Checks sheet work v → u ≡ v
@@ -80,6 +89,29 @@ pub record Demand1 (f : Functions) : Type 0 where
   pub stack-untouched : (a : Answer) (stack : List ℕ) → (a .number ≡ 12) ⊎ (a .number ≡ 13) → f .stack-after a stack ≡ stack
   pub stack-zero : (a : Answer) (stack : List ℕ) → (a .number ≡ 12 → ⊥) → (a .number ≡ 13 → ⊥)
       → f .stack-after a stack ≡ replicate (length stack) 0
+  -- Running with a table.
+  pub table-running : (image text : List ℕ) → Bytes image → (table winners entries : ℕ)
+      → RunsTable image text table winners entries (f .run-table image text table winners entries)
+  pub one-table-answer : (image text : List ℕ) → Bytes image → (table winners entries : ℕ) (a b : Answer)
+      → RunsTable image text table winners entries a → RunsTable image text table winners entries b → a ≡ b
+  -- "Unless 18 or 19 is given, the answer and the final stack are those of a run without a table", for every image, readable or not.
+  pub as-without-table : (image text table winners stack : List ℕ)
+      → let a = f .run-table image text (length table) (length winners) (length stack) in
+      (a .number ≡ 18 → ⊥) → (a .number ≡ 19 → ⊥)
+      → (a ≡ f .run image text (length stack))
+      × (f .table-stack-after image text table winners stack ≡ f .stack-after (f .run image text (length stack)) stack)
+  -- "after these [18 and 19], 12 and 13 the stack and both buffers are untouched"
+  pub turned-away : (image text table winners stack : List ℕ)
+      → let a = f .run-table image text (length table) (length winners) (length stack) in
+      ((a .number ≡ 18) ⊎ (a .number ≡ 19)) ⊎ ((a .number ≡ 12) ⊎ (a .number ≡ 13))
+      → (f .table-after image text table winners ≡ table) × (f .winners-after image text table winners ≡ winners)
+      × (f .table-stack-after image text table winners stack ≡ stack)
+  -- "Each run builds the table before it reads the text. Entries past the last row keep what they held.": whatever the text brings.
+  pub table-built : (image text table winners stack : List ℕ) → Bytes image → lent-entries ≤ length table → most-rows ≤ length winners
+      → length text ≤ most-text-bytes → (i : Image) → ReadableAs image i → length (rows-of i) ≤ most-rows
+      → (f .table-after image text table winners ≡ entries-of i ++ drop (length (entries-of i)) table)
+      × (f .winners-after image text table winners ≡ winners-of i ++ drop (length (winners-of i)) winners)
+      × (f .table-stack-after image text table winners stack ≡ replicate (length stack) 0)
 
 -- Demand 2. "Given the work area that document 01 names, a sheet is accepted exactly if it is well formed, no lexer rule matches the
 -- empty text, its expression has a type under the published typing rules, and the image fits. The image is then the one normal
@@ -134,6 +166,11 @@ pub record Demand3 (f : Functions) : Type 0 where
       → (text : List ℕ) (entries : ℕ) → length text ≤ most-text-bytes → long-enough text ≤ entries
       → OwnAnswer s text (f .run image text entries)
   pub exactly : (s : Sheet) (text : List ℕ) (a b : Answer) → OwnAnswer s text a → OwnAnswer s text b → a ≡ b
+  -- So it is of runs with a table that meet neither 18 nor 19.
+  pub own-answer-by-table : (sheet : List ℕ) → Bytes sheet → (work room : ℕ) (image : List ℕ) → f .write sheet work room ≡ written image
+      → (s : Sheet) → Spells sheet s
+      → (text : List ℕ) (entries : ℕ) → length text ≤ most-text-bytes → long-enough text ≤ entries → (table winners : ℕ)
+      → let a = f .run-table image text table winners entries in (a .number ≡ 18 → ⊥) → (a .number ≡ 19 → ⊥) → OwnAnswer s text a
   -- "A reading changes only where a non-word rule stood above a word rule and both matched equally far": with the lowest rule picked, as it
   -- was, there is an own answer, and running gives it or such a place is reached. There is no other (`stage6_machine` OwnAnswerLaws:
   -- `by-number-one`). Of one place: `stage4_lexer` OrderedMatches: `match-changes-only`.

@@ -1,5 +1,5 @@
 -- The demands hold: their parts put together.
-use mathlib.Core.Path.{_≡_, refl, sym, subst}
+use mathlib.Core.Path.{_≡_, refl, sym, ap, subst}
 use mathlib.Core.Bool.{Bool, true, false, cond, _||_}
 use mathlib.Core.List.{List, _++_}
 use mathlib.Core.Logic.{_↔_, _⊎_, ⊎-elim}
@@ -36,7 +36,9 @@ use Rattle.stage6_machine.specs.Answer.{Answer}
 use Rattle.stage6_machine.specs.Run.{most-text-bytes, run, long-enough, stack-after}
 use Rattle.stage6_machine.specs.Runs.{Runs, long-text, unreadable, no-entry, started}
 use Rattle.stage6_machine.specs.RunsLaws.{run-runs, runs-one}
-use Rattle.stage6_machine.specs.StackLaws.{stack-untouched-12, stack-untouched-13, stack-zero}
+use Rattle.stage6_machine.specs.StackLaws.{stack-untouched-12, stack-untouched-13, stack-zero, turns-away}
+use Rattle.stage6_machine.specs.TableRun.{beginning, run-table, table-after, winners-after, table-stack-after}
+use Rattle.stage6_machine.specs.TableRunLaws.{table-answer, run-table-runs, table-runs-one, buffers-untouched, buffers-built, table-stack}
 use Rattle.stage6_machine.specs.OwnAnswer.{OwnAnswer, OwnAnswerByNumber}
 use Rattle.stage6_machine.specs.Lexes.{ReadingChanges}
 use Rattle.stage6_machine.specs.OrderedAnswers.{ordered-answer, answer-changes-only}
@@ -57,6 +59,10 @@ cited = record {
   work-after = work-after;
   run = run;
   stack-after = stack-after;
+  run-table = run-table;
+  table-after = λ image text table winners. table-after (beginning image text (length table) (length winners)) table;
+  winners-after = λ image text table winners. winners-after (beginning image text (length table) (length winners)) winners;
+  table-stack-after = λ image text table winners stack. table-stack-after (beginning image text (length table) (length winners)) stack;
 }
 
 -- ---- demand 1
@@ -75,6 +81,10 @@ image-kept sheet work buffer = go (write sheet work (length buffer)) refl
 stack-untouched : (a : Answer) (stack : List ℕ) → (a .number ≡ 12) ⊎ (a .number ≡ 13) → stack-after a stack ≡ stack
 stack-untouched a stack h = ⊎-elim (stack-untouched-12 a stack) (stack-untouched-13 a stack) h
 
+turned-number : (n : ℕ) → ((n ≡ 18) ⊎ (n ≡ 19)) ⊎ ((n ≡ 12) ⊎ (n ≡ 13)) → turns-away n ≡ true
+turned-number n h =
+    ⊎-elim (λ k. ⊎-elim (λ e. ap turns-away e) (λ e. ap turns-away e) k) (λ k. ⊎-elim (λ e. ap turns-away e) (λ e. ap turns-away e) k) h
+
 pub demand-1 : Demand1 cited
 demand-1 = record {
   checking = λ sheet bytes work. check-answers sheet work bytes;
@@ -92,6 +102,14 @@ demand-1 = record {
   work-cleared = work-cleared;
   stack-untouched = stack-untouched;
   stack-zero = stack-zero;
+  table-running = λ image text bytes table winners entries. run-table-runs image text table winners entries bytes;
+  one-table-answer = λ image text bytes table winners entries a b. table-runs-one image text table winners entries bytes;
+  as-without-table = λ image text table winners stack m n. (
+    table-answer image text (length table) (length winners) (length stack) m n,
+    table-stack image text table winners stack m n,
+  );
+  turned-away = λ image text table winners stack h. buffers-untouched image text table winners stack (turned-number _ h);
+  table-built = λ image text table winners stack bytes. buffers-built image text table winners stack bytes;
 }
 
 -- ---- demand 2
@@ -188,6 +206,16 @@ run-own-answer sheet bytes work room image e s spells text entries short long =
     runs-own sheet bytes work room image e s spells text entries short long (run image text entries)
     (run-runs image text entries (subst Bytes (sym written) (image-are-bytes (image-of s))))
 
+-- With a table it is the same answer.
+table-own-answer : (sheet : List ℕ) → Bytes sheet → (work room : ℕ) (image : List ℕ) → write sheet work room ≡ written image
+    → (s : Sheet) → Spells sheet s
+    → (text : List ℕ) (entries : ℕ) → length text ≤ most-text-bytes → long-enough text ≤ entries → (table winners : ℕ)
+    → (run-table image text table winners entries .number ≡ 18 → ⊥) → (run-table image text table winners entries .number ≡ 19 → ⊥)
+    → OwnAnswer s text (run-table image text table winners entries)
+table-own-answer sheet bytes work room image e s spells text entries short long table winners m n =
+    subst (OwnAnswer s text) (sym (table-answer image text table winners entries m n))
+    (run-own-answer sheet bytes work room image e s spells text entries short long)
+
 run-changes-only : (sheet : List ℕ) → Bytes sheet → (work room : ℕ) (image : List ℕ) → write sheet work room ≡ written image
     → (s : Sheet) → Spells sheet s
     → (text : List ℕ) → length text ≤ most-text-bytes → (entries : ℕ) → long-enough text ≤ entries
@@ -203,4 +231,9 @@ run-changes-only sheet bytes work room image e s spells text short entries long 
     )
 
 pub demand-3 : Demand3 cited
-demand-3 = record { own-answer = run-own-answer; exactly = λ s text a b. own-answer-one s text; changes-only = run-changes-only }
+demand-3 = record {
+  own-answer = run-own-answer;
+  exactly = λ s text a b. own-answer-one s text;
+  own-answer-by-table = table-own-answer;
+  changes-only = run-changes-only;
+}

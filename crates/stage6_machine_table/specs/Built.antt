@@ -1,0 +1,26 @@
+-- Two buffers hold the table of an image: "65,536 two-byte entries .. and 256 more", the table's rows at their front.
+use mathlib.Core.Path.{_≡_}
+use mathlib.Core.List.{List, _++_}
+use Prim.Native.Nat.{ℕ, _≤_}
+use lib.ListN.{length}
+use Rattle.stage4_lexer.specs.Table.{most-rows}
+use Rattle.stage5_image.specs.Image.{Image}
+use Rattle.stage5_image.specs.ImageRanges.{InRange}
+use Rattle.stage5_image_reader.specs.Decoded.{Decoded}
+use Rattle.stage5_image_reader.specs.declared.ImageTables.{ImageTables}
+use Rattle.stage6_machine.specs.TableRun.{lent-entries, rows-of, entries-of, winners-of}
+
+pub record Built (i : Image) (table winners : List ℕ) : Type 0 where
+  pub few-rows : length (rows-of i) ≤ most-rows
+  pub long-table : lent-entries ≤ length table
+  pub long-winners : most-rows ≤ length winners
+  pub more : List ℕ
+  pub entries : table ≡ entries-of i ++ more
+  pub rest : List ℕ
+  pub row-winners : winners ≡ winners-of i ++ rest
+
+-- All that a run by rows relies on: the image that the machine's tables hold, which is a readable one, and its table.
+pub record WithTable (bytes : List ℕ) (tables : ImageTables) (table winners : List ℕ) (i : Image) : Type 0 where
+  pub decoded : Decoded bytes tables i
+  pub in-range : InRange i
+  pub built : Built i table winners

@@ -1,0 +1,2 @@
+-- What two buffers hold once an image's table is built.
+pub mod Built
