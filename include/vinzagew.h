@@ -1,7 +1,7 @@
 /*
  * Vinzagew: a proved grammar compiler, and the machine that reads by its images.
  *
- * The functions of the static library libvinzagew.a. Their contract is document 01 with requests 1 to 5
+ * The functions of the static library libvinzagew.a. Their contract is document 01 with requests 1 to 6
  * of document 02; the numbers and places below are the contract's.
  *
  * A sheet and an image are numbers in groups of seven bits, lowest group first, one byte a group, with
@@ -14,9 +14,9 @@
  * wins over any other, and of two of a kind that of the lower rule in the sheet. A word rule has only
  * empty words, sequences and classes with low = high in its regex, whether it skips or not.
  *
- * Every buffer is a pointer to its first byte (or number) and a length. All buffers must be valid for
- * their length, pointers must not be null (any address that is not null will do for a length of 0),
- * and no buffer that is written to may overlap another. No function keeps a pointer.
+ * Every buffer is a pointer to its first byte (or number) and a length, in bytes (or numbers). All buffers
+ * must be valid for their length, pointers must not be null (any address that is not null will do for a
+ * length of 0), and no buffer that is written to may overlap another. No function keeps a pointer.
  */
 #ifndef VINZAGEW_H
 #define VINZAGEW_H
@@ -49,6 +49,15 @@ extern "C" {
 /* The length of a stack that is enough for every text of n bytes: 1 + 31 times n. */
 #define VINZAGEW_STACK_LENGTH(n) (1 + (VINZAGEW_TAIL_LIMIT - 1) * (size_t)(n))
 
+/* The entries that the table must have at least: at row times 256 plus byte stands the next row. */
+#define VINZAGEW_TABLE_ENTRIES 65536
+
+/* The entries that the buffer for the winners must have at least, one for each row. */
+#define VINZAGEW_WINNER_ENTRIES 256
+
+/* The winner of a row in which no rule wins. A rule's number is less. */
+#define VINZAGEW_NO_WINNER 32
+
 /* The numbers: 0 for success, otherwise the question that was answered with no. */
 #define VINZAGEW_SUCCESS 0           /* passed, written or accepted */
 #define VINZAGEW_WORK_TOO_SHORT 1    /* the work area has fewer than 65,536 bytes */
@@ -68,6 +77,8 @@ extern "C" {
 #define VINZAGEW_NOT_TAKEN 15        /* no pending nonterminal takes the token */
 #define VINZAGEW_ENDS_EARLY 16       /* at the end, a pending nonterminal is not nullable */
 #define VINZAGEW_STACK_TOO_SHORT 17  /* the stack does not hold all pending nonterminals */
+#define VINZAGEW_TABLE_TOO_SHORT 18  /* `table` has fewer than 65,536 entries, or `winners` fewer than 256 */
+#define VINZAGEW_TOO_MANY_ROWS 19    /* the image's table would have more than 256 rows */
 
 /*
  * Checks a sheet: questions 1 to 10, without an image buffer.
@@ -120,6 +131,29 @@ void image_run(const uint8_t *image, size_t image_len,
                const uint8_t *text, size_t text_len,
                uint8_t *stack, size_t stack_len,
                uint64_t *out, size_t out_len);
+
+/*
+ * Runs an image over a text with a table. It is meant for long texts: every run builds its table before it
+ * reads the text, and then looks up one entry for each byte.
+ *
+ * out[0]  number, 0 or 12 to 19; the order of the questions is 18, 12, 13, 19, then as without a table
+ * out[1]  place: as without a table; of 18 and 19, 0
+ * out[2]  count: the tokens taken
+ *
+ * Unless 18 or 19 is given, the three numbers and what `stack` holds at the end are those of image_run. After
+ * 18, 12, 13 and 19 `stack`, `table` and `winners` are as they were. Otherwise the table stands in the first
+ * entries of both, also if the text is refused: for each row and each byte table[row * 256 + byte] is the next
+ * row, and winners[row] is the image's rule that wins if a match ends there, or VINZAGEW_NO_WINNER. Row 0 is the
+ * start, row 1 the empty set, then comes each set of positions that a byte may keep, in the order first
+ * reached, rows in order, bytes rising. Entries past the last row are as they were. Numbers of `out` past the
+ * third do not change. If out_len is below 3, nothing happens and nothing changes.
+ */
+void image_run_table(const uint8_t *image, size_t image_len,
+                     const uint8_t *text, size_t text_len,
+                     uint16_t *table, size_t table_len,
+                     uint16_t *winners, size_t winners_len,
+                     uint8_t *stack, size_t stack_len,
+                     uint64_t *out, size_t out_len);
 
 #ifdef __cplusplus
 }

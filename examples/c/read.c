@@ -2,10 +2,11 @@
  * Checks a sheet, and reads a text by it: read SHEET [TEXT]
  *
  * Checks the sheet in the first file. If it passes and a second file is named, writes the sheet's image
- * and runs it over the text in that file. Prints number, place and count: of the check if the sheet is
- * refused or no text is named, with count 0, otherwise of the run. The exit status is 0 if the sheet
- * passed and the text was accepted, 1 if the sheet or the text was refused, and 2, with nothing printed
- * but an error, if a file could not be read, there was no memory or the usage was wrong.
+ * and runs it over the text in that file: with a table, or without one if the table would have over 256
+ * rows, which gives the same. Prints number, place and count: of the check if the sheet is refused or no
+ * text is named, with count 0, otherwise of the run. The exit status is 0 if the sheet passed and the text
+ * was accepted, 1 if the sheet or the text was refused, and 2, with nothing printed but an error, if a file
+ * could not be read, there was no memory or the usage was wrong.
  *
  * A sheet for numbers between slashes, with its numbers in octal for printf: version and counts; the
  * rules for a number N, a slash S and a blank that is skipped; the expression, N and then any number
@@ -35,6 +36,19 @@
  *   ./read sheet text
  *
  * prints `0 7 2`.
+ *
+ * A sheet for a word of `a` and `b` whose eighth letter from the end is an `a`. The table of its image would
+ * have over 256 rows, so the text is read without one:
+ *
+ *   printf '\1\1\1' >sheet
+ *   printf '\1\2\4\1\141\142\2\1\141\141' >>sheet
+ *   for i in 1 2 3 4 5 6; do printf '\2\1\141\142' >>sheet; done
+ *   printf '\1\141\142' >>sheet
+ *   printf '\2\0' >>sheet
+ *   printf 'abababab' >text
+ *   ./read sheet text
+ *
+ * prints `0 8 1`.
  */
 #include <inttypes.h>
 #include <stdio.h>
@@ -47,6 +61,8 @@ static uint8_t sheet[VINZAGEW_SHEET_LIMIT + 1];
 static uint8_t text[VINZAGEW_TEXT_LIMIT + 1];
 static uint8_t work[VINZAGEW_WORK_BYTES];
 static uint8_t image[VINZAGEW_IMAGE_BYTES];
+static uint16_t table[VINZAGEW_TABLE_ENTRIES];
+static uint16_t winners[VINZAGEW_WINNER_ENTRIES];
 
 /* Reads at most `room` bytes of a file. */
 static size_t read_file(const char *name, uint8_t *bytes, size_t room)
@@ -67,6 +83,17 @@ static size_t read_file(const char *name, uint8_t *bytes, size_t room)
     return length;
 }
 
+/* Runs the image over a text, with a table if it has at most 256 rows: number, place and count. */
+static void run_image(size_t image_length, size_t text_length,
+                      uint8_t *stack, size_t stack_length, uint64_t out[3])
+{
+    image_run_table(image, image_length, text, text_length,
+                    table, VINZAGEW_TABLE_ENTRIES, winners, VINZAGEW_WINNER_ENTRIES,
+                    stack, stack_length, out, 3);
+    if (out[0] == VINZAGEW_TOO_MANY_ROWS)
+        image_run(image, image_length, text, text_length, stack, stack_length, out, 3);
+}
+
 /* Writes the image of a sheet that passes, and runs it over a text: number, place and count. */
 static void read_text(size_t sheet_length, size_t text_length, uint64_t out[3])
 {
@@ -80,7 +107,7 @@ static void read_text(size_t sheet_length, size_t text_length, uint64_t out[3])
     sheet_write(sheet, sheet_length, work, sizeof work, image, sizeof image, out, 3);
     /* With a shorter image buffer this might be 11, and the third number a length and no count. */
     if (out[0] == VINZAGEW_SUCCESS)
-        image_run(image, out[2], text, text_length, stack, stack_length, out, 3);
+        run_image(out[2], text_length, stack, stack_length, out);
     else
         out[2] = 0;
     free(stack);

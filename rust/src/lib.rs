@@ -2,9 +2,10 @@
 //!
 //! A *sheet* has lexer rules and one typed context-free expression. [`check`](check()) says whether a
 //! sheet passes, [`write`](write()) turns it into an [`Image`], and [`Image::run`] reads a text by
-//! it. All three call a static library whose code is proved to meet its contract, document 01 with
-//! requests 1 to 5 of document 02; this package links it and lends it the buffers that it needs. The
-//! places and numbers in this documentation are those of the contract.
+//! it; [`Image::run_long`] does so with a table, which is meant for long texts. All four call a static
+//! library whose code is proved to meet its contract, document 01 with requests 1 to 6 of document 02; this
+//! package links it and lends it the buffers that it needs. The places and numbers in this documentation are
+//! those of the contract.
 //!
 //! [`builder`] writes sheets as Rust code. A number of a sheet may be padded with empty high groups, and
 //! [`patch`](patch()) then writes another value into it and moves no byte.
@@ -57,7 +58,7 @@ pub use library::LIBRARY_LINKED;
 pub use patch::{patch, PatchError};
 pub use refusal::{CheckRefusal, Refusal};
 
-use library::{image_run, sheet_check, sheet_write};
+use library::{image_run, image_run_table, sheet_check, sheet_write};
 
 /// The bytes that the work area of [`check_with`] and [`write_into`] must have at least.
 pub const WORK_BYTES: usize = 65_536;
@@ -77,6 +78,15 @@ pub const TEXT_LIMIT: usize = 1_048_576;
 /// The most members that a production's tail has. A take removes one pending nonterminal at least and
 /// adds a tail.
 pub const TAIL_LIMIT: usize = 32;
+
+/// The entries that the table of [`run_with_table`] must have at least: at row × 256 + byte stands the next row.
+pub const TABLE_ENTRIES: usize = 65_536;
+
+/// The entries that the buffer for the winners of [`run_with_table`] must have at least, one for each row.
+pub const WINNER_ENTRIES: usize = 256;
+
+/// The winner of a row in which no rule wins. A rule's number is less.
+pub const NO_WINNER: u16 = 32;
 
 /// The length of a stack that is enough for every text of `text_length` bytes, 1 + 31 × its length.
 ///
@@ -185,7 +195,36 @@ pub fn write_into<'a>(
 pub fn run_with(image: &[u8], text: &[u8], stack: &mut [u8]) -> Result<usize, Refusal> {
     let mut out = [0; 3];
     image_run(image, text, stack, &mut out);
-    let [number, place, tokens] = out;
+    ran(out)
+}
+
+/// Runs an image over a text with a table, which it builds before it reads the text, and gives how many tokens
+/// were taken.
+///
+/// Unless 18 or 19 is given, the answer and the stack at the end are those of [`run_with`]. After 18, 12, 13 and
+/// 19 the stack and both buffers are untouched. Otherwise the table stands in the first entries of the two
+/// buffers, also if the text is refused, and what lies past its last row is as before. `table` has the next row
+/// at row × 256 + byte, and `winners` has for each row the image's rule that wins if a match ends there, or
+/// [`NO_WINNER`]. Row 0 is the start, row 1 the empty set; then comes each set of positions that a byte may
+/// keep, in the order first reached, rows in order, bytes rising.
+///
+/// # Errors
+///
+/// The first question that is answered with no, in this order: 18, 12, 13, 19, then 14 to 17.
+pub fn run_with_table(
+    image: &[u8],
+    text: &[u8],
+    table: &mut [u16],
+    winners: &mut [u16],
+    stack: &mut [u8],
+) -> Result<usize, Refusal> {
+    let mut out = [0; 3];
+    image_run_table(image, text, table, winners, stack, &mut out);
+    ran(out)
+}
+
+/// The three numbers of a run as a result.
+fn ran([number, place, tokens]: [u64; 3]) -> Result<usize, Refusal> {
     if number == 0 {
         return Ok(tokens as usize);
     }
@@ -261,14 +300,53 @@ impl Image {
     /// # Ok::<(), Box<dyn std::error::Error>>(())
     /// ```
     pub fn run(&self, text: &[u8]) -> Result<usize, Refusal> {
-        // A text over the limit is refused before the stack is looked at.
-        let room = if text.len() > TEXT_LIMIT {
-            0
-        } else {
-            stack_length(text.len())
-        };
-        run_with(&self.bytes, text, &mut vec![0; room])
+        run_with(&self.bytes, text, &mut long_enough_stack(text))
     }
+
+    /// Runs the image over a text with a table; the answer is that of [`run`](Image::run).
+    ///
+    /// It is meant for long texts: the table is built first, which takes longer than to read a short text, and
+    /// then one entry is looked up for each byte. An image whose table would have over 256 rows is run without
+    /// one.
+    ///
+    /// # Errors
+    ///
+    /// The first of questions 12 to 16 that is answered with no.
+    #[cfg_attr(vinzagew_library, doc = "```")]
+    #[cfg_attr(not(vinzagew_library), doc = "```no_run")]
+    /// use vinzagew::builder::{Regex, SheetBuilder};
+    ///
+    /// let mut builder = SheetBuilder::new();
+    /// let number = builder.token("number");
+    /// builder.rule(number, Regex::class(b'0', b'9').plus());
+    /// builder.skip(Regex::byte(b' '));
+    /// let sheet = builder.finish(number.star())?;
+    ///
+    /// let image = vinzagew::write(sheet.as_bytes())?;
+    /// let text = b"12 ".repeat(300_000);
+    /// assert_eq!(image.run_long(&text), Ok(300_000));
+    /// assert_eq!(image.run_long(&text), image.run(&text));
+    /// # Ok::<(), Box<dyn std::error::Error>>(())
+    /// ```
+    pub fn run_long(&self, text: &[u8]) -> Result<usize, Refusal> {
+        let mut table = vec![0; TABLE_ENTRIES];
+        let mut winners = vec![0; WINNER_ENTRIES];
+        let mut stack = long_enough_stack(text);
+        match run_with_table(&self.bytes, text, &mut table, &mut winners, &mut stack) {
+            Err(refusal) if refusal.number == 19 => run_with(&self.bytes, text, &mut stack),
+            answer => answer,
+        }
+    }
+}
+
+/// A stack that is long enough for a text. A text over the limit is refused before the stack is looked at.
+fn long_enough_stack(text: &[u8]) -> Vec<u8> {
+    let room = if text.len() > TEXT_LIMIT {
+        0
+    } else {
+        stack_length(text.len())
+    };
+    vec![0; room]
 }
 
 impl AsRef<[u8]> for Image {

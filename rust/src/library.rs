@@ -1,4 +1,4 @@
-//! The three functions of the static library, over slices.
+//! The four functions of the static library, over slices.
 //!
 //! They have all results and all effects of the C functions: an `out` shorter than 3 is left untouched,
 //! and nothing else happens then. Without the library they panic.
@@ -6,7 +6,7 @@
 /// Whether the static library was found when this package was built.
 pub const LIBRARY_LINKED: bool = cfg!(vinzagew_library);
 
-pub use linked::{image_run, sheet_check, sheet_write};
+pub use linked::{image_run, image_run_table, sheet_check, sheet_write};
 
 #[cfg(vinzagew_library)]
 mod linked {
@@ -37,6 +37,21 @@ mod linked {
                 image_len: usize,
                 text: *const u8,
                 text_len: usize,
+                stack: *mut u8,
+                stack_len: usize,
+                out: *mut u64,
+                out_len: usize,
+            );
+
+            pub fn image_run_table(
+                image: *const u8,
+                image_len: usize,
+                text: *const u8,
+                text_len: usize,
+                table: *mut u16,
+                table_len: usize,
+                winners: *mut u16,
+                winners_len: usize,
                 stack: *mut u8,
                 stack_len: usize,
                 out: *mut u64,
@@ -95,6 +110,34 @@ mod linked {
             );
         }
     }
+
+    /// Runs an image over a text with a table: number, place and count go to `out[0..3]`.
+    pub fn image_run_table(
+        image: &[u8],
+        text: &[u8],
+        table: &mut [u16],
+        winners: &mut [u16],
+        stack: &mut [u8],
+        out: &mut [u64],
+    ) {
+        // SAFETY: as for `image_run`. The lengths of `table` and `winners` are in entries.
+        unsafe {
+            c::image_run_table(
+                image.as_ptr(),
+                image.len(),
+                text.as_ptr(),
+                text.len(),
+                table.as_mut_ptr(),
+                table.len(),
+                winners.as_mut_ptr(),
+                winners.len(),
+                stack.as_mut_ptr(),
+                stack.len(),
+                out.as_mut_ptr(),
+                out.len(),
+            );
+        }
+    }
 }
 
 #[cfg(not(vinzagew_library))]
@@ -111,6 +154,18 @@ mod linked {
 
     /// Stands where the library's function would be.
     pub fn image_run(_image: &[u8], _text: &[u8], _stack: &mut [u8], _out: &mut [u64]) {
+        missing();
+    }
+
+    /// Stands where the library's function would be.
+    pub fn image_run_table(
+        _image: &[u8],
+        _text: &[u8],
+        _table: &mut [u16],
+        _winners: &mut [u16],
+        _stack: &mut [u8],
+        _out: &mut [u64],
+    ) {
         missing();
     }
 

@@ -52,7 +52,7 @@ impl From<CheckRefusal> for Refusal {
 /// A refusal by writing or running: which question was answered with no, and where.
 #[derive(Clone, Copy, Debug, PartialEq, Eq, Hash)]
 pub struct Refusal {
-    /// The number of the question, 1 to 17.
+    /// The number of the question, 1 to 19.
     pub number: u64,
     /// The place in the sheet (3 to 10), in the image (13) or in the text (14 to 17); 0 if the refusal
     /// names none.
@@ -89,6 +89,8 @@ impl Refusal {
             15 => "Does a pending nonterminal take it?",
             16 => "At the end, are the pending nonterminals nullable?",
             17 => "Does the stack hold all pending nonterminals?",
+            18 => "Has the table at least 65,536 entries, and the buffer for the winners at least 256?",
+            19 => "Has the image's table at most 256 rows?",
             _ => "There is no question with this number.",
         }
     }
@@ -153,6 +155,14 @@ mod tests {
         assert_eq!(
             words(15, 3, 0, 2),
             "refused with 15 at place 3 of the text: Does a pending nonterminal take it? No, after 2 tokens"
+        );
+        assert_eq!(
+            words(18, 0, 0, 0),
+            "refused with 18: Has the table at least 65,536 entries, and the buffer for the winners at least 256? No"
+        );
+        assert_eq!(
+            words(19, 0, 0, 0),
+            "refused with 19: Has the image's table at most 256 rows? No"
         );
     }
 

@@ -47,7 +47,7 @@ fn defined(header: &str, name: &str) -> usize {
 }
 
 /// The names of the numbers from 0 on, each with words of its question.
-const NUMBERS: [(&str, &str); 18] = [
+const NUMBERS: [(&str, &str); 20] = [
     ("SUCCESS", "no question"),
     ("WORK_TOO_SHORT", "work area"),
     ("SHEET_TOO_LONG", "sheet within"),
@@ -66,6 +66,8 @@ const NUMBERS: [(&str, &str); 18] = [
     ("NOT_TAKEN", "take it"),
     ("ENDS_EARLY", "At the end"),
     ("STACK_TOO_SHORT", "stack"),
+    ("TABLE_TOO_SHORT", "table at least"),
+    ("TOO_MANY_ROWS", "at most 256 rows"),
 ];
 
 /// The header's numbers are those of this package's questions.
@@ -95,6 +97,9 @@ fn the_header_has_the_same_limits() {
     assert_eq!(limit("WIDTH_LIMIT"), vinzagew::WIDTH_LIMIT);
     assert_eq!(limit("TEXT_LIMIT"), vinzagew::TEXT_LIMIT);
     assert_eq!(limit("TAIL_LIMIT"), vinzagew::TAIL_LIMIT);
+    assert_eq!(limit("TABLE_ENTRIES"), vinzagew::TABLE_ENTRIES);
+    assert_eq!(limit("WINNER_ENTRIES"), vinzagew::WINNER_ENTRIES);
+    assert_eq!(limit("NO_WINNER"), vinzagew::NO_WINNER.into());
     assert!(header.contains(
         "#define VINZAGEW_STACK_LENGTH(n) (1 + (VINZAGEW_TAIL_LIMIT - 1) * (size_t)(n))\n"
     ));
@@ -184,6 +189,30 @@ fn the_example_reads_a_word_below_a_name_pattern() {
     assert_eq!(read(b"if iffy"), ("0 7 2".to_owned(), Some(0)));
     assert_eq!(read(b"if if"), ("15 3 1".to_owned(), Some(1)));
     assert_eq!(read(b"iffy"), ("15 0 0".to_owned(), Some(1)));
+}
+
+/// The third sheet of the example's comment: a table of its image would have over 256 rows, and the text is read
+/// without one.
+#[test]
+#[cfg_attr(not(vinzagew_library), ignore = "the static library was not found")]
+fn the_example_reads_without_a_table() {
+    let folder = build("c-example-many-rows");
+    let either = [1, 97, 98];
+    let sheet = [
+        &[1, 1, 1, 1, 2, 4][..],
+        &either,
+        &[2, 1, 97, 97],
+        &[&[2][..], &either].concat().repeat(6),
+        &either,
+        &[2, 0],
+    ]
+    .concat();
+    let read = |text: &[u8]| read(&folder, &sheet, Some(text));
+    assert_eq!(read(b"abababab"), ("0 8 1".to_owned(), Some(0)));
+    assert_eq!(read(b"babababa"), ("14 0 0".to_owned(), Some(1)));
+    assert_eq!(read(b""), ("16 0 0".to_owned(), Some(1)));
+    let long = vec![b'a'; 1_048_577];
+    assert_eq!(read(&long), ("12 0 0".to_owned(), Some(1)));
 }
 
 /// The status is 2, and nothing is printed, if a file is missing and if the usage is wrong.

@@ -42,8 +42,14 @@ fn every_number_comes_up() {
     println!("seed {seed}, {cases} cases: {tally:?}");
     let checks = (0..=10).map(|number| ("check", number));
     let writes = (0..=11).map(|number| ("write", number));
-    let runs = [0, 12, 13, 14, 15, 16, 17].map(|number| ("run", number));
-    let expected: Vec<(&str, u64)> = checks.chain(writes).chain(runs).collect();
+    let runs = [0].into_iter().chain(12..=17).map(|number| ("run", number));
+    let numbers_with_a_table = [0].into_iter().chain(12..=19);
+    let with_a_table = numbers_with_a_table.map(|number| ("run with a table", number));
+    let expected: Vec<(&str, u64)> = checks
+        .chain(writes)
+        .chain(runs)
+        .chain(with_a_table)
+        .collect();
     let missing: Vec<&(&str, u64)> = expected
         .iter()
         .filter(|answer| !tally.contains_key(*answer))
@@ -963,8 +969,9 @@ fn library_and_reference_agree() {
         found.make(LIBRARY);
         if found != expected {
             panic!(
-                "seed {seed}, case {case}:\nbefore: {before}\nlibrary: {found}\nreference: {expected}\nbuffers equal: {}",
-                found.buffers() == expected.buffers()
+                "seed {seed}, case {case}:\nbefore: {before}\nlibrary: {found}\nreference: {expected}\nbuffers equal: {}, {}",
+                found.buffers() == expected.buffers(),
+                found.entries() == expected.entries()
             );
         }
     }

@@ -1,8 +1,8 @@
 //! The scanner: the library against the reference on readable images that no sheet need have, and on texts in
 //! which many bytes after each other keep the same positions.
 //!
-//! The random images and texts are made here. What comes up in them is counted with a walk of this file's own,
-//! which is held against the reference. What the cases with names give is written down by hand.
+//! What comes up in the random images and texts is counted with a walk of this file's own, which is held against
+//! the reference. What the cases with names give is written down by hand.
 //!
 //! `VINZAGEW_SEED` sets the seed and `VINZAGEW_CASES` the number of cases of each random test. By hand:
 //!
@@ -11,11 +11,12 @@
 mod common;
 
 use common::calls::Call;
-use common::random::{for_case, seed_and_cases, Random};
+use common::images::{self, all, inner, last, members, taking_all};
+use common::random::{for_case, seed_and_cases};
 use common::{engines, full_run, hexadecimal, pattern, LIBRARY, REFERENCE};
 use std::collections::BTreeMap;
 use vinzagew::stack_length;
-use vinzagew_reference::image::{Image, Row};
+use vinzagew_reference::image::Image;
 use vinzagew_reference::lexer::Position;
 use vinzagew_reference::machine::longest_match;
 
@@ -28,217 +29,6 @@ const IMAGE_EVENTS: usize = 8;
 const BYTE_EVENTS: usize = 8;
 const END_EVENTS: usize = 8;
 
-/// The most bytes of a random text.
-const LONGEST_TEXT: usize = 600;
-
-/// A byte class of any kind. Some depend on the positions before it.
-fn class(random: &mut Random, before: &[Position]) -> (u8, u8) {
-    let [one, other] = [(); 2].map(|()| random.next() as u8);
-    match random.below(12) {
-        0 => (0, 255),
-        1 => (one, 255),
-        2 => (0, one),
-        3 => *random.pick(&[(0, 0), (255, 255)]),
-        4 | 5 => *random.pick(&[(b'a', b'm'), (b'n', b'z'), (b'a', b'z')]),
-        6 | 7 if !before.is_empty() => near_class(random, before),
-        8 => (one.min(other), one.max(other)),
-        _ => *random.pick(&[(b'a', b'a'), (b'b', b'b'), (b'c', b'c')]),
-    }
-}
-
-/// The class of an earlier position, or one that begins just past it or ends just before it.
-fn near_class(random: &mut Random, before: &[Position]) -> (u8, u8) {
-    let other = *random.pick(before);
-    let more = random.below(8) as u8;
-    match random.below(3) {
-        0 if other.high < 255 => (other.high + 1, other.high.saturating_add(1 + more)),
-        1 if other.low > 0 => (other.low.saturating_sub(1 + more), other.low - 1),
-        _ => (other.low, other.high),
-    }
-}
-
-/// All of so many positions.
-fn all(count: usize) -> u64 {
-    u64::MAX >> (64 - count)
-}
-
-/// One to three of so many positions.
-fn few(random: &mut Random, count: usize) -> u64 {
-    (0..random.range(1, 3)).fold(0, |set, _| set | 1 << random.below(count))
-}
-
-/// A set of so many positions.
-fn set(random: &mut Random, count: usize) -> u64 {
-    let highest = 1 << (count - 1);
-    match random.below(12) {
-        0 => 0,
-        1 => all(count),
-        2 => highest,
-        3 => highest | few(random, count),
-        4..=6 => random.next() & all(count),
-        _ => few(random, count),
-    }
-}
-
-/// A position's follow set. In some images it is often the position itself, the next one, or both.
-fn follow(random: &mut Random, position: usize, count: usize, near: bool) -> u64 {
-    if !near || random.once_in(4) {
-        return set(random, count);
-    }
-    let own = 1 << position;
-    let next = own << 1 & all(count);
-    *random.pick(&[own, next, own | next])
-}
-
-/// The positions of an image with so many rules, of which some may have no position. In some images all classes
-/// are equal.
-fn positions(random: &mut Random, rules: usize) -> Vec<Position> {
-    let count = match random.below(6) {
-        0 => 64,
-        1 => random.range(33, 64),
-        _ => random.range(1, 12),
-    };
-    let near = random.once_in(2);
-    let all_equal = random.once_in(10);
-    // One in so many positions is last.
-    let last = *random.pick(&[1, 2, 2, 6, 20]);
-    let mut own_rules: Vec<usize> = (0..count).map(|_| random.below(rules)).collect();
-    own_rules.sort_unstable();
-    let mut positions: Vec<Position> = Vec::new();
-    for (position, rule) in own_rules.into_iter().enumerate() {
-        let (low, high) = match positions.first() {
-            Some(first) if all_equal => (first.low, first.high),
-            _ => class(random, &positions),
-        };
-        positions.push(Position {
-            low,
-            high,
-            rule,
-            last: random.once_in(last),
-            follow: follow(random, position, count, near),
-        });
-    }
-    positions
-}
-
-/// A production for a rule, or now and then none. Most tails have one or two members.
-fn production(random: &mut Random, rule: usize, row_count: usize) -> Option<(usize, Vec<usize>)> {
-    if random.once_in(40) {
-        return None;
-    }
-    let length = match random.below(16) {
-        0 => 0,
-        _ => random.range(1, 2),
-    };
-    let tail = (0..length).map(|_| random.below(row_count)).collect();
-    Some((rule, tail))
-}
-
-/// Nonterminals that take most rules. Most of them are nullable.
-fn rows(random: &mut Random, skips: &[bool]) -> Vec<Row> {
-    let count = *random.pick(&[1, 1, 1, 3]);
-    let returning: Vec<usize> = (0..skips.len()).filter(|&rule| !skips[rule]).collect();
-    (0..count)
-        .map(|_| Row {
-            nullable: !random.once_in(12),
-            productions: returning
-                .iter()
-                .filter_map(|&rule| production(random, rule, count))
-                .collect(),
-        })
-        .collect()
-}
-
-/// A readable image. In many of them the last position may begin a match, has every byte and ends a match, so
-/// that no place is without a match.
-fn image(random: &mut Random) -> Image {
-    let rules = match random.below(4) {
-        0 => random.range(1, 32),
-        _ => random.range(1, 5),
-    };
-    let skips: Vec<bool> = (0..rules).map(|_| random.once_in(3)).collect();
-    let mut positions = positions(random, rules);
-    let count = positions.len();
-    let mut first = match random.below(40) {
-        0 => 0,
-        _ => set(random, count) | few(random, count),
-    };
-    if first != 0 && random.once_in(2) {
-        first |= 1 << (count - 1);
-        let last = &mut positions[count - 1];
-        last.low = 0;
-        last.high = 255;
-        last.last = true;
-        last.follow &= random.next() & random.next();
-    }
-    let rows = rows(random, &skips);
-    Image {
-        skips,
-        positions,
-        first,
-        rows,
-    }
-}
-
-/// A byte of a position's class, often the lowest or the highest.
-fn byte_of(random: &mut Random, position: Position) -> u8 {
-    match random.below(3) {
-        0 => position.low,
-        1 => position.high,
-        _ => random.range(position.low.into(), position.high.into()) as u8,
-    }
-}
-
-/// The positions of a set, rising.
-fn members(image: &Image, set: u64) -> Vec<Position> {
-    let numbers = (0..image.positions.len()).filter(|number| set >> number & 1 == 1);
-    numbers.map(|number| image.positions[number]).collect()
-}
-
-/// About so many bytes that keep some position one after another from the first set on, some of them repeated.
-fn walked(random: &mut Random, image: &Image, length: usize) -> Vec<u8> {
-    let mut bytes = Vec::new();
-    let mut held = members(image, image.first);
-    while !held.is_empty() && bytes.len() < length {
-        let position = *random.pick(&held);
-        let byte = byte_of(random, position);
-        let times = *random.pick(&[1, 1, 1, 6]);
-        bytes.extend(vec![byte; times]);
-        held = members(image, position.follow);
-    }
-    bytes
-}
-
-/// A part of a text: the same byte many times, bytes of one class, bytes 0 or 255, any bytes, or bytes that are
-/// kept one after another.
-fn part(random: &mut Random, image: &Image) -> Vec<u8> {
-    let position = *random.pick(&image.positions);
-    let length = *random.pick(&[1, 2, 3, 8, 8, 40, 300]);
-    match random.below(8) {
-        0 | 1 => vec![byte_of(random, position); length],
-        2 => (0..length).map(|_| byte_of(random, position)).collect(),
-        3 => vec![*random.pick(&[0, 255]); length],
-        4 => random.bytes(length.min(3)),
-        _ => walked(random, image, length),
-    }
-}
-
-/// A text. Some begin with a few bytes of any kind, which in many images match nothing.
-fn text(random: &mut Random, image: &Image) -> Vec<u8> {
-    let mut text = match random.below(12) {
-        0 => {
-            let length = random.range(1, 3);
-            random.bytes(length)
-        }
-        _ => Vec::new(),
-    };
-    for _ in 0..random.below(7) {
-        text.extend(part(random, image));
-    }
-    text.truncate(LONGEST_TEXT);
-    text
-}
-
 /// An image, a text, and the lengths of the stacks on which it is run: a long enough one and two that may be
 /// too short.
 struct Case {
@@ -250,8 +40,8 @@ struct Case {
 impl Case {
     fn new(seed: u64, case: usize) -> Case {
         let random = &mut for_case(seed, case);
-        let image = image(random);
-        let text = text(random, &image);
+        let image = images::image(random);
+        let text = images::text(random, &image);
         let most = text.len();
         let rooms = [stack_length(most), random.below(4), random.below(most + 2)];
         Case { image, text, rooms }
@@ -514,48 +304,6 @@ fn what_matters_comes_up() {
     assert!(cases < CASES || all_came_up, "{tally:?}");
     let every_number = numbers.keys().eq(&[0, 14, 15, 16, 17]);
     assert!(cases < CASES || every_number, "{numbers:?}");
-}
-
-/// The set of these positions.
-fn set_of(positions: &[usize]) -> u64 {
-    positions
-        .iter()
-        .fold(0, |set, position| set | 1 << position)
-}
-
-/// A position that is no last one.
-fn inner(low: u8, high: u8, rule: usize, follow: &[usize]) -> Position {
-    Position {
-        low,
-        high,
-        rule,
-        last: false,
-        follow: set_of(follow),
-    }
-}
-
-/// A position that is last.
-fn last(low: u8, high: u8, rule: usize, follow: &[usize]) -> Position {
-    Position {
-        last: true,
-        ..inner(low, high, rule, follow)
-    }
-}
-
-/// An image whose grammar takes every rule that does not skip, any number of times.
-fn taking_all(skips: &[bool], first: &[usize], positions: Vec<Position>) -> Vec<u8> {
-    let returning = (0..skips.len()).filter(|&rule| !skips[rule]);
-    let row = Row {
-        nullable: true,
-        productions: returning.map(|rule| (rule, vec![0])).collect(),
-    };
-    let image = Image {
-        skips: skips.to_vec(),
-        positions,
-        first: set_of(first),
-        rows: vec![row],
-    };
-    image.to_bytes()
 }
 
 /// By every engine, the run of an image over a text gives number, place and count, on a long enough stack and

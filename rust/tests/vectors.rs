@@ -13,19 +13,25 @@ mod common;
 
 use common::json_lines::{self, Object};
 use common::numbers::{fewest_twin, place_in_twin};
+use common::tables::{full_run_table, Lent};
 use common::words::{pattern_above_word, without_words};
 use common::{
     engines, full_check, full_run, full_write, short_out_changes_nothing, Engine, REFERENCE,
 };
 use vinzagew::stack_length;
 use vinzagew_reference::answer;
+use vinzagew_reference::image::Image;
 use vinzagew_reference::number;
 use vinzagew_reference::sheet::Sheet;
+use vinzagew_reference::Table;
 
 /// A file of vectors.
 struct File {
     name: &'static str,
     lines: &'static str,
+    /// How many of its vectors are of each kind of [`KINDS`], and how many are runs with a table.
+    of_each_kind: usize,
+    tables: usize,
     /// How many of its vectors refuse a padded number of a sheet with 3, which request 3 changes.
     padded: usize,
     /// Whether it was written when word rules won over patterns.
@@ -39,12 +45,14 @@ struct File {
 }
 
 /// The files of vectors: of the base; of request 1, which has sheets with tag 7; of request 2, from which on
-/// sheets come with the verdict of checking; of request 3, which has sheets with padded numbers; and of
-/// request 4, by which word rules win over patterns.
-const FILES: [File; 5] = [
+/// sheets come with the verdict of checking; of request 3, which has sheets with padded numbers; of request 4, by
+/// which word rules win over patterns; and of request 6, which has runs with a table.
+const FILES: [File; 6] = [
     File {
         name: "base",
         lines: include_str!("data/base.jsonl"),
+        of_each_kind: 375,
+        tables: 0,
         padded: 5,
         words_win: false,
         order_matters: [88, 30, 16, 8],
@@ -53,6 +61,8 @@ const FILES: [File; 5] = [
     File {
         name: "request 1",
         lines: include_str!("data/request-01.jsonl"),
+        of_each_kind: 375,
+        tables: 0,
         padded: 3,
         words_win: false,
         order_matters: [91, 25, 12, 4],
@@ -61,6 +71,8 @@ const FILES: [File; 5] = [
     File {
         name: "request 2",
         lines: include_str!("data/request-02.jsonl"),
+        of_each_kind: 375,
+        tables: 0,
         padded: 3,
         words_win: false,
         order_matters: [82, 25, 9, 5],
@@ -69,6 +81,8 @@ const FILES: [File; 5] = [
     File {
         name: "request 3",
         lines: include_str!("data/request-03.jsonl"),
+        of_each_kind: 375,
+        tables: 0,
         padded: 0,
         words_win: false,
         order_matters: [96, 41, 14, 14],
@@ -77,29 +91,43 @@ const FILES: [File; 5] = [
     File {
         name: "request 4",
         lines: include_str!("data/request-04.jsonl"),
+        of_each_kind: 375,
+        tables: 0,
         padded: 0,
         words_win: true,
         order_matters: [91, 20, 11, 8],
         changed: 0,
     },
+    File {
+        name: "request 6",
+        lines: include_str!("data/request-06.jsonl"),
+        of_each_kind: 300,
+        tables: 304,
+        padded: 0,
+        words_win: true,
+        order_matters: [66, 22, 6, 2],
+        changed: 0,
+    },
 ];
 
-/// The kinds of vectors.
+/// The kinds of vectors that every file has. That of runs with a table is `table`.
 const KINDS: [&str; 4] = ["compile", "read", "run", "program"];
-
-/// How many vectors of each kind a file has.
-const OF_EACH_KIND: usize = 375;
 
 /// All vectors of a kind.
 fn vectors(file: &File, kind: &str) -> Vec<Object> {
-    assert_eq!(file.lines.lines().count(), KINDS.len() * OF_EACH_KIND);
+    let of_all_kinds = KINDS.len() * file.of_each_kind + file.tables;
+    assert_eq!(file.lines.lines().count(), of_all_kinds);
+    let of_this_kind = match kind {
+        "table" => file.tables,
+        _ => file.of_each_kind,
+    };
     let vectors: Vec<Object> = file
         .lines
         .lines()
         .map(json_lines::read)
         .filter(|vector| vector.text("kind") == kind)
         .collect();
-    assert_eq!(vectors.len(), OF_EACH_KIND);
+    assert_eq!(vectors.len(), of_this_kind);
     vectors
 }
 
@@ -448,6 +476,138 @@ fn run() {
         );
         unequal(Outcome::Ran(found), told(vector))
     });
+}
+
+/// The 64-bit FNV-1a hash of entries as little-endian numbers of 16 bits.
+fn fnv(entries: &[u16]) -> u64 {
+    let bytes = entries.iter().flat_map(|entry| entry.to_le_bytes());
+    bytes.fold(0xcbf2_9ce4_8422_2325, |hash: u64, byte| {
+        (hash ^ u64::from(byte)).wrapping_mul(0x100_0000_01b3)
+    })
+}
+
+/// What a vector says of the table, or what was found: how many rows there are, if one was built, the winners, and
+/// the hash of the entries.
+#[derive(Debug, PartialEq, Eq)]
+struct Built {
+    rows: Option<u64>,
+    winners: Vec<u64>,
+    hash: u64,
+}
+
+impl Built {
+    fn told(vector: &Object) -> Built {
+        let winners = vector.numbers("winners").expect("winners");
+        Built {
+            rows: vector.number_or_null("rows"),
+            winners: winners.to_vec(),
+            hash: u64::from_str_radix(vector.text("fnv"), 16).expect("hexadecimal"),
+        }
+    }
+
+    fn found(table: Option<Table>) -> Built {
+        let rows = table.as_ref().map(|table| table.rows() as u64);
+        let (entries, winners) = match table {
+            Some(table) => (table.entries, table.winners),
+            None => Default::default(),
+        };
+        Built {
+            rows,
+            winners: winners.into_iter().map(u64::from).collect(),
+            hash: fnv(&entries),
+        }
+    }
+}
+
+/// A vector of a run with a table: its answer, and what both buffers hold at the end, to the last entry. Where it
+/// names enough entries, it is also held against longer buffers.
+#[test]
+fn run_with_a_table() {
+    compare("table", |_, engine, vector| {
+        let (image, text) = (vector.bytes("image"), vector.bytes("text"));
+        let length = |key| vector.number(key) as usize;
+        let own = Lent {
+            table: length("table_len"),
+            winners: length("rules_len"),
+            stack: length("stack_len"),
+        };
+        let expected = (Outcome::Ran(three(vector, "count")), Built::told(vector));
+        let found = |lent| {
+            let (answer, table) = full_run_table(engine, &image, &text, lent);
+            (Outcome::Ran(answer), Built::found(table))
+        };
+        let difference = unequal(found(own), expected);
+        if difference.is_none() && vector.number("number") != 18 {
+            return unequal(found(own.longer()), found(own));
+        }
+        difference
+    });
+}
+
+/// The run of a vector without a table gives the same, unless it gives 18 or 19.
+#[test]
+fn run_of_the_tables_images_without_a_table() {
+    compare("table", |_, engine, vector| {
+        let expected = three(vector, "count");
+        if matches!(expected, [18 | 19, ..]) {
+            return None;
+        }
+        let (image, text) = (vector.bytes("image"), vector.bytes("text"));
+        let found = full_run(engine, &image, &text, vector.number("stack_len") as usize);
+        unequal(found, expected)
+    });
+}
+
+/// By an engine, a run with a table that must give this answer without one: it gives the same and the image's
+/// table, as the reference makes it, or 19.
+fn with_a_table(
+    engine: Engine,
+    image: &[u8],
+    text: &[u8],
+    room: usize,
+    answer: [u64; 3],
+) -> Option<String> {
+    let (found, built) = full_run_table(engine, image, text, Lent::enough(room));
+    let table = match Image::read(image) {
+        Ok(image) => Table::of(&image),
+        Err(_) => return unequal((found, built), (answer, None)),
+    };
+    let expected = if table.is_some() { answer } else { [19, 0, 0] };
+    unequal((found, built), (expected, table))
+}
+
+#[test]
+fn run_of_all_files_with_a_table() {
+    compare("run", |_, engine, vector| {
+        let (image, text) = (vector.bytes("image"), vector.bytes("text"));
+        let room = vector.number("stack_len") as usize;
+        with_a_table(engine, &image, &text, room, three(vector, "count"))
+    });
+}
+
+#[test]
+fn read_of_all_files_with_a_table() {
+    compare("read", |file, engine, vector| {
+        let text = vector.bytes("text");
+        let (_, image) = full_write(engine, &held_against(file, vector), 65_536, 65_536);
+        let room = stack_length(text.len());
+        with_a_table(engine, &image, &text, room, three(vector, "count"))
+    });
+}
+
+/// Every answer comes up in the runs with a table but 12, and so do 255 and 256 rows.
+#[test]
+fn answers_and_rows_of_request_6() {
+    let vectors = vectors(&FILES[5], "table");
+    let some = |key: &str, value| {
+        vectors
+            .iter()
+            .any(|own| own.number_or_null(key) == Some(value))
+    };
+    for number in [0, 13, 14, 15, 16, 17, 18, 19] {
+        assert!(some("number", number), "{number}");
+    }
+    assert!(some("rows", 255) && some("rows", 256));
 }
 
 #[test]

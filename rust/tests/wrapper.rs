@@ -11,7 +11,10 @@ use common::{
 };
 use vinzagew::builder::{Expression, Field, PartKind, Regex, Sheet, SheetBuilder, Token};
 #[cfg(vinzagew_library)]
-use vinzagew::{check, check_with, run_with, write, write_into, Image, Refusal};
+use vinzagew::{
+    check, check_with, run_with, run_with_table, write, write_into, Image, Refusal, TABLE_ENTRIES,
+    WINNER_ENTRIES,
+};
 use vinzagew::{patch, stack_length, CheckRefusal, PatchError};
 use vinzagew_reference::image::Image as Parts;
 
@@ -704,6 +707,95 @@ fn the_wrapper_reads_a_word_below_a_name_pattern() {
     let image = write(sheet_with_words().as_bytes()).unwrap();
     assert_eq!(image.run(b"if iffy rem if"), Ok(3));
     assert_eq!(image.run(b"iffy").unwrap_err().number, 15);
+}
+
+/// The wrapper runs with a table that is lent: the table is there, and past it everything is as before.
+#[cfg(vinzagew_library)]
+#[test]
+fn the_wrapper_runs_with_a_table() {
+    let mut table = vec![77; TABLE_ENTRIES + 1];
+    let mut winners = vec![78; WINNER_ENTRIES + 1];
+    let mut run = |text: &[u8], stack: &mut [u8]| {
+        let ran = run_with_table(&IMAGE_OF_D, text, &mut table, &mut winners, stack);
+        (ran, table.clone(), winners.clone())
+    };
+    let mut stack = pattern(40);
+    let long = vec![b'1'; 1_048_577];
+    let (ran, table, winners) = run(&long, &mut stack);
+    assert_eq!(ran, Err(nowhere(12, 0)));
+    assert!(table.iter().all(|&entry| entry == 77));
+    assert!(winners.iter().all(|&entry| entry == 78));
+    assert_eq!(stack, pattern(40));
+
+    let (ran, table, winners) = run(b"12 /7", &mut stack);
+    assert_eq!(ran, Ok(3));
+    assert_eq!(winners[..7], [32, 32, 1, 0, 2, 2, 78]);
+    assert!(table[..6 * 256].iter().all(|&row| row < 6));
+    assert!(table[6 * 256..].iter().all(|&entry| entry == 77));
+    assert_eq!(stack, [0; 40]);
+
+    let refusal = run(b"12h", &mut stack).0.unwrap_err();
+    assert_eq!((refusal.number, refusal.place, refusal.tokens), (14, 2, 1));
+    let refusal = run(b"12", &mut []).0.unwrap_err();
+    assert_eq!(refusal.number, 17);
+}
+
+/// 18 if either buffer is one entry short.
+#[cfg(vinzagew_library)]
+#[test]
+fn the_wrapper_refuses_short_buffers() {
+    for (table, winners) in [
+        (TABLE_ENTRIES - 1, WINNER_ENTRIES),
+        (TABLE_ENTRIES, WINNER_ENTRIES - 1),
+    ] {
+        let (mut table, mut winners) = (vec![77; table], vec![78; winners]);
+        let mut stack = pattern(40);
+        let ran = run_with_table(&IMAGE_OF_D, b"12", &mut table, &mut winners, &mut stack);
+        assert_eq!(ran, Err(nowhere(18, 0)));
+        assert!(table.iter().all(|&entry| entry == 77));
+        assert!(winners.iter().all(|&entry| entry == 78));
+        assert_eq!(stack, pattern(40));
+    }
+}
+
+/// A sheet for words of `a` and `b` whose eighth byte from the end is an `a`. A table of its image would have 259
+/// rows.
+#[cfg(vinzagew_library)]
+fn sheet_of_many_rows() -> Sheet {
+    let either = || Regex::class(b'a', b'b');
+    let parts = [either().star(), Regex::byte(b'a')].into_iter();
+    let regex = Regex::sequence(parts.chain((0..7).map(|_| either())));
+    let mut builder = SheetBuilder::new();
+    let word = builder.token("word");
+    builder.rule(word, regex);
+    builder.skip(Regex::byte(b' '));
+    builder.finish(word.star()).unwrap()
+}
+
+/// `run_long` gives what `run` gives, also for an image that has no table.
+#[cfg(vinzagew_library)]
+#[test]
+fn the_wrapper_runs_long_texts() {
+    let image = write(sheet_d().as_bytes()).unwrap();
+    let numbers = [&b"/7 ".repeat(349_000)[1..], b"/12"].concat();
+    assert_eq!(image.run_long(&numbers), Ok(2 * 349_000 + 1));
+    for text in [&numbers[..], b"", b"12 /7", b"12/", b"12//7", b"12h"] {
+        assert_eq!(image.run_long(text), image.run(text));
+    }
+    let long = vec![b'1'; 1_048_577];
+    assert_eq!(image.run_long(&long), Err(nowhere(12, 0)));
+    assert_eq!(image.run_long(&long[1..]), Ok(1));
+
+    let image = write(sheet_of_many_rows().as_bytes()).unwrap();
+    let mut buffers = (vec![0; TABLE_ENTRIES], vec![0; WINNER_ENTRIES]);
+    let mut stack = vec![0; 40];
+    let (table, winners) = (&mut buffers.0, &mut buffers.1);
+    let ran = run_with_table(image.as_bytes(), b"", table, winners, &mut stack);
+    assert_eq!(ran, Err(nowhere(19, 0)));
+    let words = b"abbbbbbb babbabbab ".repeat(50_000);
+    assert_eq!(image.run_long(&words), Ok(100_000));
+    assert_eq!(image.run_long(b"abbbbbbb b").unwrap_err().place, 9);
+    assert_eq!(image.run_long(&long).unwrap_err().number, 12);
 }
 
 /// A refusal of writing or running that names no place.

@@ -11,6 +11,7 @@ ghost use Rattle.stage5_image.specs.Write.{write, write-answer, write-numbers, 
 ghost use Rattle.stage5_image_checker.specs.Answer as checker;
 ghost use Rattle.stage5_image_compiler.specs.Answer as compiler;
 ghost use Rattle.stage6_machine.specs.Run.{run, stack-after};
+ghost use Rattle.stage6_machine.specs.TableRun.{beginning, run-table, table-after, winners-after, table-stack-after};
 ghost use Rattle.vinzagew.specs.Out.{numbers-held, run-numbers, out-after, if-room};
 
 // The three numbers of an answer. The third is a length, a count of tokens, or 0 where there is neither.
@@ -116,6 +117,50 @@ pub extern "C" fn image_run(image: &[u8], text: &[u8], stack: &mut [u8], out: &m
         return;
     }
     let ran = stage6_machine_runner::run(image, text, stack);
+    let told = three(ran.number as u64, ran.place as u64, ran.count as u64);
+    put(out, told);
+}
+
+// Runs an image over a text with a lent table, winners and stack, and puts number, place and count into `out`. Where `out` has fewer than
+// three entries, nothing happens.
+#[no_mangle]
+pub extern "C" fn image_run_table(
+    image: &[u8],
+    text: &[u8],
+    table: &mut [u16],
+    winners: &mut [u16],
+    stack: &mut [u8],
+    out: &mut [u64],
+)
+    ensures { λ r.
+        ⌜ (now (out .exit) ≡ out-after
+        (run-numbers (run-table
+        (now (image .entry))
+        (now (text .entry))
+        (length (now (table .entry)))
+        (length (now (winners .entry)))
+        (length (now (stack .entry)))))
+        (now (out .entry)))
+        × (now (table .exit) ≡ if-room (now (out .entry))
+        (table-after
+        (beginning (now (image .entry)) (now (text .entry)) (length (now (table .entry))) (length (now (winners .entry))))
+        (now (table .entry)))
+        (now (table .entry)))
+        × (now (winners .exit) ≡ if-room (now (out .entry))
+        (winners-after
+        (beginning (now (image .entry)) (now (text .entry)) (length (now (table .entry))) (length (now (winners .entry))))
+        (now (winners .entry)))
+        (now (winners .entry)))
+        × (now (stack .exit) ≡ if-room (now (out .entry))
+        (table-stack-after
+        (beginning (now (image .entry)) (now (text .entry)) (length (now (table .entry))) (length (now (winners .entry))))
+        (now (stack .entry)))
+        (now (stack .entry))) ⌝ }
+{
+    if out.len() < 3 {
+        return;
+    }
+    let ran = stage6_machine_table::run_table(image, text, table, winners, stack);
     let told = three(ran.number as u64, ran.place as u64, ran.count as u64);
     put(out, told);
 }

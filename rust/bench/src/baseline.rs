@@ -4,7 +4,9 @@
 //! and nothing is put on the heap. A table has for each byte the set of positions whose class has it, so
 //! that one `and` gives the positions that a byte keeps. Only those are walked, as a word, and as long as
 //! the same ones are kept, nothing is walked at all. It does not turn the sets into states of a
-//! deterministic automaton.
+//! deterministic automaton; [`table`] does.
+
+pub mod table;
 
 use vinzagew_reference::{TAIL_LIMIT, TEXT_LIMIT};
 
@@ -100,7 +102,7 @@ struct Scanner {
     returning: u32,
     /// For each byte the positions whose class has it.
     having: [u64; 256],
-    /// For each position its rule, or [`RULE_LIMIT`] if that rule skips.
+    /// For each position its rule, and [`RULE_LIMIT`] more if that rule skips.
     rules: [u8; POSITION_LIMIT as usize],
     follow: [u64; POSITION_LIMIT as usize],
     last: u64,
@@ -160,7 +162,7 @@ impl Scanner {
         }
         let rule = reader.small(lowest, self.rule_count - 1)?;
         let skips = self.returning >> rule & 1 == 0;
-        self.rules[position as usize] = if skips { RULE_LIMIT } else { rule };
+        self.rules[position as usize] = rule + if skips { RULE_LIMIT } else { 0 };
         self.last |= u64::from(reader.small(0, 1)?) << position;
         self.follow[position as usize] = reader.set(all)?;
         Some(rule)
@@ -463,7 +465,7 @@ mod tests {
     #[test]
     fn baseline_and_reference_agree() {
         for grammar in all_grammars() {
-            let image = image_bytes(&grammar);
+            let image = image_bytes(&grammar.sheet);
             for text in [&grammar.text[..], grammar.short_text] {
                 assert_eq!(agree(&image, text, stack_length(text.len())), 0);
             }
@@ -477,7 +479,7 @@ mod tests {
                 agree(&image, &text, stack_length(end));
             }
         }
-        let image = image_bytes(&grammars::all()[0]);
+        let image = image_bytes(&grammars::all()[0].sheet);
         assert_eq!(agree(&image, &[b'1'; TEXT_LIMIT + 1], 1), 12);
         assert_eq!(agree(&image, &[b'1'; TEXT_LIMIT], 1), 0);
     }
@@ -487,7 +489,7 @@ mod tests {
     fn damaged_images() {
         let mut unreadable = 0;
         for grammar in all_grammars() {
-            let image = image_bytes(&grammar);
+            let image = image_bytes(&grammar.sheet);
             let text = &grammar.text[..40];
             for place in 0..image.len() {
                 assert_eq!(agree(&image[..place], text, 9), 13);

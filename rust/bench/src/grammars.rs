@@ -280,3 +280,23 @@ fn csv_with_lines(
         short_text: b"ab,\"c\",\n",
     }
 }
+
+/// How many rows the rules of [`of_rows`] but the first make, with rows 0 and 1.
+const ROWS_WITHOUT_THE_WORD: usize = 2 + 128 + 64 + 32;
+
+/// A sheet whose image's table has, or would have, so many rows. It has a word, each byte of which makes a row, and
+/// three rules of two letters each: any number of either, the first of the two, and then some more of either.
+pub fn of_rows(rows: usize) -> Sheet {
+    let mut builder = SheetBuilder::new();
+    let tokens = ["word", "a, b", "c, d", "e, f"].map(|name| builder.token(name));
+    let end = 128 + (rows - ROWS_WITHOUT_THE_WORD) as u8;
+    builder.rule(tokens[0], Regex::literal(&(128..end).collect::<Vec<u8>>()));
+    for (token, (low, more)) in tokens[1..].iter().zip([(b'a', 6), (b'c', 5), (b'e', 4)]) {
+        let either = || Regex::class(low, low + 1);
+        let parts = [either().star(), Regex::byte(low)].into_iter();
+        let regex = Regex::sequence(parts.chain((0..more).map(|_| either())));
+        builder.rule(*token, regex);
+    }
+    let either = Expression::alternative(tokens.map(Expression::from));
+    builder.finish(either).expect("bound")
+}

@@ -3,11 +3,12 @@
 //!
 //! `cargo run --release --bin bench`. Running is measured on accepted texts of up to 1 MiB and of 8 bytes,
 //! and compared with [`baseline`]; [`running`] does this. It is also measured with rules that all skip, so
-//! that nothing but scanning is left. Checking is compared with [`plain_check`], and writing with the
-//! reference implementation, which works on vectors. All buffers are lent and stay the same from round to
-//! round; both sides clear them as the contract says, and this time counts. Each figure is the median of
-//! several rounds, in which the two sides take turns; so do the two spellings of a grammar, with fixed
-//! points and with repetitions.
+//! that nothing but scanning is left. Running with a table is compared with [`baseline::table`], on the same
+//! texts, and on the empty text, so that nothing but building the table is left. Checking is compared with
+//! [`plain_check`], and writing with the reference implementation, which works on vectors. All buffers are
+//! lent and stay the same from round to round; both sides clear them as the contract says, and this time
+//! counts. Each figure is the median of several rounds, in which the two sides take turns; so do the two
+//! spellings of a grammar, with fixed points and with repetitions.
 
 mod baseline;
 #[cfg(test)]
@@ -18,9 +19,9 @@ mod plain_check;
 mod running;
 mod sheets;
 
-use grammars::Grammar;
 use sheets::Case;
 use std::time::{Duration, Instant};
+use vinzagew::builder::Sheet;
 use vinzagew::{check_with, write_into, IMAGE_BYTES, LIBRARY_LINKED, WORK_BYTES};
 
 const ROUNDS: usize = 9;
@@ -50,13 +51,12 @@ fn main() {
     }
 }
 
-/// The image of a grammar, by the reference.
-fn image_bytes(grammar: &Grammar) -> Vec<u8> {
+/// The image of a sheet, by the reference.
+fn image_bytes(sheet: &Sheet) -> Vec<u8> {
     let mut work = vec![0; WORK_BYTES];
     let mut image = vec![0; IMAGE_BYTES];
-    let written = vinzagew_reference::write(grammar.sheet.as_bytes(), &mut work, &mut image);
-    let part = grammar.sheet.locate(written.place);
-    assert_eq!(written.number, 0, "{}: {part}", grammar.name);
+    let written = vinzagew_reference::write(sheet.as_bytes(), &mut work, &mut image);
+    assert_eq!(written.number, 0, "{}", sheet.locate(written.place));
     image.truncate(written.length);
     image
 }

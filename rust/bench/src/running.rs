@@ -1,33 +1,56 @@
-//! Measures running beside [`baseline`](crate::baseline), in the same process.
+//! Measures running, without a table and with one, beside [`baseline`], in the same process.
 //!
 //! A run clears its whole stack. A long enough one has 31 entries for each byte of the text, and clearing it
 //! takes a good part of the time. So each text is also run on a small stack, which has room for all of its
 //! pending nonterminals too.
 
+use crate::baseline::table::Lent;
 use crate::grammars::{self, Grammar};
 use crate::{baseline, black_box, image_bytes, median, ratio, shown, time, ROUNDS};
 use std::time::Duration;
-use vinzagew::{run_with, stack_length, LIBRARY_LINKED, TEXT_LIMIT};
+use vinzagew::library::{image_run, image_run_table};
+use vinzagew::{stack_length, LIBRARY_LINKED, TABLE_ENTRIES, TEXT_LIMIT, WINNER_ENTRIES};
 use vinzagew_reference::image::Image;
+use vinzagew_reference::Table;
 
 /// The entries of the small stack. Every text that is measured is accepted on it.
 const SMALL_STACK: usize = 4_096;
 
-/// A text that is run by an image on a stack of `room` entries.
+/// The buffers that are lent to all runs.
+struct Buffers {
+    stack: Vec<u8>,
+    table: Vec<u16>,
+    winners: Vec<u16>,
+}
+
+impl Buffers {
+    fn new() -> Self {
+        Buffers {
+            stack: vec![0; stack_length(TEXT_LIMIT)],
+            table: vec![0; TABLE_ENTRIES],
+            winners: vec![0; WINNER_ENTRIES],
+        }
+    }
+}
+
+/// A text that is run by an image on a stack of `room` entries, with or without a table.
+#[derive(Clone)]
 struct Case<'a> {
     name: &'static str,
     image: Vec<u8>,
     text: &'a [u8],
     room: usize,
+    with_table: bool,
 }
 
 impl<'a> Case<'a> {
     fn new(grammar: &Grammar, text: &'a [u8], room: usize) -> Self {
         Case {
             name: grammar.name,
-            image: image_bytes(grammar),
+            image: image_bytes(&grammar.sheet),
             text,
             room,
+            with_table: false,
         }
     }
 
@@ -39,50 +62,106 @@ impl<'a> Case<'a> {
         Case::new(grammar, text, stack_length(text.len()))
     }
 
+    /// The run over the empty text: with a table, that only builds the table.
+    fn only_building(name: &'static str, image: Vec<u8>) -> Self {
+        Case {
+            name,
+            image,
+            text: b"",
+            room: 1,
+            with_table: true,
+        }
+    }
+
+    fn with_table(self) -> Self {
+        Case {
+            with_table: true,
+            ..self
+        }
+    }
+
     fn positions(&self) -> usize {
         let image = Image::read(&self.image).expect("written");
         image.positions.len()
     }
 
-    /// The text's tokens. Both sides must accept it.
-    fn tokens(&self, stack: &mut [u8]) -> usize {
-        let stack = &mut stack[..self.room];
-        let [number, _, tokens] = baseline::run(&self.image, self.text, stack);
-        assert_eq!(number, 0, "{}", self.name);
-        if LIBRARY_LINKED {
-            let ran = run_with(&self.image, self.text, stack);
-            assert_eq!(ran, Ok(tokens), "{}", self.name);
+    /// How many rows the image's table has, if there is one.
+    fn rows(&self) -> Option<usize> {
+        let image = Image::read(&self.image).expect("written");
+        Table::of(&image).map(|table| table.rows())
+    }
+
+    /// Number, place and count, by the library.
+    #[inline(always)]
+    fn library(&self, buffers: &mut Buffers) -> [u64; 3] {
+        let (image, text) = (black_box(&self.image[..]), black_box(self.text));
+        let stack = &mut buffers.stack[..self.room];
+        let (table, winners) = (&mut buffers.table, &mut buffers.winners);
+        let mut out = [0; 3];
+        if self.with_table {
+            image_run_table(image, text, table, winners, stack, &mut out);
+        } else {
+            image_run(image, text, stack, &mut out);
         }
-        tokens
+        black_box(out)
+    }
+
+    /// Number, place and count, by the baseline.
+    #[inline(always)]
+    fn baseline(&self, buffers: &mut Buffers) -> [usize; 3] {
+        let (image, text) = (black_box(&self.image[..]), black_box(self.text));
+        let stack = &mut buffers.stack[..self.room];
+        let (table, winners) = (&mut buffers.table[..], &mut buffers.winners[..]);
+        black_box(if self.with_table {
+            baseline::table::run(image, text, Lent { table, winners }, stack)
+        } else {
+            baseline::run(image, text, stack)
+        })
+    }
+
+    /// Number, place and count. Both sides must say the same.
+    fn answer(&self, buffers: &mut Buffers) -> [usize; 3] {
+        let answer = self.baseline(buffers);
+        if LIBRARY_LINKED {
+            let found = self.library(buffers);
+            assert_eq!(found, answer.map(|number| number as u64), "{}", self.name);
+        }
+        answer
     }
 
     /// The time of a run by the library, if it was linked.
-    fn library_time(&self, repeats: u32, stack: &mut [u8]) -> Option<Duration> {
-        let (image, text) = (&self.image[..], self.text);
+    fn library_time(&self, repeats: u32, buffers: &mut Buffers) -> Option<Duration> {
         LIBRARY_LINKED.then(|| {
             time(repeats, || {
-                black_box(run_with(black_box(image), black_box(text), stack)).ok();
+                self.library(buffers);
             })
         })
     }
 
     /// The time of a run by the baseline.
-    fn baseline_time(&self, repeats: u32, stack: &mut [u8]) -> Duration {
-        let (image, text) = (&self.image[..], self.text);
+    fn baseline_time(&self, repeats: u32, buffers: &mut Buffers) -> Duration {
         time(repeats, || {
-            black_box(baseline::run(black_box(image), black_box(text), stack));
+            self.baseline(buffers);
         })
     }
 }
 
 /// What measuring a case gave; the times are medians.
 struct Figures {
-    tokens: usize,
+    /// Number, place and count.
+    answer: [usize; 3],
     library: Option<Duration>,
     baseline: Option<Duration>,
 }
 
 impl Figures {
+    /// The tokens of a text, which must be accepted.
+    fn tokens(&self) -> usize {
+        let [number, _, tokens] = self.answer;
+        assert_eq!(number, 0);
+        tokens
+    }
+
     /// The two times in some unit, and the ratio.
     fn columns(&self, in_unit: impl Fn(Duration) -> f64) -> String {
         format!(
@@ -95,41 +174,43 @@ impl Figures {
 }
 
 /// Runs each case some times in each round; the two sides take turns, and so do the cases.
-fn measure(cases: &[Case], repeats: u32, stack: &mut [u8]) -> Vec<Figures> {
-    let tokens: Vec<usize> = cases.iter().map(|case| case.tokens(stack)).collect();
+fn measure(cases: &[Case], repeats: u32, buffers: &mut Buffers) -> Vec<Figures> {
+    let answers: Vec<[usize; 3]> = cases.iter().map(|case| case.answer(buffers)).collect();
     let mut library = vec![Vec::new(); cases.len()];
     let mut baseline = vec![Vec::new(); cases.len()];
     for _ in 0..ROUNDS {
         for (index, case) in cases.iter().enumerate() {
-            let stack = &mut stack[..case.room];
-            library[index].extend(case.library_time(repeats, stack));
-            baseline[index].push(case.baseline_time(repeats, stack));
+            library[index].extend(case.library_time(repeats, buffers));
+            baseline[index].push(case.baseline_time(repeats, buffers));
         }
     }
     (0..cases.len())
         .map(|index| Figures {
-            tokens: tokens[index],
+            answer: answers[index],
             library: median(&mut library[index]),
             baseline: median(&mut baseline[index]),
         })
         .collect()
 }
 
-/// Runs one case once in each round.
-fn measure_alone(case: &Case, stack: &mut [u8]) -> Figures {
-    let mut figures = measure(std::slice::from_ref(case), 1, stack);
+/// Runs one case some times in each round.
+fn measure_alone(case: &Case, repeats: u32, buffers: &mut Buffers) -> Figures {
+    let mut figures = measure(std::slice::from_ref(case), repeats, buffers);
     figures.remove(0)
 }
 
 /// Prints all tables on running.
 pub fn tables() {
-    let mut stack = vec![0; stack_length(TEXT_LIMIT)];
+    let buffers = &mut Buffers::new();
     let grammars = grammars::all();
-    small_stack_table(&grammars, &mut stack);
-    long_enough_stack_table(&grammars, &mut stack);
-    scanning_table(&grammars::scanning_alone(), &mut stack);
-    short_table(&grammars, &mut stack);
-    pair_table(&grammars::pairs(), &mut stack);
+    small_stack_table(&grammars, buffers);
+    long_enough_stack_table(&grammars, buffers);
+    with_table_table(&grammars, buffers);
+    scanning_table(&grammars::scanning_alone(), buffers);
+    short_table(&grammars, buffers);
+    short_with_table_table(&grammars, buffers);
+    building_table(&grammars, buffers);
+    pair_table(&grammars::pairs(), buffers);
 }
 
 /// How many mebibytes of a text are read in a second, if all is read in some time.
@@ -138,66 +219,139 @@ fn speed(text: &[u8]) -> impl Fn(Duration) -> f64 {
     move |time| mebibytes / time.as_secs_f64()
 }
 
-fn small_stack_table(grammars: &[Grammar], stack: &mut [u8]) {
+fn small_stack_table(grammars: &[Grammar], buffers: &mut Buffers) {
     println!("Running on a stack of {SMALL_STACK} entries, {ROUNDS} rounds, median:\n");
     println!("| Grammar | Image bytes | Positions | Text bytes | Tokens | Library, MiB/s | Baseline, MiB/s | Library time / baseline time |");
     println!("|---|---|---|---|---|---|---|---|");
     for grammar in grammars {
         let case = Case::small_stack(grammar, &grammar.text);
-        let figures = measure_alone(&case, stack);
+        let figures = measure_alone(&case, 1, buffers);
         println!(
             "| {} | {} | {} | {} | {} | {} |",
             case.name,
             case.image.len(),
             case.positions(),
             case.text.len(),
-            figures.tokens,
+            figures.tokens(),
             figures.columns(speed(case.text)),
         );
     }
 }
 
-fn long_enough_stack_table(grammars: &[Grammar], stack: &mut [u8]) {
+fn long_enough_stack_table(grammars: &[Grammar], buffers: &mut Buffers) {
     println!("\nRunning on a long enough stack, {ROUNDS} rounds, median:\n");
     println!("| Grammar | Stack entries | Library, MiB/s | Baseline, MiB/s | Library time / baseline time |");
     println!("|---|---|---|---|---|");
     for grammar in grammars {
         let case = Case::long_enough_stack(grammar, &grammar.text);
-        let columns = measure_alone(&case, stack).columns(speed(case.text));
+        let columns = measure_alone(&case, 1, buffers).columns(speed(case.text));
         println!("| {} | {} | {} |", case.name, case.room, columns);
     }
 }
 
+/// Building the table is part of each run.
+fn with_table_table(grammars: &[Grammar], buffers: &mut Buffers) {
+    println!("\nRunning with a table, on a stack of {SMALL_STACK} entries and on a long enough one, {ROUNDS} rounds, median:\n");
+    println!("| Grammar | Rows | Stack entries | Library, MiB/s | Baseline, MiB/s | Library time / baseline time |");
+    println!("|---|---|---|---|---|---|");
+    for grammar in grammars {
+        for case in [
+            Case::small_stack(grammar, &grammar.text).with_table(),
+            Case::long_enough_stack(grammar, &grammar.text).with_table(),
+        ] {
+            let figures = measure_alone(&case, 1, buffers);
+            assert!(figures.tokens() > 0, "{}", case.name);
+            println!(
+                "| {} | {} | {} | {} |",
+                case.name,
+                shown_rows(&case),
+                case.room,
+                figures.columns(speed(case.text)),
+            );
+        }
+    }
+}
+
+fn shown_rows(case: &Case) -> String {
+    case.rows()
+        .map_or("over 256".to_owned(), |rows| rows.to_string())
+}
+
+/// With over 256 rows nothing is built, and the answer is 19.
+fn building_table(grammars: &[Grammar], buffers: &mut Buffers) {
+    const REPEATS: u32 = 20;
+    println!(
+        "\nBuilding the table alone, by a run over the empty text, {ROUNDS} rounds, median:\n"
+    );
+    println!("| Grammar | Positions | Rows | Library, µs | Baseline, µs | Library time / baseline time |");
+    println!("|---|---|---|---|---|---|");
+    let own = grammars
+        .iter()
+        .map(|grammar| Case::only_building(grammar.name, image_bytes(&grammar.sheet)));
+    let of_rows = [("255 rows", 255), ("256 rows", 256), ("257 rows", 257)]
+        .map(|(name, rows)| Case::only_building(name, image_bytes(&grammars::of_rows(rows))));
+    for case in own.chain(of_rows) {
+        let figures = measure_alone(&case, REPEATS, buffers);
+        assert_eq!(figures.answer[0] == 19, case.rows().is_none());
+        println!(
+            "| {} | {} | {} | {} |",
+            case.name,
+            case.positions(),
+            shown_rows(&case),
+            figures.columns(|time| time.as_secs_f64() * 1e6),
+        );
+    }
+}
+
 /// The rules of these grammars all skip, so that no token is taken.
-fn scanning_table(grammars: &[Grammar], stack: &mut [u8]) {
+fn scanning_table(grammars: &[Grammar], buffers: &mut Buffers) {
     println!("\nScanning alone, all rules skipping, on a stack of {SMALL_STACK} entries, {ROUNDS} rounds, median:\n");
     println!("| Grammar | Library, MiB/s | Baseline, MiB/s | Library time / baseline time |");
     println!("|---|---|---|---|");
     for grammar in grammars {
         let case = Case::small_stack(grammar, &grammar.text);
-        let figures = measure_alone(&case, stack);
-        assert_eq!(figures.tokens, 0, "{}", case.name);
+        let figures = measure_alone(&case, 1, buffers);
+        assert_eq!(figures.tokens(), 0, "{}", case.name);
         println!("| {} | {} |", case.name, figures.columns(speed(case.text)));
     }
 }
 
-fn short_table(grammars: &[Grammar], stack: &mut [u8]) {
-    println!("\nShort texts, on a stack of {SMALL_STACK} entries and on a long enough one, {ROUNDS} rounds, median:\n");
+/// The columns of a table on short texts.
+fn short_columns() {
     println!("| Grammar | Text | Stack entries | Library, ns | Baseline, ns | Library time / baseline time |");
     println!("|---|---|---|---|---|---|");
+}
+
+/// An 8-byte text on both stacks.
+fn short_cases(grammar: &Grammar) -> [Case<'_>; 2] {
+    [
+        Case::small_stack(grammar, grammar.short_text),
+        Case::long_enough_stack(grammar, grammar.short_text),
+    ]
+}
+
+fn short_table(grammars: &[Grammar], buffers: &mut Buffers) {
+    println!("\nShort texts, on a stack of {SMALL_STACK} entries and on a long enough one, {ROUNDS} rounds, median:\n");
+    short_columns();
     for grammar in grammars {
-        short_rows(grammar, stack);
+        short_rows(&short_cases(grammar), buffers);
     }
 }
 
-fn short_rows(grammar: &Grammar, stack: &mut [u8]) {
+/// Here building the table takes most of the time.
+fn short_with_table_table(grammars: &[Grammar], buffers: &mut Buffers) {
+    println!("\nShort texts with a table, on a stack of {SMALL_STACK} entries and on a long enough one, {ROUNDS} rounds, median:\n");
+    short_columns();
+    for grammar in grammars {
+        short_rows(&short_cases(grammar).map(Case::with_table), buffers);
+    }
+}
+
+fn short_rows(cases: &[Case], buffers: &mut Buffers) {
     const REPEATS: u32 = 2_000;
-    let cases = [
-        Case::small_stack(grammar, grammar.short_text),
-        Case::long_enough_stack(grammar, grammar.short_text),
-    ];
-    let text = String::from_utf8_lossy(grammar.short_text).replace('\n', "\\n");
-    for (case, figures) in cases.iter().zip(measure(&cases, REPEATS, stack)) {
+    for (case, figures) in cases.iter().zip(measure(cases, REPEATS, buffers)) {
+        let text = String::from_utf8_lossy(case.text).replace('\n', "\\n");
+        assert!(figures.tokens() > 0, "{}", case.name);
         println!(
             "| {} | `{}` | {} | {} |",
             case.name,
@@ -208,21 +362,21 @@ fn short_rows(grammar: &Grammar, stack: &mut [u8]) {
     }
 }
 
-fn pair_table(pairs: &[[Grammar; 2]], stack: &mut [u8]) {
+fn pair_table(pairs: &[[Grammar; 2]], buffers: &mut Buffers) {
     println!("\nRunning, with fixed points / with repetitions, {ROUNDS} rounds, median:\n");
     println!("| Grammar | Image bytes | Tokens | Library, ms | Baseline, ms |");
     println!("|---|---|---|---|---|");
     for pair in pairs {
-        pair_row(pair, stack);
+        pair_row(pair, buffers);
     }
 }
 
-fn pair_row(pair: &[Grammar; 2], stack: &mut [u8]) {
+fn pair_row(pair: &[Grammar; 2], buffers: &mut Buffers) {
     let cases: Vec<Case> = pair
         .iter()
         .map(|grammar| Case::long_enough_stack(grammar, &grammar.text))
         .collect();
-    let figures = measure(&cases, 1, stack);
+    let figures = measure(&cases, 1, buffers);
     let both = |shown: &dyn Fn(usize) -> String| format!("{} / {}", shown(0), shown(1));
     let milliseconds = |time: Option<Duration>| match time {
         None => "–".to_owned(),
@@ -232,7 +386,7 @@ fn pair_row(pair: &[Grammar; 2], stack: &mut [u8]) {
         "| {} | {} | {} | {} | {} |",
         cases[0].name,
         both(&|index| cases[index].image.len().to_string()),
-        both(&|index| figures[index].tokens.to_string()),
+        both(&|index| figures[index].tokens().to_string()),
         both(&|index| milliseconds(figures[index].library)),
         both(&|index| milliseconds(figures[index].baseline)),
     );

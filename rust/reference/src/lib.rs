@@ -1,9 +1,10 @@
 //! A plain implementation of checking sheets, writing their images and running images.
 //!
-//! It was written from the contract (document 01 with requests 1 to 5 of document 02) alone, without a
-//! look at the proved code, and it is made to be read, not to be fast. Its three main functions,
-//! [`sheet_check`], [`sheet_write`] and [`image_run`], have the same results and the same effects on
-//! every buffer as the functions of the static library, so that the two can be compared to the last byte.
+//! It was written from the contract (document 01 with requests 1 to 6 of document 02) alone, without a
+//! look at the proved code, and it is made to be read, not to be fast. Its four main functions,
+//! [`sheet_check`], [`sheet_write`], [`image_run`] and [`image_run_table`], have the same results and the
+//! same effects on every buffer as the functions of the static library, so that the two can be compared to
+//! the last byte.
 //!
 //! [`answer()`] works out the sheet's own answer in another way: from the words of the regexes and from
 //! what the expression denotes, with no image and no machine.
@@ -38,10 +39,12 @@ pub mod machine;
 pub mod normal_form;
 pub mod number;
 pub mod sheet;
+pub mod table;
 pub mod types;
 
 pub use answer::answer;
 pub use machine::{image_run, run, Ran};
+pub use table::{image_run_table, run_table, Table};
 
 use sheet::Sheet;
 

@@ -1,8 +1,12 @@
-//! The contract's worked cases, and those of requests 1 to 4 of document 02: no random ones.
+//! The contract's worked cases, and those of requests 1 to 6 of document 02: no random ones.
 
+use vinzagew_reference::image::Image;
 use vinzagew_reference::number::write_padded;
 use vinzagew_reference::sheet::Sheet;
-use vinzagew_reference::{answer, check, run, stack_length, write, Ran, Refusal, Written};
+use vinzagew_reference::table::{NO_WINNER, TABLE_ENTRIES, WINNER_ENTRIES};
+use vinzagew_reference::{
+    answer, check, run, run_table, stack_length, write, Ran, Refusal, Table, Written,
+};
 
 /// Sheet D's bytes before its expression.
 const RULES: [u8; 20] = [
@@ -567,4 +571,130 @@ fn the_empty_word_in_sheet_order() {
     assert_eq!(self::verdict(&sheet), (7, 7));
     let sheet = sheet_of(1, &[&pattern, &word], &[4, 2, 0, 2, 0]);
     assert_eq!(self::verdict(&sheet), (10, 11));
+}
+
+/// The table of an image, if it has at most 256 rows.
+fn table_of(image: &[u8]) -> Option<Table> {
+    Table::of(&Image::read(image).unwrap())
+}
+
+/// Request 6 of document 02: row 0 is the start, row 1 the empty set. The image's rules are the slash, the blank and
+/// the number, and the blank is the lowest byte.
+#[test]
+fn the_table_of_sheet_d() {
+    let table = table_of(&IMAGE).unwrap();
+    assert_eq!(table.rows(), 6);
+    assert_eq!(table.winners, [32, 32, 1, 0, 2, 2]);
+    for byte in 0..=255 {
+        let column = (0..6).map(|row| table.entries[256 * row + usize::from(byte)]);
+        let expected = match byte {
+            b' ' => [2, 1, 1, 1, 1, 1],
+            b'/' => [3, 1, 1, 1, 1, 1],
+            b'0'..=b'9' => [4, 1, 1, 1, 5, 5],
+            _ => [1; 6],
+        };
+        assert_eq!(column.collect::<Vec<u16>>(), expected, "byte {byte}");
+    }
+    assert_eq!(table.longest_match(b"12 /7"), Some((2, 2)));
+    assert_eq!(table.longest_match(b" /7"), Some((1, 1)));
+    assert_eq!(table.longest_match(b"/7"), Some((0, 1)));
+    assert_eq!(table.longest_match(b"h"), None);
+    assert_eq!(table.longest_match(b""), None);
+}
+
+/// What the lent buffers hold after a run of sheet D's image.
+#[test]
+fn the_lent_buffers_of_sheet_d() {
+    let own = table_of(&IMAGE).unwrap();
+    for (text, room, answer) in [
+        (&b"12 /7"[..], 156, (0, 5, 3)),
+        (b"12h", 94, (14, 2, 1)),
+        (b"12//7", 156, (15, 3, 2)),
+        (b"12/", 94, (16, 3, 2)),
+        (b"12", 0, (17, 0, 0)),
+    ] {
+        let mut table = vec![777; TABLE_ENTRIES + 1];
+        let mut winners = vec![778; WINNER_ENTRIES + 1];
+        let mut stack = vec![0xa5; room];
+        let ran = run_table(&IMAGE, text, &mut table, &mut winners, &mut stack);
+        assert_eq!((ran.number, ran.place, ran.tokens), answer);
+        assert_eq!(table[..6 * 256], own.entries);
+        assert!(table[6 * 256..].iter().all(|&entry| entry == 777));
+        assert_eq!(winners[..6], own.winners);
+        assert!(winners[6..].iter().all(|&entry| entry == 778));
+        assert!(stack.iter().all(|&entry| entry == 0));
+    }
+}
+
+/// A run with a table that is refused with this number and place before anything is written.
+fn refused_untouched(image: &[u8], text: &[u8], lengths: [usize; 2], refusal: (u64, usize)) {
+    let mut table = vec![777; lengths[0]];
+    let mut winners = vec![778; lengths[1]];
+    let mut stack = [0xa5; 3];
+    let ran = run_table(image, text, &mut table, &mut winners, &mut stack);
+    assert_eq!(
+        (ran.number, ran.place, ran.tokens),
+        (refusal.0, refusal.1, 0)
+    );
+    assert!(table.iter().all(|&entry| entry == 777));
+    assert!(winners.iter().all(|&entry| entry == 778));
+    assert_eq!(stack, [0xa5; 3]);
+}
+
+/// The image of (a|b)*a(a|b)^`count`, which is the word of the only token.
+fn image_of_many_rows(count: usize) -> Vec<u8> {
+    let either = [3, 1, 97, 97, 1, 98, 98];
+    let more = [&[2][..], &either].concat().repeat(count - 1);
+    let rule = [&[1, 2, 4][..], &either, &[2, 1, 97, 97], &more, &either].concat();
+    written(&sheet_of(1, &[&rule], &[2, 0])).1
+}
+
+/// The order is 18, 12, 13, 19. All four leave the stack and both buffers untouched.
+#[test]
+fn questions_18_and_19() {
+    let long = vec![b'7'; 1_048_577];
+    let many = image_of_many_rows(7);
+    let enough = [TABLE_ENTRIES, WINNER_ENTRIES];
+    for short in [[65_535, 256], [65_536, 255], [0, 0]] {
+        refused_untouched(&IMAGE, b"12", short, (18, 0));
+        refused_untouched(&IMAGE, &long, short, (18, 0));
+        refused_untouched(&[], b"12", short, (18, 0));
+        refused_untouched(&many, b"12", short, (18, 0));
+    }
+    refused_untouched(&[], &long, enough, (12, 0));
+    refused_untouched(&many, &long, enough, (12, 0));
+    refused_untouched(&IMAGE[..47], b"12", enough, (13, 47));
+    refused_untouched(&many[..many.len() - 1], b"12", enough, (13, many.len() - 1));
+    refused_untouched(&many, b"12", enough, (19, 0));
+}
+
+/// Each of the last bytes may be an `a` or not, one byte more than the count: twice as many rows with each.
+#[test]
+fn rows_of_a_byte_before_the_end() {
+    let rows = |count| table_of(&image_of_many_rows(count)).map(|table| table.rows());
+    assert_eq!(rows(5), Some(2 + 64));
+    assert_eq!(rows(6), Some(2 + 128));
+    assert_eq!(rows(7), None);
+}
+
+/// An image of one rule with one position, which is last and follows itself.
+fn image_of_one_position(class: &[u8], first: u8) -> Vec<u8> {
+    [&[1, 1, 0, 1], class, &[0, 1, 1, first, 1, 1, 0]].concat()
+}
+
+/// Row 0 is no set: where the first set is kept, that is another row. Row 1 is there even if it is never reached,
+/// and row 0 stands before it also if nothing is first.
+#[test]
+fn the_first_two_rows() {
+    let table = |class: &[u8], first| table_of(&image_of_one_position(class, first)).unwrap();
+    let one = table(&[97, 97], 1);
+    assert_eq!(one.winners, [NO_WINNER, NO_WINNER, 0]);
+    assert_eq!([0, 1, 2].map(|row| one.entries[256 * row + 97]), [2, 1, 2]);
+    assert_eq!([0, 1, 2].map(|row| one.entries[256 * row + 98]), [1, 1, 1]);
+    let all = table(&[0, 255, 1], 1);
+    assert_eq!(all.winners, [NO_WINNER, NO_WINNER, 0]);
+    assert_eq!(all.entries, [[2; 256], [1; 256], [2; 256]].concat());
+    let none = table(&[0, 255, 1], 0);
+    assert_eq!(none.winners, [NO_WINNER, NO_WINNER]);
+    assert_eq!(none.entries, [1; 512]);
 }

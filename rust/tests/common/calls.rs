@@ -1,12 +1,12 @@
-//! Random calls of checking, writing and running, with all their buffers.
+//! Random calls of checking, writing and running, with and without a table, with all their buffers.
 //!
 //! A call can be made by any engine, and two of them compared to the last byte. What is right
 //! is not said here: the reference is asked only for images to run and for lengths that matter.
 
 use super::random::Random;
-use super::{generate, hexadecimal, image_of, numbers, Engine, IMAGE_OF_D, REFERENCE};
+use super::{generate, hexadecimal, image_of, images, numbers, Engine, IMAGE_OF_D, REFERENCE};
 use std::fmt;
-use vinzagew::stack_length;
+use vinzagew::{stack_length, TABLE_ENTRIES, TEXT_LIMIT, WINNER_ENTRIES};
 
 /// A call with all its buffers.
 #[derive(Clone, PartialEq, Eq)]
@@ -28,6 +28,14 @@ pub enum Call {
         stack: Vec<u8>,
         out: Vec<u64>,
     },
+    RunTable {
+        image: Vec<u8>,
+        text: Vec<u8>,
+        table: Vec<u16>,
+        winners: Vec<u16>,
+        stack: Vec<u8>,
+        out: Vec<u64>,
+    },
 }
 
 impl Call {
@@ -46,6 +54,14 @@ impl Call {
                 stack,
                 out,
             } => (engine.run)(image, text, stack, out),
+            Call::RunTable {
+                image,
+                text,
+                table,
+                winners,
+                stack,
+                out,
+            } => (engine.run_table)(image, text, table, winners, stack, out),
         }
     }
 
@@ -54,12 +70,16 @@ impl Call {
             Call::Check { .. } => "check",
             Call::Write { .. } => "write",
             Call::Run { .. } => "run",
+            Call::RunTable { .. } => "run with a table",
         }
     }
 
     pub fn out(&self) -> &[u64] {
         match self {
-            Call::Check { out, .. } | Call::Write { out, .. } | Call::Run { out, .. } => out,
+            Call::Check { out, .. }
+            | Call::Write { out, .. }
+            | Call::Run { out, .. }
+            | Call::RunTable { out, .. } => out,
         }
     }
 
@@ -68,7 +88,15 @@ impl Call {
         match self {
             Call::Check { work, .. } => vec![work],
             Call::Write { work, image, .. } => vec![work, image],
-            Call::Run { stack, .. } => vec![stack],
+            Call::Run { stack, .. } | Call::RunTable { stack, .. } => vec![stack],
+        }
+    }
+
+    /// The buffers of entries of two bytes that the call may write to.
+    pub fn entries(&self) -> Vec<&[u16]> {
+        match self {
+            Call::RunTable { table, winners, .. } => vec![table, winners],
+            _ => Vec::new(),
         }
     }
 
@@ -76,7 +104,9 @@ impl Call {
     fn inputs(&self) -> Vec<&[u8]> {
         match self {
             Call::Check { sheet, .. } | Call::Write { sheet, .. } => vec![sheet],
-            Call::Run { image, text, .. } => vec![image, text],
+            Call::Run { image, text, .. } | Call::RunTable { image, text, .. } => {
+                vec![image, text]
+            }
         }
     }
 }
@@ -89,6 +119,9 @@ impl fmt::Display for Call {
         }
         for buffer in self.buffers() {
             write!(formatter, ", is lent {} bytes", buffer.len())?;
+        }
+        for buffer in self.entries() {
+            write!(formatter, ", is lent {} entries", buffer.len())?;
         }
         write!(formatter, ", out {:?}", self.out())
     }
@@ -227,23 +260,26 @@ fn least_stack(image: &[u8], text: &[u8]) -> usize {
     low
 }
 
+/// What a run reads, and how many entries its stack has.
+struct Reading {
+    image: Vec<u8>,
+    text: Vec<u8>,
+    room: usize,
+}
+
 /// A text around the limit, on a stack that is long enough for sheet D's image or nearly so.
-fn long_call(random: &mut Random) -> Call {
+fn long_reading(random: &mut Random) -> Reading {
     let length = random.range(1_048_574, 1_048_577);
     let piece = *random.pick(&[&b"7"[..], b"12 /", b"7/"]);
-    let entries = random.below(4);
-    Call::Run {
+    Reading {
         image: IMAGE_OF_D.to_vec(),
         text: piece.iter().copied().cycle().take(length).collect(),
-        stack: buffer(random, entries),
-        out: out(random),
+        room: random.below(4),
     }
 }
 
-fn run_call(random: &mut Random) -> Call {
-    if random.once_in(150) {
-        return long_call(random);
-    }
+/// An image of any kind, often damaged, with a text for it.
+fn short_reading(random: &mut Random) -> Reading {
     let image = match random.below(12) {
         0..=3 => generate::readable_image(random),
         4 => image_of(generate::long_tailed_sheet(random).as_bytes()).expect("it passes"),
@@ -258,7 +294,7 @@ fn run_call(random: &mut Random) -> Call {
         3 if random.once_in(2) => numbers::twin_with_one_padded(random, &image.to_bytes()),
         _ => image.to_bytes(),
     };
-    let entries = match random.below(8) {
+    let room = match random.below(8) {
         0 => random.below(12),
         1..=3 => {
             let least = least_stack(&image, &text);
@@ -266,8 +302,70 @@ fn run_call(random: &mut Random) -> Call {
         }
         _ => stack_length(text.len()),
     };
+    Reading { image, text, room }
+}
+
+fn reading(random: &mut Random) -> Reading {
+    if random.once_in(150) {
+        return long_reading(random);
+    }
+    let mut reading = short_reading(random);
+    if random.once_in(80) {
+        reading.text.resize(TEXT_LIMIT + 1, b' ');
+    }
+    reading
+}
+
+fn run_call(random: &mut Random) -> Call {
+    let Reading { image, text, room } = reading(random);
     Call::Run {
-        stack: buffer(random, entries),
+        stack: buffer(random, room),
+        out: out(random),
+        image,
+        text,
+    }
+}
+
+/// An image whose table has 256 rows or some more or fewer, with a text for it.
+fn reading_near_the_row_limit(random: &mut Random) -> Reading {
+    let (image, _) = images::near_row_limit(random);
+    let text = images::text(random, &image);
+    Reading {
+        image: image.to_bytes(),
+        room: stack_length(text.len()),
+        text,
+    }
+}
+
+/// Entries with random content, which repeats.
+fn entries(random: &mut Random, length: usize) -> Vec<u16> {
+    let pattern: Vec<u16> = (0..31).map(|_| random.next() as u16).collect();
+    pattern.iter().copied().cycle().take(length).collect()
+}
+
+/// The length of a buffer of which `enough` entries are needed; some are too short, and some longer than need be.
+pub fn entry_count(random: &mut Random, enough: usize) -> usize {
+    match random.below(32) {
+        0 => random.below(enough),
+        1 => enough - 1,
+        2 => enough + random.below(1_000),
+        3 => 2 * enough,
+        _ => enough,
+    }
+}
+
+/// A run with a table: a reading as for a run without, or one near the limit.
+pub fn run_table_call(random: &mut Random) -> Call {
+    let Reading { image, text, room } = match random.below(24) {
+        0 => reading_near_the_row_limit(random),
+        _ => reading(random),
+    };
+    let table_length = entry_count(random, TABLE_ENTRIES);
+    let winners_length = entry_count(random, WINNER_ENTRIES);
+    Call::RunTable {
+        table: entries(random, table_length),
+        winners: entries(random, winners_length),
+        stack: buffer(random, room),
         out: out(random),
         image,
         text,
@@ -276,9 +374,10 @@ fn run_call(random: &mut Random) -> Call {
 
 /// A call of any kind.
 pub fn call(random: &mut Random) -> Call {
-    match random.below(4) {
+    match random.below(5) {
         0 => check_call(random),
         1 => write_call(random),
+        2 => run_table_call(random),
         _ => run_call(random),
     }
 }

@@ -1,5 +1,5 @@
-//! A reader for lines that are JSON objects of strings without escapes, whole numbers and lists of whole
-//! numbers.
+//! A reader for lines that are JSON objects of strings without escapes, whole numbers, lists of whole numbers,
+//! and `null`.
 
 use std::collections::HashMap;
 
@@ -10,6 +10,7 @@ enum Value {
     Text(String),
     Number(u64),
     Numbers(Vec<u64>),
+    Null,
 }
 
 impl Object {
@@ -26,6 +27,14 @@ impl Object {
         match &self.0[key] {
             Value::Number(number) => *number,
             _ => panic!("{key} is no number"),
+        }
+    }
+
+    /// The number of a key, if it is not `null`.
+    pub fn number_or_null(&self, key: &str) -> Option<u64> {
+        match &self.0[key] {
+            Value::Null => None,
+            _ => Some(self.number(key)),
         }
     }
 
@@ -80,15 +89,24 @@ fn value(text: &str) -> (Value, &str) {
         let (string, after) = string(text);
         return (Value::Text(string), after);
     }
+    if let Some(after) = text.strip_prefix("null") {
+        return (Value::Null, after);
+    }
     if let Some(inner) = text.strip_prefix('[') {
         let (list, after) = inner.split_once(']').expect("the end of a list");
-        let numbers = list.split(',').map(|item| whole(item.trim())).collect();
-        return (Value::Numbers(numbers), after);
+        return (Value::Numbers(whole_numbers(list.trim())), after);
     }
     let end = text
         .find(|sign: char| !sign.is_ascii_digit())
         .unwrap_or(text.len());
     (Value::Number(whole(&text[..end])), &text[end..])
+}
+
+fn whole_numbers(list: &str) -> Vec<u64> {
+    if list.is_empty() {
+        return Vec::new();
+    }
+    list.split(',').map(|item| whole(item.trim())).collect()
 }
 
 fn whole(text: &str) -> u64 {

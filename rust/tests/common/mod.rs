@@ -7,9 +7,11 @@
 
 pub mod calls;
 pub mod generate;
+pub mod images;
 pub mod json_lines;
 pub mod numbers;
 pub mod random;
+pub mod tables;
 pub mod words;
 
 use vinzagew_reference::image::{self, Image};
@@ -30,13 +32,17 @@ pub type Write = fn(&[u8], &mut [u8], &mut [u8], &mut [u64]);
 /// Runs an image: image, text, stack, out.
 pub type Run = fn(&[u8], &[u8], &mut [u8], &mut [u64]);
 
-/// The three functions of an implementation, with the results and effects of the C interface.
+/// Runs an image with a table: image, text, table, winners, stack, out.
+pub type RunTable = fn(&[u8], &[u8], &mut [u16], &mut [u16], &mut [u8], &mut [u64]);
+
+/// The four functions of an implementation, with the results and effects of the C interface.
 #[derive(Clone, Copy)]
 pub struct Engine {
     pub name: &'static str,
     pub check: Check,
     pub write: Write,
     pub run: Run,
+    pub run_table: RunTable,
 }
 
 pub const REFERENCE: Engine = Engine {
@@ -44,6 +50,7 @@ pub const REFERENCE: Engine = Engine {
     check: vinzagew_reference::sheet_check,
     write: vinzagew_reference::sheet_write,
     run: vinzagew_reference::image_run,
+    run_table: vinzagew_reference::image_run_table,
 };
 
 pub const LIBRARY: Engine = Engine {
@@ -51,6 +58,7 @@ pub const LIBRARY: Engine = Engine {
     check: vinzagew::library::sheet_check,
     write: vinzagew::library::sheet_write,
     run: vinzagew::library::image_run,
+    run_table: vinzagew::library::image_run_table,
 };
 
 /// The reference, and the library if it was linked.
