@@ -3,10 +3,13 @@
 use mathlib.Core.Path.{_≡_}
 use mathlib.Core.List.{List, [], _∷_, _++_}
 use Prim.Native.Nat.{ℕ}
+use lib.ListN.{length}
 use Rattle.stage1_sheet.specs.Sheet.{Sheet}
 use Rattle.stage1_sheet.specs.WellFormed.{Spells}
 use Rattle.stage1_sheet.specs.SheetD.{with-expression, bytes-of-D}
 use Rattle.stage2_types.specs.Denotation.{Denotes}
+use Rattle.stage5_image.specs.Image.{Image}
+use Rattle.stage5_image.specs.ImageFields.{ReadableAs}
 use Rattle.stage5_image.specs.Check.{work-bytes, CheckAnswer, check, check-answer}
 use Rattle.stage5_image.specs.Write.{Written, refused, written, write, written-part}
 use Rattle.stage6_machine.specs.Answer.{Answer, answer}
@@ -14,6 +17,8 @@ use Rattle.stage6_machine.specs.Run.{run, long-enough}
 use Rattle.stage6_machine.specs.OwnAnswer.{OwnAnswer, OwnAnswerByNumber}
 use Rattle.stage6_machine.specs.Lexes.{ReadingChanges}
 use Rattle.stage6_machine.specs.Runs.{Runs}
+use Rattle.stage6_machine.specs.TableRun.{rows-of, winners-of, run-table}
+use Rattle.stage6_machine.specs.TableRuns.{RunsTable}
 use Rattle.stage7_cases.specs.ImageD.{rules-of-image-D, image-D}
 
 pub data Case : Type 0 where
@@ -29,6 +34,10 @@ pub data Case : Type 0 where
   changes : List ℕ → List ℕ → Answer → Case
   -- an image, a text, and the answer of a run over it
   runs : List ℕ → List ℕ → Answer → Case
+  -- an image, how many rows its table has, and their winners
+  tables : List ℕ → ℕ → List ℕ → Case
+  -- an image, a text, the lengths of a table, of winners and of a stack, and the answer of a run with a table
+  runs-table : List ℕ → List ℕ → ℕ → ℕ → ℕ → Answer → Case
   -- a sheet whose expression denotes no token sequence
   denotes-nothing : List ℕ → Case
 
@@ -49,6 +58,9 @@ Holds (checks sheet work a) = check-answer (check sheet work) ≡ a
 Holds (reads sheet text a) = (run-of-sheet sheet text ≡ a) × (s : Sheet) × Spells sheet s × OwnAnswer s text a
 Holds (changes sheet text a) = (s : Sheet) × Spells sheet s × OwnAnswerByNumber s text a × ReadingChanges s text
 Holds (runs image text a) = (run image text (long-enough text) ≡ a) × Runs image text (long-enough text) a
+Holds (tables image rows winners) = (i : Image) × ReadableAs image i × (length (rows-of i) ≡ rows) × (winners-of i ≡ winners)
+Holds (runs-table image text table winners entries a) =
+    (run-table image text table winners entries ≡ a) × RunsTable image text table winners entries a
 Holds (denotes-nothing sheet) = (s : Sheet) × Spells sheet s × ((tokens : List ℕ) → Denotes (s .expression) tokens → ⊥)
 
 -- μα.N·α, with D's rules

@@ -1,5 +1,5 @@
--- Every row of the five tables of worked cases holds: what is computed of a row, and, by the demands, what follows for the sheet that
--- its bytes spell. The rows themselves stand in `Cases`, `RepetitionCases`, `CheckCases`, `PaddingCases` and `WordCases`.
+-- Every row of the six tables of worked cases holds: what is computed of a row, and, by the demands, what follows for the sheet that
+-- its bytes spell. The rows themselves stand in `Cases`, `RepetitionCases`, `CheckCases`, `PaddingCases`, `WordCases` and `TableCases`.
 use mathlib.Core.Path.{_≡_, refl, sym, ap, subst, _∙_}
 use mathlib.Core.Bool.{not}
 use mathlib.Core.List.{List, [], _∷_, _++_}
@@ -27,7 +27,9 @@ use Rattle.stage1_sheet.specs.TwinLaws.{spelled-twins}
 use Rattle.stage1_sheet.specs.Examples.{d-spelled}
 use Rattle.stage2_types.specs.Denotation.{Denotes, denotation, iterate}
 use Rattle.stage4_lexer.specs.EmptyWord.{none-empty}
-use Rattle.stage5_image.specs.Image.{plain-image}
+use Rattle.stage5_image.specs.Image.{Image, plain-image}
+use Rattle.stage5_image.specs.ImageReading.{read-image}
+use Rattle.stage5_image.specs.FieldsLaws.{read-readable}
 use Rattle.stage5_image.specs.Check.{work-bytes, check, check-answer}
 use Rattle.stage5_image.specs.Checks.{Passable}
 use Rattle.stage5_image.specs.Write.{Written, written, write, written-part}
@@ -38,16 +40,19 @@ use Rattle.stage6_machine.specs.OwnAnswerLaws.{by-number-one}
 use Rattle.stage6_machine.specs.Lexes.{ReadingChanges}
 use Rattle.stage6_machine.specs.FaithfulImage.{answered-by-number}
 use Rattle.stage6_machine.specs.Runs.{Runs}
+use Rattle.stage6_machine.specs.TableRun.{rows-of, winners-of, run-table}
+use Rattle.stage6_machine.specs.TableRuns.{RunsTable}
 use Rattle.stage6_machine.specs.Computing.{computing-machine}
 use Rattle.stage7_demands.specs.Demands.{Demand1, Demand2, Demand3}
 use Rattle.stage7_demands.specs.Proofs.{demand-1, demand-2, demand-3}
 use Rattle.stage7_cases.specs.ImageD.{image-D, D-written}
-use Rattle.stage7_cases.specs.Cases.{Case, writes, writes-with, checks, reads, changes, runs, denotes-nothing, written-sheet, run-of-sheet, Holds, endless, cases}
+use Rattle.stage7_cases.specs.Cases.{Case, writes, writes-with, checks, reads, changes, runs, tables, runs-table, denotes-nothing, written-sheet, run-of-sheet, Holds, endless, cases}
 use Rattle.stage7_cases.specs.RepetitionCases.{image-of-counts, image-of-numbers, repetition-cases}
 use Rattle.stage7_cases.specs.CheckCases.{check-cases}
 use Rattle.stage7_cases.specs.PaddingCases.{in-ten, padding-cases}
 use Rattle.stage7_cases.specs.WordCases.{image-word-below, image-name-above, image-first-if, image-second-if, image-skipped-if}
 use Rattle.stage7_cases.specs.WordCases.{image-equal-words, image-wide-class, image-empty-then-a, word-cases}
+use Rattle.stage7_cases.specs.TableCases.{table-cases}
 
 -- What is computed of a case: for a reading, the sheet's image and what the machine answers over it.
 abbrev Computes : Case → Type 0
@@ -63,6 +68,9 @@ Computes (changes sheet text a) =
     × T (not (eqb (a .number) ((run image text (long-enough text)) .number)))
     × T (all-bytes sheet) × T (leb (length sheet) most-sheet-bytes) × T (leb (length text) most-text-bytes)
 Computes (runs image text a) = (run image text (long-enough text) ≡ a) × T (all-bytes image)
+Computes (tables image rows winners) =
+    (i : Image) × (read-image image ≡ got i (length image)) × (length (rows-of i) ≡ rows) × (winners-of i ≡ winners) × T (all-bytes image)
+Computes (runs-table image text table winners entries a) = (run-table image text table winners entries ≡ a) × T (all-bytes image)
 Computes (denotes-nothing sheet) =
     (c : Contents) × (read-sheet sheet ≡ got c (length sheet)) × T (all-bytes sheet) × T (leb (length sheet) most-sheet-bytes)
     × ((tokens : List ℕ) → Denotes ((c .sheet) .expression) tokens → ⊥)
@@ -117,6 +125,11 @@ holds (changes sheet text a) h =
     changes-hold sheet bytes text a (h .0) (h .2) (h .1 .sheet) (read .spells) (h .4) (h .5) (leb→le (length text) most-text-bytes (h .8))
 holds (runs image text a) h =
     (h .0, subst (Runs image text (long-enough text)) (h .0) (demand-1 .running image text (tested-bytes image (h .1)) (long-enough text)))
+holds (tables image rows winners) h = (h .0, read-readable image (tested-bytes image (h .4)) (h .0) (length image) (h .1), h .2, h .3)
+holds (runs-table image text table winners entries a) h = (
+  h .0,
+  subst (RunsTable image text table winners entries) (h .0) (demand-1 .table-running image text (tested-bytes image (h .1)) table winners entries),
+)
 holds (denotes-nothing sheet) h =
     let read = read-accepted sheet (tested-bytes sheet (h .2)) (leb→le (length sheet) most-sheet-bytes (h .3)) (h .1) in
     (h .0 .sheet, read .spells, h .4)
@@ -246,6 +259,27 @@ word-computed =
     & refl
     & tt
 
+table-computed : All Computes table-cases
+unfolding table-cases computing-machine
+table-computed =
+    (_, refl, refl, refl, tt)
+    & (_, refl, refl, refl, tt)
+    & (_, refl, refl, refl, tt)
+    & (_, refl, refl, refl, tt)
+    & (refl, tt)
+    & (refl, tt)
+    & (refl, tt)
+    & (refl, tt)
+    & (refl, tt)
+    & (refl, tt)
+    & (refl, tt)
+    & (refl, tt)
+    & (refl, tt)
+    & (refl, tt)
+    & (refl, tt)
+    & (refl, tt)
+    & tt
+
 -- Every row holds.
 pub cases-hold : All Holds cases
 cases-hold = all-hold cases all-computed
@@ -261,6 +295,9 @@ padding-cases-hold = all-hold padding-cases padding-computed
 
 pub word-cases-hold : All Holds word-cases
 word-cases-hold = all-hold word-cases word-computed
+
+pub table-cases-hold : All Holds table-cases
+table-cases-hold = all-hold table-cases table-computed
 
 -- ---- sheet D and a twin
 
