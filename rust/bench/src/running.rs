@@ -306,13 +306,18 @@ fn building_table(grammars: &[Grammar], buffers: &mut Buffers) {
 /// The rules of these grammars all skip, so that no token is taken.
 fn scanning_table(grammars: &[Grammar], buffers: &mut Buffers) {
     println!("\nScanning alone, all rules skipping, on a stack of {SMALL_STACK} entries, {ROUNDS} rounds, median:\n");
-    println!("| Grammar | Library, MiB/s | Baseline, MiB/s | Library time / baseline time |");
-    println!("|---|---|---|---|");
+    println!(
+        "| Grammar | Table | Library, MiB/s | Baseline, MiB/s | Library time / baseline time |"
+    );
+    println!("|---|---|---|---|---|");
     for grammar in grammars {
         let case = Case::small_stack(grammar, &grammar.text);
-        let figures = measure_alone(&case, 1, buffers);
-        assert_eq!(figures.tokens(), 0, "{}", case.name);
-        println!("| {} | {} |", case.name, figures.columns(speed(case.text)));
+        for (table, case) in [("without", case.clone()), ("with", case.with_table())] {
+            let figures = measure_alone(&case, 1, buffers);
+            assert_eq!(figures.tokens(), 0, "{}", case.name);
+            let columns = figures.columns(speed(case.text));
+            println!("| {} | {table} | {columns} |", case.name);
+        }
     }
 }
 
