@@ -1,4 +1,5 @@
-// The scanner's table of an image: its rows are reached and counted, and only then written. What a run makes of the table is not asked here.
+// The scanner's table of an image: its rows are reached and counted, and only then written. What a run makes of the table is not asked
+// here.
 ghost use mathlib.Core.Path.{_≡_};
 ghost use mathlib.Core.Bool.{cond};
 ghost use mathlib.Core.List.{List};
@@ -152,7 +153,8 @@ fn fill_table<'a>(
     classes: &'a [u64; 256],
 )
     requires { ⌜ (count ≤ 64) × Prepared (held-from (now low) (now high) (now rule) (now follow) last 0 count) (now classes)
-        × AllHeld (2 ^ count) (rows .sets) (rows .count) (table-rows (held-from (now low) (now high) (now rule) (now follow) last 0 count) first)
+        × AllHeld (2 ^ count) (rows .sets) (rows .count)
+        (table-rows (held-from (now low) (now high) (now rule) (now follow) last 0 count) first)
         × (65536 ≤ length (now table)) ⌝ }
     ensures { λ r. ⌜ now (table .exit) ≡ written-over
         (table-entries
@@ -196,7 +198,8 @@ fn fill_winners<'a>(
     classes: &'a [u64; 256],
 )
     requires { ⌜ (count ≤ 64) × Prepared (held-from (now low) (now high) (now rule) (now follow) last 0 count) (now classes)
-        × AllHeld (2 ^ count) (rows .sets) (rows .count) (table-rows (held-from (now low) (now high) (now rule) (now follow) last 0 count) first)
+        × AllHeld (2 ^ count) (rows .sets) (rows .count)
+        (table-rows (held-from (now low) (now high) (now rule) (now follow) last 0 count) first)
         × (256 ≤ length (now winners)) ⌝ }
     ensures { λ r. ⌜ now (winners .exit) ≡ written-over
         (table-winners
@@ -214,8 +217,8 @@ fn fill_winners<'a>(
     }
 }
 
-// Builds the table of some positions, if it has no more than 256 rows, and tells whether it has. The rows are counted before the first entry is
-// written.
+// Builds the table of some positions, if it has no more than 256 rows, and tells whether it has no more. The rows are counted before the
+// first entry is written.
 pub fn build_table<'a>(
     table: &mut [u16],
     winners: &mut [u16],
@@ -228,7 +231,8 @@ pub fn build_table<'a>(
     first: u64,
     classes: &'a [u64; 256],
 ) -> bool
-    requires { ⌜ (count ≤ 64) × Prepared (held-from (now low) (now high) (now rule) (now follow) last 0 count) (now classes) × (65536 ≤ length (now table)) × (256 ≤ length (now winners)) ⌝ }
+    requires { ⌜ (count ≤ 64) × Prepared (held-from (now low) (now high) (now rule) (now follow) last 0 count) (now classes)
+        × (65536 ≤ length (now table)) × (256 ≤ length (now winners)) ⌝ }
     ensures { λ r. ⌜ (r ≡ leb
         (length (table-rows
         (held-from (now (low .entry)) (now (high .entry)) (now (rule .entry)) (now (follow .entry)) last 0 count)

@@ -1,5 +1,5 @@
-// The machine with a table: builds an image's table into lent buffers and runs the image over a text by its rows. Questions 18, 12 and 19 are
-// answered here, question 13 by the image reader, the others by the turns.
+// The machine with a table: builds an image's table into lent buffers and runs the image over a text by its rows. Questions 18, 12 and 19
+// are answered here, question 13 by the image reader, the others by the turns.
 ghost use mathlib.Core.Path.{_≡_};
 ghost use mathlib.Core.Bool.{cond};
 ghost use mathlib.Core.List.{List};
@@ -11,7 +11,8 @@ ghost use Rattle.stage5_image.specs.Image.{Image};
 ghost use Rattle.stage5_image.specs.ImageRanges.{InRange};
 ghost use Rattle.stage5_image_reader.specs.Decoded.{Decoded};
 ghost use Rattle.stage6_machine.specs.Run.{run-image};
-ghost use Rattle.stage6_machine.specs.TableRun.{rows-of, entries-of, winners-of, beginning, run-table, table-after, winners-after, table-stack-after};
+ghost use Rattle.stage6_machine.specs.TableRun.{rows-of, entries-of, winners-of};
+ghost use Rattle.stage6_machine.specs.TableRun.{beginning, run-table, table-after, winners-after, table-stack-after};
 ghost use Rattle.stage6_machine_turn.specs.Steps.{answer-held};
 ghost use Rattle.stage6_machine_table.specs.Built.{WithTable};
 use stage4_lexer_classes::class_table;
@@ -59,7 +60,8 @@ fn run_rows<'a>(
     stage6_machine_turn::at_end(tables.empty, stack, state)
 }
 
-// Builds the table of an image, given by the machine's tables, and tells whether it has no more than 256 rows. Otherwise nothing is written.
+// Builds the table of an image, given by the machine's tables, and tells whether it has no more than 256 rows. Otherwise nothing is
+// written.
 fn build_of(tables: ImageTables, table: &mut [u16], winners: &mut [u16]) -> bool
     requires { ⌜ ((bytes : List ℕ) × (i : Image) × Decoded bytes tables i × InRange i × (65536 ≤ length (now table))
         × (256 ≤ length (now winners))) ⌝ }
