@@ -4,16 +4,18 @@ use mathlib.Core.Path.{_≡_, refl, sym, ap, subst, _∙_}
 use mathlib.Core.Bool.{Bool, true, false, cond}
 use mathlib.Core.List.{List, [], _∷_, _++_, append-assoc, append-nil, flatMap, List·Memᴰ, List·Memᴰ·append-cases}
 use mathlib.Core.Logic.{_⊎_, inl, inr, ⊎-elim}
-use Prim.Native.Nat.{ℕ, zero, suc, _+_, _≤_, _<_}
+use Prim.Native.Nat.{ℕ, zero, suc, _+_, _-_, _≤_, _<_}
 use native.Mathlib.Omega.{arith}
 use native.Mathlib.Nat.{not-suc-le-zero}
 use native.Mathlib.Decide.{ℕ-discrete}
 use lib.Dec.{ltb}
 use lib.ListN.{getD, length, take, length-append, List·getD-append}
-use lib.Seq.{take-append-le, take-suc, take-all}
+use lib.Seq.{take-append-le, take-suc, take-all, getD-append-add}
 use borrow.Author.Tests.{ltb-true, ltb-false, lt-ltb, le-ltb}
+use Rattle.stage0_laws.specs.Members.{member-at}
+use Rattle.stage0_laws.specs.Order.{lt-or-le}
 use Rattle.stage0_laws.specs.Meeting.{meet, meet-all, meet-rows, number-of}
-use Rattle.stage0_laws.specs.MeetingLaws.{Met, Once, met-at, meet-all-has, meet-all-keeps, once-meet-all, number-below, first-met, first-met-member, meet-all-order}
+use Rattle.stage0_laws.specs.MeetingLaws.{Met, Once, meet-all-has, meet-all-keeps, once-meet-all, number-below, first-met, first-met-member, meet-all-order}
 
 -- ---- one row
 
@@ -86,6 +88,11 @@ module _ (row : ℕ → List ℕ) where
 
 -- ---- all rows
 
+-- Each number past the start is led to by one that was met before it.
+abbrev pub FromEarlier : (ℕ → List ℕ) → List ℕ → List ℕ → Type 0
+FromEarlier row start met =
+    (j : ℕ) → length start ≤ j → j < length met → (k : ℕ) × (k < j) × List·Memᴰ (getD met j 0) (row (getD met k 0))
+
 -- The rows of the first i numbers met are done. All of them have a property, where the start has it and all that a row leads to.
 pub record RowsDone (row : ℕ → List ℕ) (start : List ℕ) (Inside : ℕ → Type 0) (i : ℕ) (met : List ℕ) : Type 0 where
   pub inside : (x : ℕ) → List·Memᴰ x met → Inside x
@@ -93,6 +100,7 @@ pub record RowsDone (row : ℕ → List ℕ) (start : List ℕ) (Inside : ℕ �
   pub once : Once met
   pub done : (j : ℕ) → j < i → j < length met → (x : ℕ) → List·Memᴰ x (row (getD met j 0)) → Met x met
   pub ordered : met ≡ meet-all start (flatMap row (take i met))
+  pub from-earlier : FromEarlier row start met
 
 pub flatMap-last : (row : ℕ → List ℕ) (met : List ℕ) (n : ℕ) → flatMap row (met ++ (n ∷ [])) ≡ flatMap row met ++ row n
 unfolding flatMap
@@ -128,6 +136,37 @@ module _ (row : ℕ → List ℕ) (start : List ℕ) (Inside : ℕ → Type 0) (
       ∙ sym (meet-all-append start (flatMap row (take i met)) (new-at met i))
       ∙ ap (meet-all start) (sym (ap (flatMap row) first ∙ flatMap-last row (take i met) (getD met i 0)))
 
+  next-earlier : (i : ℕ) (met : List ℕ) → i < length met → FromEarlier row start met → FromEarlier row start (meet-all met (new-at met i))
+  next-earlier i met h f j s l = ⊎-elim before here (lt-or-le j (length met))
+    where
+      before : j < length met
+          → (k : ℕ) × (k < j) × List·Memᴰ (getD (meet-all met (new-at met i)) j 0) (row (getD (meet-all met (new-at met i)) k 0))
+      before b =
+          let r = f j s b in (
+            r .0,
+            r .1,
+            subst (λ (z : ℕ). List·Memᴰ z (row (getD (meet-all met (new-at met i)) (r .0) 0))) (sym (meet-all-at met (new-at met i) j b))
+                (subst (λ (z : ℕ). List·Memᴰ (getD met j 0) (row z))
+                (sym (meet-all-at met (new-at met i) (r .0) (let l' = r .1 in omega arith))) (r .2)),
+          )
+
+      here : length met ≤ j
+          → (k : ℕ) × (k < j) × List·Memᴰ (getD (meet-all met (new-at met i)) j 0) (row (getD (meet-all met (new-at met i)) k 0))
+      here b =
+          let new = first-met met (new-at met i) in
+          let e = meet-all-order met (new-at met i) in
+          let same : getD (meet-all met (new-at met i)) j 0 ≡ getD new (j - length met) 0 =
+          ap (λ (z : List ℕ). getD z j 0) e
+          ∙ ap (λ (z : ℕ). getD (met ++ new) z 0) (let z : j ≡ length met + (j - length met) = omega arith in z)
+          ∙ getD-append-add met new (j - length met) 0 in
+          let inside : j - length met < length new = omega (arith, ap length e, length-append met new) in (
+            i,
+            omega arith,
+            subst (λ (z : ℕ). List·Memᴰ z (row (getD (meet-all met (new-at met i)) i 0))) (sym same)
+                (subst (λ (z : ℕ). List·Memᴰ (getD new (j - length met) 0) (row z)) (sym (meet-all-at met (new-at met i) i h))
+                (first-met-member met (new-at met i) (getD new (j - length met) 0) (member-at new (j - length met) 0 inside))),
+          )
+
   next-row : (i : ℕ) (met : List ℕ) → i < length met → RowsDone row start Inside i met
       → RowsDone row start Inside (suc i) (meet-all met (new-at met i))
   next-row i met h w =
@@ -142,6 +181,7 @@ module _ (row : ℕ → List ℕ) (start : List ℕ) (Inside : ℕ → Type 0) (
         once = once-meet-all met (new-at met i) (w .once);
         done = λ j l k x m. next-done i met h w j l x m;
         ordered = next-ordered i met h (w .ordered);
+        from-earlier = next-earlier i met h (w .from-earlier);
       }
 
   -- So many rows later all rows are done, or so many more.
@@ -170,6 +210,7 @@ module _ (row : ℕ → List ℕ) (start : List ℕ) (Inside : ℕ → Type 0) (
     once = once;
     done = λ j l k x m. absurd (not-suc-le-zero l);
     ordered = unfold meet-all flatMap in refl;
+    from-earlier = λ j s l. absurd (omega arith);
   }
 
   -- Where all rows are done, those met are closed under their rows.

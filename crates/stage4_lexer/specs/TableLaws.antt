@@ -1,8 +1,8 @@
--- Laws of the table of some positions: 256 rows tell whether there are more; all that a row leads to is a row; the entries and winners by
--- row; and that the longest match by rows is the one by sets.
-use mathlib.Core.Path.{_≡_, refl, sym, ap, ap₂, subst, _∙_}
-use mathlib.Core.Bool.{Bool, true, false, cond}
-use mathlib.Core.List.{List, [], _∷_, _++_, map, flatMap, append-assoc, List·Memᴰ, List·Memᴰ·head, List·Memᴰ·tail, List·Memᴰ·not-nil, List·Memᴰ·cases-cons}
+-- Laws of the table of some positions: 256 rows tell whether there are more; the rows stand in the order first reached, and all that a row leads
+-- to is a row; the entries and winners by row; and that the longest match by rows is the one by sets.
+use mathlib.Core.Path.{_≡_, refl, sym, ap, subst, _∙_}
+use mathlib.Core.Bool.{true, false}
+use mathlib.Core.List.{List, [], _∷_, _++_, map, flatMap, append-assoc, List·Memᴰ, List·Memᴰ·head, List·Memᴰ·tail}
 use mathlib.Core.Logic.{_⊎_, ⊎-elim}
 use mathlib.Core.Option.{Option, none, some}
 use Prim.Native.Nat.{ℕ, zero, suc, _+_, _*_, _^_, _≤_, _<_}
@@ -17,8 +17,8 @@ use Rattle.stage0_laws.specs.Lists.{All}
 use Rattle.stage0_laws.specs.Truth.{or-left, or-right}
 use Rattle.stage0_laws.specs.Members.{getD-map-inside}
 use Rattle.stage0_laws.specs.Meeting.{is-met, meet-rows, number-of}
-use Rattle.stage0_laws.specs.MeetingLaws.{Met, Once, met-at, met-member, number-below}
-use Rattle.stage0_laws.specs.Reaching.{RowsDone, none-done, rows-reach, closed-rows, enough-rows, further-rows}
+use Rattle.stage0_laws.specs.MeetingLaws.{Met, Once, first-met, number-below}
+use Rattle.stage0_laws.specs.Reaching.{RowsDone, none-done, rows-reach, closed-rows, in-order, enough-rows, further-rows}
 use Rattle.stage4_lexer.specs.Positions.{Position}
 use Rattle.stage4_lexer.specs.Match.{Match, no-match, longer}
 use Rattle.stage4_lexer.specs.Walk.{keep, follows, ended, walk, longest-match}
@@ -26,7 +26,6 @@ use Rattle.stage4_lexer.specs.Least.{LeastOf}
 use Rattle.stage4_lexer.specs.WalkLaws.{EndsRule, ended-least}
 use Rattle.stage4_lexer.specs.PositionList.{all-at}
 use Rattle.stage4_lexer.specs.PositionBounds.{keep-below}
-use Rattle.stage4_lexer.specs.LowestPosition.{keep-nothing, follows-nothing, ended-nothing}
 use Rattle.stage4_lexer.specs.Table.{most-rows, row-entries, no-winner, bytes-from, start-row, held-in, next-sets, table-rows, table-entries}
 use Rattle.stage4_lexer.specs.Table.{rule-or-none, winner-in, table-winners, winning, row-walk, match-by-rows}
 
@@ -145,6 +144,10 @@ module _ (ps : List Position) (first : ℕ) where
   pub rows-once : Once rows
   rows-once = reached .1 .once
 
+  -- Past the start and the empty set, each is one that an earlier row leads to.
+  pub rows-reached : (j : ℕ) → 2 ≤ j → j < length rows → (k : ℕ) × (k < j) × List·Memᴰ (getD rows j 0) (next-sets ps first (getD rows k 0))
+  rows-reached = reached .1 .from-earlier
+
   pub start-met : Met (start-row ps) rows
   unfolding is-met
   start-met = rw (rows-front .1) (or-left (eqb (start-row ps) (start-row ps)) _ (eqb-refl (start-row ps)))
@@ -161,14 +164,19 @@ module _ (ps : List Position) (first : ℕ) where
   unfolding number-of
   empty-second = rw (rows-front .1, ne-eqb (start-row ps) 0 (λ e. let l = power-some (length ps) in absurd (omega arith)))
 
-  -- Every set that a row leads to is a row.
   module _ (few : length rows ≤ most-rows) where
+    all-done : length rows ≤ reached .0
+    all-done = ⊎-elim (λ l. l) (λ l. omega arith) (reached .2)
+
+    -- "in the order first reached, rows in order, bytes rising"
+    pub rows-in-order : rows ≡ start-row ps ∷ 0 ∷ first-met (start-row ps ∷ 0 ∷ []) (flatMap (next-sets ps first) rows)
+    rows-in-order = in-order (next-sets ps first) (start-row ps ∷ 0 ∷ []) (λ y. Unit) (λ n y m. tt) (reached .0) rows (reached .1) all-done
+
+    -- Every set that a row leads to is a row.
     pub next-met : (x : ℕ) → Met x rows → (b : ℕ) → b < row-entries → Met (keep ps 0 (held-in ps first x) b) rows
     unfolding next-sets
     next-met x t b h =
-        let r = reached in
-        closed-rows (next-sets ps first) (start-row ps ∷ 0 ∷ []) (λ y. Unit) (λ n y m. tt) (r .0) rows (r .1)
-        (⊎-elim (λ l. l) (λ l. omega arith) (r .2)) x t (keep ps 0 (held-in ps first x) b)
+        closed-rows (next-sets ps first) (start-row ps ∷ 0 ∷ []) (λ y. Unit) (λ n y m. tt) (reached .0) rows (reached .1) all-done x t (keep ps 0 (held-in ps first x) b)
         (subst (λ (k : ℕ). List·Memᴰ (keep ps 0 (held-in ps first x) k) (next-sets ps first x)) (let z : 0 + b ≡ b = omega arith in z)
         (mapped-member (keep ps 0 (held-in ps first x)) 0 row-entries b h))
 

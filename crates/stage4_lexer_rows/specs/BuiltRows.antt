@@ -44,9 +44,9 @@ unfolding rule-or-none
 rule-below none h = omega arith
 rule-below (some rule) h = let l = h rule refl in omega arith
 
-winner-most : (ps : List Position) → All (λ p. p .rule < no-winner) ps → (row : ℕ) → winner-in ps row ≤ no-winner
+winner-at-most : (ps : List Position) → All (λ p. p .rule < no-winner) ps → (row : ℕ) → winner-in ps row ≤ no-winner
 unfolding winner-in
-winner-most ps below row = go (eqb row (start-row ps)) (rule-below (ended ps 0 row) (λ rule e. ended-below ps no-winner below 0 row rule e))
+winner-at-most ps below row = go (eqb row (start-row ps)) (rule-below (ended ps 0 row) (λ rule e. ended-below ps no-winner below 0 row rule e))
   where
     go : (b : Bool) → rule-or-none (ended ps 0 row) ≤ no-winner → cond b no-winner (rule-or-none (ended ps 0 row)) ≤ no-winner
     go true l = omega arith
@@ -84,7 +84,7 @@ module _ (ps : List Position) (first : ℕ) (below : All (λ p. p .rule < no-win
       let wins : getD winners row no-winner ≡ winner-in ps x =
       subst (λ (r : ℕ). getD winners r no-winner ≡ winner-in ps x) (rows-once ps first row h)
       (winner-at ps first rest x (met-at rows row h)) in
-      rw wins (winner-most ps below x)
+      rw wins (winner-at-most ps below x)
 
   empty-leads : (b : ℕ) → b < row-entries → getD table (1 * row-entries + b) 0 ≡ 1
   empty-leads b l =

@@ -69,12 +69,12 @@ written-one front buffer v at e h =
     ∙ sym (append-snoc front v (drop (suc at) buffer))
 
 -- The rows before row i + 1 are written, the entries of each and the winner of each.
-abbrev pub entries-of : List Position → ℕ → ℕ → List ℕ
-entries-of ps first row = map (number-of (table-rows ps first)) (next-sets ps first row)
+abbrev pub row-numbers : List Position → ℕ → ℕ → List ℕ
+row-numbers ps first row = map (number-of (table-rows ps first)) (next-sets ps first row)
 
 abbrev pub EntriesTo : List Position → ℕ → List ℕ → ℕ → List ℕ → Type 0
 EntriesTo ps first buffer i table =
-    table ≡ flatMap (entries-of ps first) (take (suc i) (table-rows ps first)) ++ drop (suc i * row-entries) buffer
+    table ≡ flatMap (row-numbers ps first) (take (suc i) (table-rows ps first)) ++ drop (suc i * row-entries) buffer
 
 abbrev pub WinnersTo : List Position → ℕ → List ℕ → ℕ → List ℕ → Type 0
 WinnersTo ps first buffer i winners = winners ≡ map (winner-in ps) (take (suc i) (table-rows ps first)) ++ drop (suc i) buffer
@@ -112,7 +112,7 @@ module _ (low high rule follow : List ℕ) (last first count : ℕ) (most : coun
     pub empty-first : number-of (take met sets) 0 ≡ 0
     empty-first = omega (arith, number-is 0 (power-some count), empty-second ps first)
 
-    pub numbers-are : (held x : ℕ) → held ≡ held-in ps first x → numbers-by (take met sets) classes held row-entries ≡ entries-of ps first x
+    pub numbers-are : (held x : ℕ) → held ≡ held-in ps first x → numbers-by (take met sets) classes held row-entries ≡ row-numbers ps first x
     unfolding numbers-by sets-by
     numbers-are held x e =
         map-bytes (λ b. suc (number-of (take met sets) (bitAnd held (getD classes b 0)))) (λ b. number-of rows (bitAnd held (getD classes b 0))) 0 row-entries
@@ -120,9 +120,9 @@ module _ (low high rule follow : List ℕ) (last first count : ℕ) (most : coun
         ∙ sym (map-map (number-of rows) (λ b. bitAnd held (getD classes b 0)) (bytes-from 0 row-entries))
         ∙ ap (map (number-of rows)) (sets-are low high rule follow last first count most classes prepared held x e)
 
-    front-length : (i : ℕ) → suc i ≤ length rows → length (flatMap (entries-of ps first) (take (suc i) rows)) ≡ suc i * row-entries
+    front-length : (i : ℕ) → suc i ≤ length rows → length (flatMap (row-numbers ps first) (take (suc i) rows)) ≡ suc i * row-entries
     front-length i h =
-        rows-length (entries-of ps first) row-entries (row-length ps first) (take (suc i) rows)
+        rows-length (row-numbers ps first) row-entries (row-length ps first) (take (suc i) rows)
         ∙ ap (λ (k : ℕ). k * row-entries) (length-take-le (suc i) rows h)
 
     pub first-written : (buffer table : List ℕ) → row-entries ≤ length buffer
@@ -132,9 +132,9 @@ module _ (low high rule follow : List ℕ) (last first count : ℕ) (most : coun
         let held = numbers-are first (start-row ps) (sym (start-held ps first)) in
         e
         ∙ ap (λ (l : List ℕ). paste buffer 0 l row-entries) held
-        ∙ written-more [] (entries-of ps first (start-row ps)) buffer 0 row-entries refl (row-length ps first (start-row ps))
+        ∙ written-more [] (row-numbers ps first (start-row ps)) buffer 0 row-entries refl (row-length ps first (start-row ps))
         ∙ ap (λ (l : List ℕ). l ++ drop row-entries buffer)
-        (sym (append-nil (entries-of ps first (start-row ps))) ∙ sym (ap (λ (l : List ℕ). flatMap (entries-of ps first) (take 1 l)) (rows-front ps first .1)))
+        (sym (append-nil (row-numbers ps first (start-row ps))) ∙ sym (ap (λ (l : List ℕ). flatMap (row-numbers ps first) (take 1 l)) (rows-front ps first .1)))
 
     pub next-written : (buffer table table' : List ℕ) (i held : ℕ) → i < met
         → held ≡ joined follow (set-walk (getD sets i 0)) → EntriesTo ps first buffer i table
@@ -142,22 +142,22 @@ module _ (low high rule follow : List ℕ) (last first count : ℕ) (most : coun
         → EntriesTo ps first buffer (i + 1) table'
     next-written buffer table table' i held h e w f =
         let inside : suc i < length rows = omega (arith, rows-count) in
-        let front = flatMap (entries-of ps first) (take (suc i) rows) in
+        let front = flatMap (row-numbers ps first) (take (suc i) rows) in
         let x-is = row-is i h in
-        let row : numbers-by (take met sets) classes held row-entries ≡ entries-of ps first (getD rows (suc i) 0) =
+        let row : numbers-by (take met sets) classes held row-entries ≡ row-numbers ps first (getD rows (suc i) 0) =
         numbers-are held (getD rows (suc i) 0)
         (e ∙ held-is low high rule follow last first count most classes prepared (getD sets i 0) (row-small i h) ∙ ap (held-in ps first) (sym x-is)) in
-        let more : front ++ entries-of ps first (getD rows (suc i) 0) ≡ flatMap (entries-of ps first) (take (suc (suc i)) rows) =
-        sym (flatMap-last (entries-of ps first) (take (suc i) rows) (getD rows (suc i) 0)) ∙ ap (flatMap (entries-of ps first)) (sym (take-suc rows (suc i) 0 inside)) in
+        let more : front ++ row-numbers ps first (getD rows (suc i) 0) ≡ flatMap (row-numbers ps first) (take (suc (suc i)) rows) =
+        sym (flatMap-last (row-numbers ps first) (take (suc i) rows) (getD rows (suc i) 0)) ∙ ap (flatMap (row-numbers ps first)) (sym (take-suc rows (suc i) 0 inside)) in
         f
         ∙ ap (λ (k : ℕ). paste table (k * row-entries) (numbers-by (take met sets) classes held row-entries) row-entries) (add-one i)
         ∙ ap (λ (l : List ℕ). paste table (suc i * row-entries) l row-entries) row
-        ∙ ap (λ (l : List ℕ). paste l (suc i * row-entries) (entries-of ps first (getD rows (suc i) 0)) row-entries) w
-        ∙ written-more front (entries-of ps first (getD rows (suc i) 0)) buffer (suc i * row-entries) row-entries (front-length i (omega arith))
+        ∙ ap (λ (l : List ℕ). paste l (suc i * row-entries) (row-numbers ps first (getD rows (suc i) 0)) row-entries) w
+        ∙ written-more front (row-numbers ps first (getD rows (suc i) 0)) buffer (suc i * row-entries) row-entries (front-length i (omega arith))
         (row-length ps first (getD rows (suc i) 0))
         ∙ ap (λ (l : List ℕ). l ++ drop (suc i * row-entries + row-entries) buffer) more
-        ∙ ap (λ (k : ℕ). flatMap (entries-of ps first) (take (suc k) rows) ++ drop (suc i * row-entries + row-entries) buffer) (sym (add-one i))
-        ∙ ap (λ (k : ℕ). flatMap (entries-of ps first) (take (suc (i + 1)) rows) ++ drop k buffer)
+        ∙ ap (λ (k : ℕ). flatMap (row-numbers ps first) (take (suc k) rows) ++ drop (suc i * row-entries + row-entries) buffer) (sym (add-one i))
+        ∙ ap (λ (k : ℕ). flatMap (row-numbers ps first) (take (suc (i + 1)) rows) ++ drop k buffer)
         (let z : suc i * row-entries + row-entries ≡ suc (i + 1) * row-entries = omega arith in z)
 
     pub all-written : (buffer table : List ℕ) (i : ℕ) → i ≤ met → met ≤ i → EntriesTo ps first buffer i table
@@ -166,9 +166,9 @@ module _ (low high rule follow : List ℕ) (last first count : ℕ) (most : coun
     all-written buffer table i a b w =
         let all : suc i ≡ length rows = omega (arith, rows-count) in
         w
-        ∙ ap (λ (k : ℕ). flatMap (entries-of ps first) (take k rows) ++ drop (k * row-entries) buffer) all
-        ∙ ap (λ (l : List ℕ). flatMap (entries-of ps first) l ++ drop (length rows * row-entries) buffer) (take-length rows)
-        ∙ ap (λ (k : ℕ). flatMap (entries-of ps first) rows ++ drop k buffer) (sym (entries-length ps first))
+        ∙ ap (λ (k : ℕ). flatMap (row-numbers ps first) (take k rows) ++ drop (k * row-entries) buffer) all
+        ∙ ap (λ (l : List ℕ). flatMap (row-numbers ps first) l ++ drop (length rows * row-entries) buffer) (take-length rows)
+        ∙ ap (λ (k : ℕ). flatMap (row-numbers ps first) rows ++ drop k buffer) (sym (entries-length ps first))
 
     -- ---- the winners
 

@@ -1,5 +1,5 @@
 -- Sets join those met: one set, and the sets that a row leads to.
-use mathlib.Core.Path.{_≡_, refl, sym, ap, subst, _∙_}
+use mathlib.Core.Path.{_≡_, refl, sym, ap, _∙_}
 use mathlib.Core.Bool.{Bool, true, false, _||_, cond}
 use mathlib.Core.List.{List, [], _∷_, _++_, map, List·Memᴰ·head}
 use mathlib.Core.Logic.{⊎-elim}
@@ -12,15 +12,14 @@ use lib.Dec.{eqb}
 use lib.ListN.{getD, length, take, drop, set, length-append, length-take}
 use lib.Seq.{getD-take, take-suc-set, length-take-le}
 use borrow.Author.Tests.{eq-eqb, ne-eqb}
-use Rattle.stage0_laws.specs.Lists.{All}
 use Rattle.stage0_laws.specs.Members.{all-append}
 use Rattle.stage0_laws.specs.Order.{lt-or-le}
 use Rattle.stage0_laws.specs.Truth.{holds-true, true-holds}
 use Rattle.stage0_laws.specs.Meeting.{is-met, meet, meet-all, number-of}
 use Rattle.stage0_laws.specs.MeetingLaws.{Met, meet-all-has, number-below}
 use Rattle.stage0_laws.specs.Reaching.{meet-all-append}
-use Rattle.stage4_lexer.specs.Table.{most-rows, row-entries, bytes-from}
-use Rattle.stage4_lexer_table.specs.Rows.{AllHeld, RowsHeld, all-held, too-many, sets-by, SetsBelow}
+use Rattle.stage4_lexer.specs.Table.{most-rows, bytes-from}
+use Rattle.stage4_lexer_table.specs.Rows.{AllHeld, RowsHeld, all-held, too-many, sets-by}
 
 -- ---- a set's place
 

@@ -5,7 +5,6 @@ use mathlib.Core.List.{List, [], _∷_, map}
 use mathlib.Core.Logic.{_⊎_, ⊎-elim}
 use Prim.Native.Nat.{ℕ, zero, suc, _+_, _-_, _^_, _≤_, _<_}
 use native.Mathlib.Omega.{arith}
-use native.Mathlib.Nat.{not-suc-le-zero}
 use native.Mathlib.Numerals.{add-one}
 use lib.Bits.{bitAnd}
 use lib.Dec.{eqb}
@@ -26,7 +25,7 @@ use Rattle.stage4_lexer.specs.SetWalk.{set-walk}
 use Rattle.stage4_lexer.specs.SetWalkLaws.{walk-meets-members}
 use Rattle.stage4_lexer.specs.Table.{most-rows, row-entries, bytes-from, start-row, held-in, next-sets, table-rows}
 use Rattle.stage4_lexer.specs.TableLaws.{power-some, start-held}
-use Rattle.stage4_lexer.specs.Walk.{keep, follows}
+use Rattle.stage4_lexer.specs.Walk.{keep}
 use Rattle.stage4_lexer_columns.specs.Held.{held-from}
 use Rattle.stage4_lexer_scanner.proofs.Byte.{kept-is, follows-of}
 use Rattle.stage4_lexer_scanner.specs.Meaning.{Prepared}

@@ -1,23 +1,18 @@
 -- Laws of numbering: the nodes reached begin with the start, hold each node once, are closed under tails, are no more than the
 -- rows and are numbered as first met. Then the rows by number.
 use mathlib.Core.Path.{_≡_, refl, sym, ap, subst, _∙_}
-use mathlib.Core.Bool.{Bool, true, false}
-use mathlib.Core.List.{List, [], _∷_, _++_, map, append-assoc, append-nil, flatMap, List·Memᴰ, List·Memᴰ·head, List·Memᴰ·tail, List·Memᴰ·not-nil, List·Memᴰ·cases-cons, List·Memᴰ·append-cases, List·Memᴰ·eq-of-singleton, Memᴰ·append-left, Memᴰ·append-right}
+use mathlib.Core.List.{List, [], _∷_, _++_, flatMap, List·Memᴰ, List·Memᴰ·head, List·Memᴰ·tail, List·Memᴰ·not-nil, List·Memᴰ·cases-cons, List·Memᴰ·append-cases, List·Memᴰ·eq-of-singleton, Memᴰ·append-left, Memᴰ·append-right}
 use mathlib.Core.Logic.{_⊎_, ⊎-elim}
 use Prim.Native.Nat.{ℕ, zero, suc, _+_, _≤_, _<_}
 use native.Mathlib.Omega.{arith}
 use native.Mathlib.Nat.{not-suc-le-zero}
-use native.Mathlib.Decide.{ℕ-discrete}
-use lib.Dec.{ltb}
-use lib.ListN.{getD, length, take, length-append, length-map, List·getD-append}
-use lib.Seq.{take-append-le, take-suc, take-all}
-use borrow.Author.Tests.{ltb-true, ltb-false}
+use lib.ListN.{getD, length, length-map}
 use Rattle.stage3_normal_form.specs.Productions.{Production, Row, no-productions, row-of}
 use Rattle.stage0_laws.specs.Members.{getD-map-inside}
-use Rattle.stage0_laws.specs.Meeting.{is-met, meet-rows, number-of}
+use Rattle.stage0_laws.specs.Meeting.{is-met, number-of}
 use Rattle.stage0_laws.specs.MeetingLaws.{Met, Once, met-at, number-below, first-met}
 use Rattle.stage0_laws.specs.DistinctMembers.{distinct-below}
-use Rattle.stage0_laws.specs.Reaching.{RowsDone, none-done, rows-reach, closed-rows, in-order}
+use Rattle.stage0_laws.specs.Reaching.{FromEarlier, RowsDone, none-done, rows-reach, closed-rows, in-order}
 use Rattle.stage5_image.specs.Numbering.{tail-members, tails-of, reached, renumbered-row, numbered}
 
 -- ---- the order
@@ -57,6 +52,8 @@ pub record Reached (rows : List Row) (met : List ℕ) : Type 0 where
   pub few : length met ≤ length rows
   -- "numbered as first met: start 0, then row by row, productions by rule, tails from the left"
   pub in-order : met ≡ first-met [] (0 ∷ row-by-row rows met)
+  -- Each but the start is in a tail of one that was met before it.
+  pub from-earlier : FromEarlier (tails-of rows) (0 ∷ []) met
 
 once-start : Once (0 ∷ [])
 unfolding number-of
@@ -86,6 +83,7 @@ reached-is rows inside h =
           few = few;
           in-order = in-order (tails-of rows) (0 ∷ []) (λ x. x < length rows) inside (r .0) met w all
               ∙ ap (λ (l : List ℕ). 0 ∷ first-met (0 ∷ []) l) (rows-in-order rows met) ∙ (unfold is-met in refl);
+          from-earlier = w .from-earlier;
         }
 
 -- ---- the rows by number

@@ -116,27 +116,28 @@ module _ (image : Image) (text : List ℕ) (entries : ℕ) where
 
 -- ---- running an image's bytes
 
-module _ (bytes text : List ℕ) (entries : ℕ) (b : Bytes bytes) where
-  -- What `run` answers, question by question.
-  run-long : most-text-bytes < length text → run bytes text entries ≡ answer 12 0 0
+-- What `run` answers, question by question.
+module _ (bytes text : List ℕ) (entries : ℕ) where
+  pub run-long : most-text-bytes < length text → run bytes text entries ≡ answer 12 0 0
   unfolding run
   run-long h = rw (lt-ltb most-text-bytes (length text) h)
 
-  run-stop : length text ≤ most-text-bytes → (question place : ℕ) → read-image bytes ≡ stop question place
+  pub run-stop : length text ≤ most-text-bytes → (question place : ℕ) → read-image bytes ≡ stop question place
       → run bytes text entries ≡ answer question place 0
   unfolding run run-reading
   run-stop h question place e = rw (le-ltb most-text-bytes (length text) h, e)
 
-  run-got : length text ≤ most-text-bytes → (i : Image) (end : ℕ) → read-image bytes ≡ got i end
+  pub run-got : length text ≤ most-text-bytes → (i : Image) (end : ℕ) → read-image bytes ≡ got i end
       → run bytes text entries ≡ run-image i entries text
   unfolding run run-reading
   run-got h i end e = rw (le-ltb most-text-bytes (length text) h, e)
 
+module _ (bytes text : List ℕ) (entries : ℕ) (b : Bytes bytes) where
   pub run-runs : Runs bytes text entries (run bytes text entries)
   unfolding run-image
   run-runs =
       ⊎-elim
-      (λ h. subst (Runs bytes text entries) (sym (run-long h)) (long-text h))
+      (λ h. subst (Runs bytes text entries) (sym (run-long bytes text entries h)) (long-text h))
       (λ h. by-reading h (read-image bytes) refl)
       (lt-or-le most-text-bytes (length text))
     where
@@ -151,26 +152,26 @@ module _ (bytes text : List ℕ) (entries : ℕ) (b : Bytes bytes) where
       by-reading h (stop question place) e =
           let q = read-refusal bytes question place e .0 in
           let f : read-image bytes ≡ stop 13 place = e ∙ ap (λ (k : ℕ). stop k place) q in
-          subst (Runs bytes text entries) (sym (run-stop h 13 place f))
+          subst (Runs bytes text entries) (sym (run-stop bytes text entries h 13 place f))
           (unreadable place h (λ x. let g = sym f ∙ readable-read bytes b (x .0) (x .1) in let z : _≡_ {A = ℕ} 0 1 = cc in omega arith)
           (stop-offends bytes b 13 place f))
       by-reading h (got i end) e =
-          subst (Runs bytes text entries) (sym (run-got h i end e)) (started-runs h i (read-readable bytes b i end e))
+          subst (Runs bytes text entries) (sym (run-got bytes text entries h i end e)) (started-runs h i (read-readable bytes b i end e))
 
   pub runs-only : {a : Answer} → Runs bytes text entries a → run bytes text entries ≡ a
   unfolding run-image
-  runs-only (long-text h) = run-long h
+  runs-only (long-text h) = run-long bytes text entries h
   runs-only (unreadable p h n o) = by-reading (read-image bytes) refl
     where
       by-reading : (r : Reading Image) → read-image bytes ≡ r → run bytes text entries ≡ answer 13 p 0
       by-reading (stop question place) e =
           let q = read-refusal bytes question place e .0 in
           let same = first-offence-one bytes place p (stop-offends bytes b question place e) o in
-          run-stop h question place e ∙ ap₂ (λ (k l : ℕ). answer k l 0) q same
+          run-stop bytes text entries h question place e ∙ ap₂ (λ (k l : ℕ). answer k l 0) q same
       by-reading (got i end) e = absurd (n (i, read-readable bytes b i end e))
-  runs-only (no-entry h r l) = run-got h (r .0) _ (readable-read bytes b (r .0) (r .1)) ∙ rw (lt-ltb entries 1 l)
+  runs-only (no-entry h r l) = run-got bytes text entries h (r .0) _ (readable-read bytes b (r .0) (r .1)) ∙ rw (lt-ltb entries 1 l)
   runs-only (started i h r l s) =
-      run-got h i _ (readable-read bytes b i r) ∙ rw (le-ltb entries 1 l) (runs-from-only i text entries s (length text) (omega arith))
+      run-got bytes text entries h i _ (readable-read bytes b i r) ∙ rw (le-ltb entries 1 l) (runs-from-only i text entries s (length text) (omega arith))
 
   -- Two answers to one image, text and stack are equal.
   pub runs-one : {a c : Answer} → Runs bytes text entries a → Runs bytes text entries c → a ≡ c

@@ -17,10 +17,10 @@ use Rattle.stage5_image.specs.ImageFields.{ReadableAs}
 use Rattle.stage5_image.specs.ImageReading.{read-image}
 use Rattle.stage5_image.specs.ReadableImages.{read-refusal}
 use Rattle.stage5_image.specs.FieldsLaws.{read-readable, readable-read, readable-one}
-use Rattle.stage6_machine.specs.Answer.{Answer, answer}
-use Rattle.stage6_machine.specs.Run.{most-text-bytes, run-image, run-reading, run, stack-after}
+use Rattle.stage6_machine.specs.Answer.{Answer}
+use Rattle.stage6_machine.specs.Run.{most-text-bytes, run-image, run, stack-after}
 use Rattle.stage6_machine.specs.Runs.{Runs}
-use Rattle.stage6_machine.specs.RunsLaws.{run-runs, runs-one}
+use Rattle.stage6_machine.specs.RunsLaws.{run-long, run-stop, run-got, run-runs, runs-one}
 use Rattle.stage6_machine.specs.StackLaws.{stack-untouched-12, stack-untouched-13, turns-away, begun-not, image-begun, stack-cleared}
 use Rattle.stage6_machine.specs.TableRun.{lent-entries, rows-of, entries-of, winners-of, Beginning, turned-away, table-built, rows-counted}
 use Rattle.stage6_machine.specs.TableRun.{after-reading, beginning, answer-after, run-table, table-after, winners-after, table-stack-after}
@@ -62,74 +62,65 @@ module _ (bytes text : List ℕ) (table winners : ℕ) where
     begins-built h i end e l = begins-reading h ∙ ap after-reading e ∙ rw (le-ltb most-rows (length (rows-of i)) l)
 
 -- The ways in which it begins.
-data Way (bytes text : List ℕ) (table winners : ℕ) : Beginning → Type 0 where
-  by-short : (table < lent-entries) ⊎ (winners < most-rows) → Way bytes text table winners (turned-away 18 0)
-  by-long : lent-entries ≤ table → most-rows ≤ winners → most-text-bytes < length text → Way bytes text table winners (turned-away 12 0)
+data Begins (bytes text : List ℕ) (table winners : ℕ) : Beginning → Type 0 where
+  by-short : (table < lent-entries) ⊎ (winners < most-rows) → Begins bytes text table winners (turned-away 18 0)
+  by-long : lent-entries ≤ table → most-rows ≤ winners → most-text-bytes < length text → Begins bytes text table winners (turned-away 12 0)
   by-stop : lent-entries ≤ table → most-rows ≤ winners → length text ≤ most-text-bytes → (place : ℕ) → read-image bytes ≡ stop 13 place
-      → Way bytes text table winners (turned-away 13 place)
+      → Begins bytes text table winners (turned-away 13 place)
   by-over : lent-entries ≤ table → most-rows ≤ winners → length text ≤ most-text-bytes → (i : Image) (end : ℕ) → read-image bytes ≡ got i end
-      → most-rows < length (rows-of i) → Way bytes text table winners (turned-away 19 0)
+      → most-rows < length (rows-of i) → Begins bytes text table winners (turned-away 19 0)
   by-built : lent-entries ≤ table → most-rows ≤ winners → length text ≤ most-text-bytes → (i : Image) (end : ℕ) → read-image bytes ≡ got i end
-      → length (rows-of i) ≤ most-rows → Way bytes text table winners (table-built i)
+      → length (rows-of i) ≤ most-rows → Begins bytes text table winners (table-built i)
 
 module _ (bytes text : List ℕ) (table winners : ℕ) where
-  way : Way bytes text table winners (beginning bytes text table winners)
-  way =
+  begins : Begins bytes text table winners (beginning bytes text table winners)
+  begins =
       ⊎-elim
-      (λ h. subst (Way bytes text table winners) (sym (short-table bytes text table winners h)) (by-short (inl h)))
+      (λ h. subst (Begins bytes text table winners) (sym (short-table bytes text table winners h)) (by-short (inl h)))
       (λ h. ⊎-elim
-      (λ k. subst (Way bytes text table winners) (sym (short-winners bytes text table winners h k)) (by-short (inr k)))
+      (λ k. subst (Begins bytes text table winners) (sym (short-winners bytes text table winners h k)) (by-short (inr k)))
       (λ k. ⊎-elim
-      (λ l. subst (Way bytes text table winners) (sym (begins-long bytes text table winners h k l)) (by-long h k l))
+      (λ l. subst (Begins bytes text table winners) (sym (begins-long bytes text table winners h k l)) (by-long h k l))
       (λ l. reads h k l (read-image bytes) refl)
       (lt-or-le most-text-bytes (length text)))
       (lt-or-le winners most-rows))
       (lt-or-le table lent-entries)
     where
       reads : lent-entries ≤ table → most-rows ≤ winners → length text ≤ most-text-bytes → (r : Reading Image) → read-image bytes ≡ r
-          → Way bytes text table winners (beginning bytes text table winners)
+          → Begins bytes text table winners (beginning bytes text table winners)
       reads h k l (stop question place) e =
           let q = read-refusal bytes question place e .0 in
           let f : read-image bytes ≡ stop 13 place = e ∙ ap (λ (n : ℕ). stop n place) q in
-          subst (Way bytes text table winners) (sym (begins-stop bytes text table winners h k l 13 place f)) (by-stop h k l place f)
+          subst (Begins bytes text table winners) (sym (begins-stop bytes text table winners h k l 13 place f)) (by-stop h k l place f)
       reads h k l (got i end) e =
           ⊎-elim
-          (λ m. subst (Way bytes text table winners) (sym (begins-over bytes text table winners h k l i end e m)) (by-over h k l i end e m))
-          (λ m. subst (Way bytes text table winners) (sym (begins-built bytes text table winners h k l i end e m)) (by-built h k l i end e m))
+          (λ m. subst (Begins bytes text table winners) (sym (begins-over bytes text table winners h k l i end e m)) (by-over h k l i end e m))
+          (λ m. subst (Begins bytes text table winners) (sym (begins-built bytes text table winners h k l i end e m)) (by-built h k l i end e m))
           (lt-or-le most-rows (length (rows-of i)))
-
--- What a run without a table answers then.
-run-stopped : (bytes text : List ℕ) (entries : ℕ) → most-text-bytes < length text → run bytes text entries ≡ answer 12 0 0
-unfolding run
-run-stopped bytes text entries h = rw (lt-ltb most-text-bytes (length text) h)
-
-run-reads : (bytes text : List ℕ) (entries : ℕ) → length text ≤ most-text-bytes → run bytes text entries ≡ run-reading (read-image bytes) entries text
-unfolding run
-run-reads bytes text entries h = rw (le-ltb most-text-bytes (length text) h)
 
 -- ---- the answer
 
 module _ (bytes text : List ℕ) (table winners entries : ℕ) where
-  abbrev told : Answer
-  told = run-table bytes text table winners entries
+  abbrev answered : Answer
+  answered = run-table bytes text table winners entries
 
   -- "Unless 18 or 19 is given, the answer .. [is that] of a run without a table", for every image, readable or not.
-  pub table-answer : (told .number ≡ 18 → ⊥) → (told .number ≡ 19 → ⊥) → told ≡ run bytes text entries
-  unfolding run-table answer-after run-reading
-  table-answer = go (way bytes text table winners)
+  pub table-answer : (answered .number ≡ 18 → ⊥) → (answered .number ≡ 19 → ⊥) → answered ≡ run bytes text entries
+  unfolding run-table answer-after
+  table-answer = go (begins bytes text table winners)
     where
-      go : {b : Beginning} → Way bytes text table winners b → (answer-after b entries text .number ≡ 18 → ⊥)
+      go : {b : Beginning} → Begins bytes text table winners b → (answer-after b entries text .number ≡ 18 → ⊥)
           → (answer-after b entries text .number ≡ 19 → ⊥) → answer-after b entries text ≡ run bytes text entries
       go (by-short h) m n = absurd (m refl)
-      go (by-long h k l) m n = sym (run-stopped bytes text entries l)
-      go (by-stop h k l place e) m n = sym (run-reads bytes text entries l ∙ ap (λ (r : Reading Image). run-reading r entries text) e)
+      go (by-long h k l) m n = sym (run-long bytes text entries l)
+      go (by-stop h k l place e) m n = sym (run-stop bytes text entries l 13 place e)
       go (by-over h k l i end e o) m n = absurd (n refl)
-      go (by-built h k l i end e o) m n = sym (run-reads bytes text entries l ∙ ap (λ (r : Reading Image). run-reading r entries text) e)
+      go (by-built h k l i end e o) m n = sym (run-got bytes text entries l i end e)
 
   -- The relation's answer.
-  pub run-table-runs : Bytes bytes → RunsTable bytes text table winners entries told
+  pub run-table-runs : Bytes bytes → RunsTable bytes text table winners entries answered
   unfolding run-table answer-after
-  run-table-runs b = go (way bytes text table winners) refl
+  run-table-runs b = go (begins bytes text table winners) refl
     where
       readable : (i : Image) (end : ℕ) → read-image bytes ≡ got i end → (j : Image) → ReadableAs bytes j → i ≡ j
       readable i end e j r = readable-one bytes i j (read-readable bytes b i end e) r
@@ -146,7 +137,7 @@ module _ (bytes text : List ℕ) (table winners entries : ℕ) where
           (subst (λ (x : Beginning). answer-after x entries text .number ≡ 19 → ⊥) e n)))
           (run-runs bytes text entries b)
 
-      go : {x : Beginning} → Way bytes text table winners x → x ≡ beginning bytes text table winners
+      go : {x : Beginning} → Begins bytes text table winners x → x ≡ beginning bytes text table winners
           → RunsTable bytes text table winners entries (answer-after x entries text)
       go (by-short h) e = short-buffer h
       go (by-long h k l) e = as-without h k (λ m j r. absurd (omega arith)) (without e (λ q. absurd (omega arith)) (λ q. absurd (omega arith)))
@@ -159,8 +150,8 @@ module _ (bytes text : List ℕ) (table winners entries : ℕ) where
           (begun-not (run-image i entries text) 19 (image-begun i entries text) refl))
 
   -- No other.
-  pub table-runs-only : Bytes bytes → {a : Answer} → RunsTable bytes text table winners entries a → told ≡ a
-  unfolding run-table answer-after run-reading
+  pub table-runs-only : Bytes bytes → {a : Answer} → RunsTable bytes text table winners entries a → answered ≡ a
+  unfolding run-table answer-after
   table-runs-only b (short-buffer h) =
       ap (λ (x : Beginning). answer-after x entries text)
       (⊎-elim (λ s. short-table bytes text table winners s)
@@ -168,21 +159,19 @@ module _ (bytes text : List ℕ) (table winners entries : ℕ) where
   table-runs-only b (too-many-rows i h k l r o) =
       ap (λ (x : Beginning). answer-after x entries text)
       (begins-over bytes text table winners h k l i (length bytes) (readable-read bytes b i r) o)
-  table-runs-only b {a} (as-without h k few r) = go (way bytes text table winners) refl
+  table-runs-only b {a} (as-without h k few r) = go (begins bytes text table winners) refl
     where
       same : run bytes text entries ≡ a
       same = runs-one bytes text entries b (run-runs bytes text entries b) r
 
-      go : {x : Beginning} → Way bytes text table winners x → x ≡ beginning bytes text table winners → answer-after (beginning bytes text table winners) entries text ≡ a
+      go : {x : Beginning} → Begins bytes text table winners x → x ≡ beginning bytes text table winners → answer-after (beginning bytes text table winners) entries text ≡ a
       go (by-short s) e = absurd (⊎-elim (λ z. omega arith) (λ z. omega arith) s)
       go (by-over h k l i end f o) e = absurd (let m = few l i (read-readable bytes b i end f) in omega arith)
-      go (by-long h k l) e = ap (λ (x : Beginning). answer-after x entries text) (sym e) ∙ sym (run-stopped bytes text entries l) ∙ same
+      go (by-long h k l) e = ap (λ (x : Beginning). answer-after x entries text) (sym e) ∙ sym (run-long bytes text entries l) ∙ same
       go (by-stop h k l place f) e =
-          ap (λ (x : Beginning). answer-after x entries text) (sym e)
-          ∙ sym (run-reads bytes text entries l ∙ ap (λ (x : Reading Image). run-reading x entries text) f) ∙ same
+          ap (λ (x : Beginning). answer-after x entries text) (sym e) ∙ sym (run-stop bytes text entries l 13 place f) ∙ same
       go (by-built h k l i end f o) e =
-          ap (λ (x : Beginning). answer-after x entries text) (sym e)
-          ∙ sym (run-reads bytes text entries l ∙ ap (λ (x : Reading Image). run-reading x entries text) f) ∙ same
+          ap (λ (x : Beginning). answer-after x entries text) (sym e) ∙ sym (run-got bytes text entries l i end f) ∙ same
 
   pub table-runs-one : Bytes bytes → {a c : Answer} → RunsTable bytes text table winners entries a → RunsTable bytes text table winners entries c
       → a ≡ c
@@ -201,9 +190,9 @@ module _ (bytes text table winners stack : List ℕ) where
   pub buffers-untouched : turns-away (given .number) ≡ true
       → (table-after begun table ≡ table) × (winners-after begun winners ≡ winners) × (table-stack-after begun stack ≡ stack)
   unfolding run-table answer-after table-after winners-after table-stack-after
-  buffers-untouched = go (way bytes text (length table) (length winners))
+  buffers-untouched = go (begins bytes text (length table) (length winners))
     where
-      go : {x : Beginning} → Way bytes text (length table) (length winners) x → turns-away (answer-after x (length stack) text .number) ≡ true
+      go : {x : Beginning} → Begins bytes text (length table) (length winners) x → turns-away (answer-after x (length stack) text .number) ≡ true
           → (table-after x table ≡ table) × (winners-after x winners ≡ winners) × (table-stack-after x stack ≡ stack)
       go (by-short h) t = (refl, refl, refl)
       go (by-long h k l) t = (refl, refl, refl)
@@ -225,17 +214,17 @@ module _ (bytes text table winners stack : List ℕ) where
   -- "Unless 18 or 19 is given, .. the final stack [is that] of a run without a table."
   pub table-stack : (given .number ≡ 18 → ⊥) → (given .number ≡ 19 → ⊥)
       → table-stack-after begun stack ≡ stack-after (run bytes text (length stack)) stack
-  unfolding run-table answer-after table-stack-after run-reading
-  table-stack = go (way bytes text (length table) (length winners))
+  unfolding run-table answer-after table-stack-after
+  table-stack = go (begins bytes text (length table) (length winners))
     where
-      go : {x : Beginning} → Way bytes text (length table) (length winners) x → (answer-after x (length stack) text .number ≡ 18 → ⊥)
+      go : {x : Beginning} → Begins bytes text (length table) (length winners) x → (answer-after x (length stack) text .number ≡ 18 → ⊥)
           → (answer-after x (length stack) text .number ≡ 19 → ⊥) → table-stack-after x stack ≡ stack-after (run bytes text (length stack)) stack
       go (by-short h) m n = absurd (m refl)
-      go (by-long h k l) m n = sym (stack-untouched-12 (run bytes text (length stack)) stack (ap (λ (a : Answer). a .number) (run-stopped bytes text (length stack) l)))
+      go (by-long h k l) m n = sym (stack-untouched-12 (run bytes text (length stack)) stack (ap (λ (a : Answer). a .number) (run-long bytes text (length stack) l)))
       go (by-stop h k l place e) m n =
           sym (stack-untouched-13 (run bytes text (length stack)) stack
-          (ap (λ (a : Answer). a .number) (run-reads bytes text (length stack) l ∙ ap (λ (x : Reading Image). run-reading x (length stack) text) e)))
+          (ap (λ (a : Answer). a .number) (run-stop bytes text (length stack) l 13 place e)))
       go (by-over h k l i end e o) m n = absurd (n refl)
       go (by-built h k l i end e o) m n =
           stack-cleared i (length stack) text (run bytes text (length stack)) stack
-          (run-reads bytes text (length stack) l ∙ ap (λ (x : Reading Image). run-reading x (length stack) text) e)
+          (run-got bytes text (length stack) l i end e)

@@ -1,14 +1,12 @@
--- Each way in which a run ends, as the definition has it, and that 12 and 13 leave the stack.
+-- A run of a readable image, by whether the stack has an entry, and that 12 and 13 leave the stack.
 use mathlib.Core.Path.{_≡_, ap, _∙_}
 use mathlib.Core.List.{List}
 use Prim.Native.Nat.{ℕ, _≤_, _<_}
 use lib.ListN.{length}
 use borrow.Author.Tests.{lt-ltb, le-ltb}
-use Rattle.stage1_sheet.specs.Field.{stop, got}
 use Rattle.stage5_image.specs.Image.{Image}
-use Rattle.stage5_image.specs.ImageReading.{read-image}
 use Rattle.stage6_machine.specs.Answer.{Answer, answer}
-use Rattle.stage6_machine.specs.Run.{run-from, first-state, run-image, run-reading, run, stack-after}
+use Rattle.stage6_machine.specs.Run.{run-from, first-state, run-image, stack-after}
 
 module _ (i : Image) (entries : ℕ) (text : List ℕ) where
   pub run-no-entry : entries < 1 → answer 17 0 0 ≡ run-image i entries text
@@ -20,21 +18,6 @@ module _ (i : Image) (entries : ℕ) (text : List ℕ) where
   unfolding run-image
   run-some-entry same e h a f =
       rw (le-ltb entries 1 h) (f ∙ ap (λ (k : ℕ). run-from i k text (length text) first-state) e)
-
-module _ (image text : List ℕ) (entries : ℕ) where
-  pub run-too-long : 1048576 < length text → answer 12 0 0 ≡ run image text entries
-  unfolding run
-  run-too-long h = rw (lt-ltb 1048576 (length text) h)
-
-  pub run-unreadable : length text ≤ 1048576 → (place : ℕ) → read-image image ≡ stop 13 place
-      → answer 13 place 0 ≡ run image text entries
-  unfolding run run-reading
-  run-unreadable h place e = rw (le-ltb 1048576 (length text) h, e)
-
-  pub run-readable : length text ≤ 1048576 → (i : Image) (end : ℕ) → read-image image ≡ got i end → (a : Answer)
-      → a ≡ run-image i entries text → a ≡ run image text entries
-  unfolding run run-reading
-  run-readable h i end e a f = rw (le-ltb 1048576 (length text) h, e) f
 
 pub stack-kept-12 : (a : Answer) (stack : List ℕ) → a ≡ answer 12 0 0 → stack ≡ stack-after a stack
 unfolding stack-after

@@ -1,5 +1,5 @@
 -- The turns of a run in code: the state that the loop keeps, and what a turn and the end of the text make of it.
-use mathlib.Core.Path.{_≡_, refl, sym, ap, subst, _∙_}
+use mathlib.Core.Path.{_≡_, sym, ap, subst, _∙_}
 use mathlib.Core.List.{List, [], _∷_}
 use Prim.Native.Nat.{ℕ, suc, _+_, _-_, _≤_, _<_}
 use native.Mathlib.Omega.{arith}
@@ -7,7 +7,6 @@ use lib.ListN.{length, getD, drop, take, length-drop}
 use lib.Seq.{take-all}
 use Rattle.stage0_laws.specs.Lists.{All}
 use Rattle.stage4_lexer.specs.Positions.{Position}
-use Rattle.stage4_lexer.specs.Match.{matched}
 use Rattle.stage4_lexer.specs.Walk.{longest-match}
 use Rattle.stage4_lexer.specs.LongestMatchLaws.{match-within, match-rule-below}
 use Rattle.stage4_lexer_columns.specs.Held.{held-from, held-positions}

@@ -1,4 +1,4 @@
--- What a run with a table promises, by how it begins: turned away, or with the table built.
+-- What a run with a table promises, by how it begins: turned promised-away, or with the table built.
 use mathlib.Core.Path.{_≡_, sym, ap, subst, _∙_}
 use mathlib.Core.Bool.{Bool, true, false, true≢false, not, cond}
 use mathlib.Core.List.{List}
@@ -25,21 +25,21 @@ module _ (image text table winners stack : List ℕ) where
       (a ≡ run-table image text (length table) (length winners) (length stack)) × (table' ≡ table-after begun table)
       × (winners' ≡ winners-after begun winners) × (stack' ≡ table-stack-after begun stack)
 
-  pub away : (question place : ℕ) → begun ≡ turned-away question place → (a : Answer) → a ≡ answer question place 0
+  pub promised-away : (question place : ℕ) → begun ≡ turned-away question place → (a : Answer) → a ≡ answer question place 0
       → (table' winners' : List ℕ) → table' ≡ table → winners' ≡ winners → Promised a table' winners' stack
   unfolding run-table answer-after table-after winners-after table-stack-after
-  away question place e a f table' winners' t w = (
+  promised-away question place e a f table' winners' t w = (
     f ∙ sym (ap (λ (b : Beginning). answer-after b (length stack) text) e),
     t ∙ sym (ap (λ (b : Beginning). table-after b table) e),
     w ∙ sym (ap (λ (b : Beginning). winners-after b winners) e),
     sym (ap (λ (b : Beginning). table-stack-after b stack) e),
   )
 
-  pub ran : (i : Image) → begun ≡ table-built i → (a : Answer) → a ≡ run-image i (length stack) text → (table' winners' stack' : List ℕ)
+  pub promised-built : (i : Image) → begun ≡ table-built i → (a : Answer) → a ≡ run-image i (length stack) text → (table' winners' stack' : List ℕ)
       → table' ≡ written-over (entries-of i) table → winners' ≡ written-over (winners-of i) winners → stack' ≡ replicate (length stack) 0
       → Promised a table' winners' stack'
   unfolding run-table answer-after table-after winners-after table-stack-after
-  ran i e a f table' winners' stack' t w s = (
+  promised-built i e a f table' winners' stack' t w s = (
     f ∙ sym (ap (λ (b : Beginning). answer-after b (length stack) text) e),
     t ∙ sym (ap (λ (b : Beginning). table-after b table) e),
     w ∙ sym (ap (λ (b : Beginning). winners-after b winners) e),

@@ -266,6 +266,7 @@ table-computed =
     & (_, refl, refl, refl, tt)
     & (_, refl, refl, refl, tt)
     & (_, refl, refl, refl, tt)
+    & (_, refl, refl, refl, tt)
     & (refl, tt)
     & (refl, tt)
     & (refl, tt)

@@ -18,6 +18,10 @@ image-never = 1 ∷ 1 ∷ 0 ∷ 1 ∷ 97 ∷ 97 ∷ 0 ∷ 1 ∷ 0 ∷ 0 ∷ 1 �
 abbrev pub image-two : List ℕ
 image-two = 1 ∷ 2 ∷ 1 ∷ 1 ∷ 2 ∷ 97 ∷ 97 ∷ 0 ∷ 1 ∷ 1 ∷ 97 ∷ 97 ∷ 1 ∷ 1 ∷ 0 ∷ 3 ∷ 1 ∷ 1 ∷ 0 ∷ []
 
+-- `a`, and a position that leads to itself and that nothing else leads to.
+abbrev pub image-apart : List ℕ
+image-apart = 1 ∷ 1 ∷ 0 ∷ 2 ∷ 97 ∷ 97 ∷ 0 ∷ 1 ∷ 0 ∷ 98 ∷ 98 ∷ 0 ∷ 1 ∷ 2 ∷ 1 ∷ 1 ∷ 1 ∷ 0 ∷ []
+
 unfoldable pub table-cases : List Case
 table-cases =
     -- sheet D: six rows
@@ -25,6 +29,8 @@ table-cases =
     -- the empty set is row 1 also where no byte leads to it, and where all do
     ∷ tables image-any 3 (32 ∷ 32 ∷ 0 ∷ [])
     ∷ tables image-never 2 (32 ∷ 32 ∷ [])
+    -- a set that nothing reaches is no row
+    ∷ tables image-apart 3 (32 ∷ 32 ∷ 0 ∷ [])
     -- the lowest of two rules wins
     ∷ tables image-two 4 (32 ∷ 32 ∷ 0 ∷ 0 ∷ [])
     -- D's readings are those without a table: `12 /7`, the empty text, `12/`, `12//7`, `12h`; a stack of no entry

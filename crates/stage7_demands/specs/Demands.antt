@@ -101,13 +101,13 @@ pub record Demand1 (f : Functions) : Type 0 where
       → (a ≡ f .run image text (length stack))
       × (f .table-stack-after image text table winners stack ≡ f .stack-after (f .run image text (length stack)) stack)
   -- "after these [18 and 19], 12 and 13 the stack and both buffers are untouched"
-  pub turned-away : (image text table winners stack : List ℕ)
+  pub buffers-untouched : (image text table winners stack : List ℕ)
       → let a = f .run-table image text (length table) (length winners) (length stack) in
       ((a .number ≡ 18) ⊎ (a .number ≡ 19)) ⊎ ((a .number ≡ 12) ⊎ (a .number ≡ 13))
       → (f .table-after image text table winners ≡ table) × (f .winners-after image text table winners ≡ winners)
       × (f .table-stack-after image text table winners stack ≡ stack)
   -- "Each run builds the table before it reads the text. Entries past the last row keep what they held.": whatever the text brings.
-  pub table-built : (image text table winners stack : List ℕ) → Bytes image → lent-entries ≤ length table → most-rows ≤ length winners
+  pub buffers-built : (image text table winners stack : List ℕ) → Bytes image → lent-entries ≤ length table → most-rows ≤ length winners
       → length text ≤ most-text-bytes → (i : Image) → ReadableAs image i → length (rows-of i) ≤ most-rows
       → (f .table-after image text table winners ≡ entries-of i ++ drop (length (entries-of i)) table)
       × (f .winners-after image text table winners ≡ winners-of i ++ drop (length (winners-of i)) winners)

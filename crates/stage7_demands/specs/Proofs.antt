@@ -1,14 +1,12 @@
 -- The demands hold: their parts put together.
 use mathlib.Core.Path.{_≡_, refl, sym, ap, subst}
-use mathlib.Core.Bool.{Bool, true, false, cond, _||_}
-use mathlib.Core.List.{List, _++_}
+use mathlib.Core.Bool.{true}
+use mathlib.Core.List.{List}
 use mathlib.Core.Logic.{_↔_, _⊎_, ⊎-elim}
 use mathlib.Core.Option.{none}
 use Prim.Native.Nat.{ℕ, _≤_}
 use native.Mathlib.Omega.{arith}
-use lib.ListN.{length, drop, replicate, length-append, length-drop, length-replicate}
-use lib.Dec.{eqb, ltb}
-use borrow.Author.Tests.{le-ltb, ltb-false}
+use lib.ListN.{length, drop, length-append, length-drop}
 use Rattle.stage1_sheet.specs.Sheet.{Sheet}
 use Rattle.stage1_sheet.specs.WellFormed.{WithinLimits, Spells}
 use Rattle.stage1_sheet.specs.Spelling.{Bytes}
@@ -108,8 +106,8 @@ demand-1 = record {
     table-answer image text (length table) (length winners) (length stack) m n,
     table-stack image text table winners stack m n,
   );
-  turned-away = λ image text table winners stack h. buffers-untouched image text table winners stack (turned-number _ h);
-  table-built = λ image text table winners stack bytes. buffers-built image text table winners stack bytes;
+  buffers-untouched = λ image text table winners stack h. buffers-untouched image text table winners stack (turned-number _ h);
+  buffers-built = λ image text table winners stack bytes. buffers-built image text table winners stack bytes;
 }
 
 -- ---- demand 2

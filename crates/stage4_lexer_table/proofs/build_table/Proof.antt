@@ -1,8 +1,6 @@
 -- `build_table` meets its contract: the rows tell whether there are too many, and nothing is written before.
 use borrow.Author.Needs.{needs}
 use mathlib.Core.Path.{refl, sym}
-use native.Mathlib.Omega.{arith}
-use lib.ListN.{length}
 use borrow.Author.Tests.{le-leb, lt-leb}
 use Rattle.stage4_lexer_table.proofs.Meeting.{few-rows, many-rows}
 use Rattle.stage4_lexer_table.proofs.build_table.Statement.{statement}

@@ -1,16 +1,13 @@
 -- `fill_table` meets its contract. The loop's invariant: the entries of the rows up to row i are written.
 use borrow.Author.Needs.{needs}
-use mathlib.Core.Path.{_≡_, refl, sym, ap, subst, _∙_}
+use mathlib.Core.Path.{_≡_, refl, _∙_}
 use mathlib.Core.List.{List}
-use Prim.Native.Nat.{ℕ, suc, _+_, _*_, _-_, _≤_, _<_}
+use Prim.Native.Nat.{ℕ, _+_, _-_, _≤_, _<_}
 use native.Mathlib.Omega.{arith}
-use native.Mathlib.Numerals.{add-one}
 use lib.ListN.{length, take}
-use lib.Seq.{paste}
 use denote.Ref.{now}
 use Rattle.stage0_laws.specs.Meeting.{number-of}
 use Rattle.stage4_lexer_columns.specs.Held.{held-from}
-use Rattle.stage4_lexer_table.specs.Rows.{numbers-by}
 use Rattle.stage4_lexer_table.proofs.Filling.{EntriesTo, empty-first, first-written, next-written, all-written}
 use Rattle.stage4_lexer_table.proofs.fill_table.Statement.{statement}
 use Rattle.stage4_lexer_table.proofs.fill_table.Tie as tie

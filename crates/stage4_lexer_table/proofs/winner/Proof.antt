@@ -1,8 +1,6 @@
 -- `winner` meets its contract, by the rule that is lowest.
 use borrow.Author.Needs.{needs}
-use mathlib.Core.Path.{_≡_, refl, sym, ap, _∙_}
-use mathlib.Core.Option.{Option}
-use Prim.Native.Nat.{ℕ}
+use mathlib.Core.Path.{sym, ap, _∙_}
 use Rattle.stage4_lexer.specs.Table.{rule-or-none}
 use Rattle.stage4_lexer_scanner.specs.Meaning.{rule-of}
 use Rattle.stage4_lexer_table.proofs.winner.Statement.{statement}

@@ -1,5 +1,5 @@
--- `run` meets its contract: one law of `Ending` for each answer.
-use mathlib.Core.Path.{ap, _∙_}
+-- `run` meets its contract: one law for each answer.
+use mathlib.Core.Path.{sym, ap, _∙_}
 use Prim.Native.Nat.{ℕ}
 use native.Mathlib.Omega.{arith}
 use lib.ListN.{length, replicate}
@@ -7,7 +7,7 @@ use denote.Ref.{now}
 use Rattle.stage0_buffers.specs.Cleared.{cleared-all}
 use Rattle.stage5_image.specs.ReadableImages.{read-in-range}
 use Rattle.stage6_machine_turn.specs.Steps.{answer-held}
-use Rattle.stage6_machine_runner.proofs.Ending.{run-too-long, run-unreadable, run-readable}
+use Rattle.stage6_machine.specs.RunsLaws.{run-long, run-stop, run-got}
 use Rattle.stage6_machine_runner.proofs.Ending.{stack-kept-12, stack-kept-13}
 use Rattle.stage6_machine.specs.StackLaws.{stack-cleared}
 use borrow.Author.Needs.{needs}
@@ -21,7 +21,7 @@ returns : tie.Need-returns
 unfolding answer-held
 returns c =
     let e = ap answer-held (c .answer .ensures) in
-    (e ∙ run-too-long _ _ _ (c .before .if1 .taken), stack-kept-12 _ _ e)
+    (e ∙ sym (run-long _ _ _ (c .before .if1 .taken)), stack-kept-12 _ _ e)
 
 read-image-requires : tie.Need-read-image-requires
 read-image-requires c κs = search needs
@@ -39,7 +39,7 @@ returns-2 c =
     let read = known .before .before in
     let e = ap answer-held (c .answer2 .ensures) in
     let refused = read .read-image .ensures .refusal (known .outcome .given .1) in
-    (e ∙ run-unreadable _ _ _ (read .before .if1 .left) _ (refused .0), stack-kept-13 _ _ _ e)
+    (e ∙ sym (run-stop _ _ _ (read .before .if1 .left) 13 _ (refused .0)), stack-kept-13 _ _ _ e)
 
 enum-told : tie.Need-enum-told
 enum-told c = search needs
@@ -67,7 +67,7 @@ returns-3 c =
     let readable = read .read-image .ensures .readable (told .enum-told .given .1) in
     let answers = ran .run-image .ensures (readable .0) (readable .2) in
     let left = ran .run-image .last .1 .1 .1 .0 in (
-      run-readable _ _ _ (read .before .if1 .left) (readable .0) _ (readable .1) _ answers,
+      answers ∙ sym (run-got _ _ _ (read .before .if1 .left) (readable .0) _ (readable .1)),
       cleared .clear-front .ensures
           ∙ cleared-all (length left) left (omega arith)
           ∙ ap (λ (k : ℕ). replicate k 0) (ran .run-image .kept .1 .1 .1 .0)

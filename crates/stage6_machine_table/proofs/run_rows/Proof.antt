@@ -2,9 +2,9 @@
 -- answer.
 use borrow.Author.Needs.{needs}
 use mathlib.Core.Path.{_≡_, refl, sym, ap, _∙_}
-use Prim.Native.Nat.{ℕ, _-_, _<_}
+use Prim.Native.Nat.{_-_, _<_}
 use native.Mathlib.Omega.{arith}
-use lib.ListN.{length, set, length-set, getD}
+use lib.ListN.{length, set, length-set}
 use lib.Seq.{getD-set-same}
 use denote.Ref.{now}
 use Rattle.stage4_lexer_scanner.specs.Meaning.{match-of}

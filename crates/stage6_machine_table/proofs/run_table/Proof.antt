@@ -15,7 +15,7 @@ use Rattle.stage6_machine.specs.TableRun.{rows-of, entries-of, winners-of}
 use Rattle.stage6_machine.specs.TableRunLaws.{short-table, short-winners, begins-long, begins-stop, begins-over, begins-built}
 use Rattle.stage6_machine_turn.specs.Steps.{answer-held}
 use Rattle.stage6_machine_table.specs.Built.{WithTable}
-use Rattle.stage6_machine_table.proofs.Beginnings.{away, ran, over-rows, within-rows, table-holds}
+use Rattle.stage6_machine_table.proofs.Beginnings.{promised-away, promised-built, over-rows, within-rows, table-holds}
 use Rattle.stage6_machine_table.proofs.run_table.Statement.{statement}
 use Rattle.stage6_machine_table.proofs.run_table.Tie as tie
 
@@ -25,7 +25,7 @@ answer-requires c κs = search needs
 returns : tie.Need-returns
 unfolding answer-held
 returns c =
-    away _ _ _ _ _ 18 0 (short-table _ _ _ _ (c .before .if1 .taken)) _ (ap answer-held (c .answer .ensures)) _ _ refl refl
+    promised-away _ _ _ _ _ 18 0 (short-table _ _ _ _ (c .before .if1 .taken)) _ (ap answer-held (c .answer .ensures)) _ _ refl refl
 
 answer-requires-2 : tie.Need-answer-requires-2
 answer-requires-2 c κs = search needs
@@ -33,7 +33,7 @@ answer-requires-2 c κs = search needs
 returns-2 : tie.Need-returns-2
 unfolding answer-held
 returns-2 c =
-    away _ _ _ _ _ 18 0 (short-winners _ _ _ _ (c .before .before .if1 .left) (c .before .if2 .taken)) _ (ap answer-held (c .answer2 .ensures))
+    promised-away _ _ _ _ _ 18 0 (short-winners _ _ _ _ (c .before .before .if1 .left) (c .before .if2 .taken)) _ (ap answer-held (c .answer2 .ensures))
     _ _ refl refl
 
 answer-requires-3 : tie.Need-answer-requires-3
@@ -43,7 +43,7 @@ returns-3 : tie.Need-returns-3
 unfolding answer-held
 returns-3 c =
     let long = c .before .before in
-    away _ _ _ _ _ 12 0 (begins-long _ _ _ _ (long .before .if1 .left) (long .if2 .left) (c .before .if3 .taken)) _
+    promised-away _ _ _ _ _ 12 0 (begins-long _ _ _ _ (long .before .if1 .left) (long .if2 .left) (c .before .if3 .taken)) _
     (ap answer-held (c .answer3 .ensures)) _ _ refl refl
 
 read-image-requires : tie.Need-read-image-requires
@@ -63,7 +63,7 @@ returns-4 c =
     let short = read .before in
     let long = short .before in
     let refused = read .read-image .ensures .refusal (known .outcome .given .1) in
-    away _ _ _ _ _ 13 _ (begins-stop _ _ _ _ (long .before .if1 .left) (long .if2 .left) (short .if3 .left) 13 _ (refused .0)) _
+    promised-away _ _ _ _ _ 13 _ (begins-stop _ _ _ _ (long .before .if1 .left) (long .if2 .left) (short .if3 .left) 13 _ (refused .0)) _
     (ap answer-held (c .answer4 .ensures)) _ _ refl refl
 
 enum-told : tie.Need-enum-told
@@ -101,7 +101,7 @@ returns-5 c =
     let long = short .before in
     let readable = read .read-image .ensures .readable (told-of (built .before) .enum-told .given .1) in
     let over = over-rows (readable .0) _ _ _ _ _ (built .build-of .ensures _ (readable .0) (readable .2)) (c .before .if4 .taken) in
-    away _ _ _ _ _ 19 0
+    promised-away _ _ _ _ _ 19 0
     (begins-over _ _ _ _ (long .before .if1 .left) (long .if2 .left) (short .if3 .left) (readable .0) _ (readable .1) (over .0)) _
     (ap answer-held (c .answer5 .ensures)) _ _ (over .1) (over .2)
 
@@ -160,7 +160,7 @@ returns-6 c =
     let start = long .before .before .before .before .before .before .before in
     let w = with-table passed in
     let left = ended .run-rows .last .1 .1 .1 .1 .1 .0 in
-    ran _ _ _ _ (now (start .args .stack)) (w .0)
+    promised-built _ _ _ _ (now (start .args .stack)) (w .0)
     (begins-built _ _ _ _ (long .before .if1 .left) (long .if2 .left) (short .if3 .left) (w .0) (w .1) (w .2) (w .4))
     _ (ended .run-rows .ensures (w .0) (w .3)) _ _ _ (w .5) (w .6)
     (cleared .clear-front .ensures ∙ cleared-all (length left) left (omega arith)
