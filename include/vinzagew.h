@@ -134,11 +134,12 @@ void image_run(const uint8_t *image, size_t image_len,
 
 /*
  * Runs an image over a text with a table. It is meant for long texts: every run builds its table before it
- * reads the text, and then looks up one entry for each byte.
+ * reads the text, and matching then looks up one entry for each byte that it walks. Where no match ends at
+ * the last of these bytes, it walks them once more.
  *
  * out[0]  number, 0 or 12 to 19; the order of the questions is 18, 12, 13, 19, then as without a table
  * out[1]  place: as without a table; of 18 and 19, 0
- * out[2]  count: the tokens taken
+ * out[2]  count: the tokens taken; of 12, 13, 18 and 19, 0
  *
  * Unless 18 or 19 is given, the three numbers and what `stack` holds at the end are those of image_run. After
  * 18, 12, 13 and 19 `stack`, `table` and `winners` are as they were. Otherwise the table stands in the first

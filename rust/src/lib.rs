@@ -306,8 +306,8 @@ impl Image {
     /// Runs the image over a text with a table; the answer is that of [`run`](Image::run).
     ///
     /// It is meant for long texts: the table is built first, which takes longer than to read a short text, and
-    /// then one entry is looked up for each byte. An image whose table would have over 256 rows is run without
-    /// one.
+    /// then matching looks up one entry for each byte that it walks. An image whose table would have over 256
+    /// rows is run without one.
     ///
     /// # Errors
     ///

@@ -1,5 +1,5 @@
-// The longest match at the front of a text, by the rows of a table: one entry a byte. How the table is made from an image, and which
-// place of a text the front starts at, is not asked here.
+// The longest match at the front of a text, by the rows of a table: one entry for each byte walked. How the table is made from an image,
+// and which place of a text the front starts at, is not asked here.
 use stage4_lexer_scanner::Found;
 ghost use mathlib.Core.Path.{_≡_};
 ghost use Rattle.stage4_lexer.specs.Table.{match-by-rows};

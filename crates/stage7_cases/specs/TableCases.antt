@@ -1,5 +1,5 @@
 -- The worked cases of request [6]: tables, and runs with a table. Texts over the limit and tables of about 256 rows are too long to be
--- worked out here; a program checks them. That every row holds is shown elsewhere.
+-- worked out here; the vectors' program and the Rust tests check them. That every row holds is shown elsewhere.
 use mathlib.Core.List.{List, [], _∷_}
 use Prim.Native.Nat.{ℕ}
 use Rattle.stage6_machine.specs.Answer.{answer}
