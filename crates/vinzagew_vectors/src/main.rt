@@ -1,12 +1,14 @@
-// Outside vectors through the engine: reads the files `sheets` (checked, and then written), `read`, `run` and `program`, a case a line, and
-// prints a line for each. Lent buffers are filled with a pattern first, and a line also says whether they ended as they must. Nothing is
-// promised here: what checking, writing and running do is in the contracts of the crates that are called.
+// Outside vectors through the engine: reads the files `sheets` (checked, and then written), `read`, `run`, `table` and `program`, a case a
+// line, and prints a line for each. Lent buffers are filled with a pattern first, and a line also says whether they ended as they must. Nothing
+// is promised here: what checking, writing and running do is in the contracts of the crates that are called.
 use libc::STDOUT_FILENO;
 use stage5_image_checker::Verdict;
 use stage5_image_compiler::Written;
+use stage6_machine_turn::RunAnswer;
 use stage7_engine::Line;
 use stage7_engine::TextRead;
-ghost use Prim.Native.Nat.{_+_, _≤_, _<_};
+ghost use mathlib.Core.Path.{_≡_};
+ghost use Prim.Native.Nat.{_+_, _*_, _^_, _%_, _≤_, _<_};
 ghost use lib.ListN.{length};
 ghost use Rattle.io.specs.Counts.{Counts};
 
@@ -23,6 +25,19 @@ const CLEARED: usize = 65536;
 const IMAGE: usize = 65536;
 
 const STACK: usize = 1024;
+
+const TABLE: usize = 65600;
+
+const WINNERS: usize = 300;
+
+// What the table and the winners hold before a run: no row and no rule has this number.
+const UNWRITTEN: u16 = 42405;
+
+// The entries of a row.
+const ROW: usize = 256;
+
+// The number where a case asks for longer buffers than there are: no run gives it.
+const NOT_LENT: u8 = 255;
 
 const MOST_TEXT: usize = 1048576;
 
@@ -336,26 +351,42 @@ fn write_case(text: &[u8], at: usize)
     );
 }
 
-// After 12 and 13 the lent part of the stack is as it was, and otherwise all zero; the rest is as it was.
+// Whether a run that gives this number leaves all that was lent as it was.
+fn leaves_all(number: u8) -> bool {
+    if number == 12 {
+        return true;
+    }
+    if number == 13 {
+        return true;
+    }
+    if number == 18 {
+        return true;
+    }
+    number == 19
+}
+
+// After 12, 13, 18 and 19 the lent part of the stack is as it was, and otherwise all zero; the rest is as it was.
 fn stack_right(number: u8, size: usize, stack: &[u8]) -> bool {
     if !all_are(stack, size, STACK, PATTERN) {
         return false;
     }
-    if number == 12 {
-        return all_are(stack, 0, size, PATTERN);
-    }
-    if number == 13 {
+    if leaves_all(number) {
         return all_are(stack, 0, size, PATTERN);
     }
     all_are(stack, 0, size, 0)
 }
 
 // Runs an image over a text with the front of the stack.
-fn run_with(image: &[u8], input: &[u8], stack_size: usize, stack: &mut [u8]) {
+fn run_front(image: &[u8], input: &[u8], stack_size: usize, stack: &mut [u8]) -> RunAnswer {
     if stack.len() < stack_size {
-        return;
+        return stage6_machine_turn::answer(NOT_LENT, 0, 0);
     }
-    let ran = stage6_machine_runner::run(image, input, &mut stack[..stack_size]);
+    stage6_machine_runner::run(image, input, &mut stack[..stack_size])
+}
+
+// And shows the answer, and whether the stack ended as it must.
+fn run_with(image: &[u8], input: &[u8], stack_size: usize, stack: &mut [u8]) {
+    let ran = run_front(image, input, stack_size, stack);
     show_numbers(ran.number as u64, ran.place as u64, ran.count as u64);
     show_judgement(stack_right(ran.number, stack_size, stack));
 }
@@ -390,6 +421,237 @@ fn run_too_long(input: &[u8; 1048577]) {
 fn run_longest(input: &[u8; 1048576]) {
     let mut stack = [PATTERN; STACK];
     run_with(b"", input, STACK, &mut stack);
+}
+
+// An entry as a number of 64 bits.
+fn wide(entry: u16) -> u64 {
+    entry as u64
+}
+
+// The checksum of entries is the 64-bit FNV-1a, each entry as two bytes, the low one first. It starts at this number.
+const CHECKSUM_OF_NONE: u64 = 14695981039346656037;
+
+// The product with FNV's prime, 2^40 + 435, modulo 2^64: by halves for 435, and by a shift of 40.
+fn times_prime(n: u64) -> u64
+    ensures { λ r. ⌜ r ≡ (n * 1099511628211) % 2 ^ 64 ⌝ }
+{
+    let low = n % 4294967296 * 435;
+    let high = n / 4294967296 * 435 % 4294967296 * 4294967296;
+    let shifted = n % 16777216 * 1099511627776;
+    std::num::wrapping_add_u64(std::num::wrapping_add_u64(low, high), shifted)
+}
+
+// A checksum with one byte more.
+fn with_byte(sum: u64, byte: u64) -> u64 {
+    times_prime(sum ^ byte)
+}
+
+// The checksum of the first entries.
+fn checksum(entries: &[u16], count: usize) -> u64 {
+    let mut i: usize = 0;
+    let mut sum = CHECKSUM_OF_NONE;
+    while i < count {
+        if entries.len() <= i {
+            return sum;
+        }
+        let entry = wide(entries[i]);
+        sum = with_byte(with_byte(sum, entry % 256), entry / 256);
+        i += 1;
+    }
+    sum
+}
+
+// How many winners were written: those before the first that is as it was.
+fn rows_written(winners: &[u16; WINNERS]) -> usize
+    ensures { λ r. ⌜ r ≤ 300 ⌝ }
+{
+    let mut i: usize = 0;
+    while i < WINNERS {
+        if winners[i] == UNWRITTEN {
+            return i;
+        }
+        i += 1;
+    }
+    i
+}
+
+// Whether all entries from a place on are as they were.
+fn rest_unwritten(entries: &[u16], from: usize) -> bool {
+    let mut i = from;
+    while i < entries.len() {
+        if entries[i] != UNWRITTEN {
+            return false;
+        }
+        i += 1;
+    }
+    true
+}
+
+// Each of the first entries in decimal, with a blank before it.
+fn show_entries(entries: &[u16], count: usize) {
+    let mut i: usize = 0;
+    while i < count {
+        if entries.len() <= i {
+            return;
+        }
+        io::write_all(STDOUT_FILENO, b" ");
+        io::print_decimal(STDOUT_FILENO, wide(entries[i]));
+        i += 1;
+    }
+}
+
+// What was written: the count of rows, the checksum of their entries, and their winners. Tells whether all past them is as it was.
+fn show_table(rows: usize, table: &[u16], winners: &[u16]) -> bool
+    requires { ⌜ rows ≤ 300 ⌝ }
+{
+    let entries = rows * ROW;
+    io::write_all(STDOUT_FILENO, b" ");
+    io::print_decimal(STDOUT_FILENO, rows as u64);
+    io::write_all(STDOUT_FILENO, b" ");
+    io::print_hex(STDOUT_FILENO, checksum(table, entries), 16);
+    show_entries(winners, rows);
+    if rest_unwritten(winners, rows) {
+        return rest_unwritten(table, entries);
+    }
+    false
+}
+
+// Whether two answers are the same.
+fn same_answer(ran: RunAnswer, expected: RunAnswer) -> bool {
+    if ran.number != expected.number {
+        return false;
+    }
+    if ran.place != expected.place {
+        return false;
+    }
+    ran.count == expected.count
+}
+
+// Whether running without a table gives the same answer, and leaves the stack as it must.
+fn same_without(image: &[u8], input: &[u8], stack_size: usize, expected: RunAnswer) -> bool {
+    let mut stack = [PATTERN; STACK];
+    let ran = run_front(image, input, stack_size, &mut stack);
+    if same_answer(ran, expected) {
+        return stack_right(ran.number, stack_size, &stack);
+    }
+    false
+}
+
+// The answer is that of a run without a table, but for 18 and 19.
+fn answer_right(image: &[u8], input: &[u8], stack_size: usize, ran: RunAnswer) -> bool {
+    if ran.number == 18 {
+        return true;
+    }
+    if ran.number == 19 {
+        return true;
+    }
+    same_without(image, input, stack_size, ran)
+}
+
+// A run with a table ends as it must: what lies past the rows was kept, as told here, and stack and answer are right.
+fn run_right(
+    image: &[u8],
+    input: &[u8],
+    stack_size: usize,
+    stack: &[u8],
+    ran: RunAnswer,
+    kept: bool,
+) -> bool {
+    if !kept {
+        return false;
+    }
+    if stack_right(ran.number, stack_size, stack) {
+        return answer_right(image, input, stack_size, ran);
+    }
+    false
+}
+
+// Runs an image over a text with the front of each buffer.
+fn run_table_front(
+    image: &[u8],
+    input: &[u8],
+    table_size: usize,
+    winners_size: usize,
+    stack_size: usize,
+    table: &mut [u16],
+    winners: &mut [u16],
+    stack: &mut [u8],
+) -> RunAnswer {
+    if table.len() < table_size {
+        return stage6_machine_turn::answer(NOT_LENT, 0, 0);
+    }
+    if winners.len() < winners_size {
+        return stage6_machine_turn::answer(NOT_LENT, 0, 0);
+    }
+    if stack.len() < stack_size {
+        return stage6_machine_turn::answer(NOT_LENT, 0, 0);
+    }
+    stage6_machine_table::run_table(
+        image,
+        input,
+        &mut table[..table_size],
+        &mut winners[..winners_size],
+        &mut stack[..stack_size],
+    )
+}
+
+// Runs an image over a text with a table, and shows the answer, what was written, and whether all ended as it must.
+fn table_with(
+    image: &[u8],
+    input: &[u8],
+    table_size: usize,
+    winners_size: usize,
+    stack_size: usize,
+) {
+    let mut table = [UNWRITTEN; TABLE];
+    let mut winners = [UNWRITTEN; WINNERS];
+    let mut stack = [PATTERN; STACK];
+    let ran = run_table_front(
+        image,
+        input,
+        table_size,
+        winners_size,
+        stack_size,
+        &mut table,
+        &mut winners,
+        &mut stack,
+    );
+    show_numbers(ran.number as u64, ran.place as u64, ran.count as u64);
+    let rows = rows_written(&winners);
+    let kept = show_table(rows, &table, &winners);
+    show_judgement(run_right(image, input, stack_size, &stack, ran, kept));
+}
+
+// A case: the lengths of the table, of the winners and of the stack, the image, and the text.
+fn table_case(text: &[u8], at: usize)
+    requires { ⌜ length (now text) ≤ 65536 ⌝ }
+{
+    let mut image = [0u8; FIELD];
+    let mut input = [0u8; FIELD];
+    let winners_at = after_blank(text, at);
+    let stack_at = after_blank(text, winners_at);
+    let image_at = after_blank(text, stack_at);
+    let input_at = after_blank(text, image_at);
+    let image_size = bytes_field(text, image_at, &mut image);
+    let input_size = bytes_field(text, input_at, &mut input);
+    table_with(
+        &image[..image_size],
+        &input[..input_size],
+        decimal_field(text, at),
+        decimal_field(text, winners_at),
+        decimal_field(text, stack_at),
+    );
+}
+
+// The text that is too long, by no image: with a table, and with one that is too short, which is the first question.
+fn table_too_long(input: &[u8; 1048577]) {
+    table_with(b"", input, 65536, 256, STACK);
+    table_with(b"", input, 65535, 256, STACK);
+}
+
+// And the longest text, by no image.
+fn table_longest(input: &[u8; 1048576]) {
+    table_with(b"", input, 65536, 256, STACK);
 }
 
 // Has the engine read a text by a sheet. The buffers are arrays, so that their lengths are known from their types.
@@ -470,6 +732,7 @@ enum Kind {
     Write,
     Read,
     Run,
+    Table,
     Program,
 }
 
@@ -481,6 +744,7 @@ fn show_case(kind: Kind, text: &[u8], at: usize)
         Kind::Write => write_case(text, at),
         Kind::Read => show_read(read_case(text, at)),
         Kind::Run => run_case(text, at),
+        Kind::Table => table_case(text, at),
         Kind::Program => show_line(program_case(text, at)),
     }
 }
@@ -509,11 +773,16 @@ fn show_file(kind: Kind, name: &[u8]) {
 }
 
 fn main() {
+    let too_long = [0u8; 1048577];
+    let longest = [0u8; 1048576];
     show_file(Kind::Check, b"sheets");
     show_file(Kind::Write, b"sheets");
     show_file(Kind::Read, b"read");
     show_file(Kind::Run, b"run");
-    run_too_long(&[0u8; 1048577]);
-    run_longest(&[0u8; 1048576]);
+    run_too_long(&too_long);
+    run_longest(&longest);
+    show_file(Kind::Table, b"table");
+    table_too_long(&too_long);
+    table_longest(&longest);
     show_file(Kind::Program, b"program");
 }
