@@ -129,10 +129,10 @@ fn fill_row(
     let mut number: u16 = 1;
     let mut byte: usize = 0;
     while byte < 256 {
-        let set = held & classes[byte];
-        if set != before {
-            number = (place_of(sets, count, set) + 1) as u16;
-            before = set;
+        let kept = held & classes[byte];
+        if kept != before {
+            number = (place_of(sets, count, kept) + 1) as u16;
+            before = kept;
         }
         table[at + byte] = number;
         byte += 1;

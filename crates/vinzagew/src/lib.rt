@@ -2,6 +2,7 @@
 // Nothing is worked out here.
 use stage5_image_checker::Verdict;
 use stage5_image_compiler::Written;
+use stage6_machine_turn::RunAnswer;
 ghost use mathlib.Core.Path.{_≡_};
 ghost use mathlib.Core.List.{[], _∷_};
 ghost use Prim.Native.Nat.{_≤_};
@@ -12,6 +13,7 @@ ghost use Rattle.stage5_image_checker.specs.Answer as checker;
 ghost use Rattle.stage5_image_compiler.specs.Answer as compiler;
 ghost use Rattle.stage6_machine.specs.Run.{run, stack-after};
 ghost use Rattle.stage6_machine.specs.TableRun.{beginning, run-table, table-after, winners-after, table-stack-after};
+ghost use Rattle.stage6_machine_turn.specs.Steps.{answer-held};
 ghost use Rattle.vinzagew.specs.Out.{numbers-held, run-numbers, out-after, if-room};
 
 // The three numbers of an answer. The third is a length, a count of tokens, or 0 where there is neither.
@@ -50,6 +52,13 @@ fn written_numbers(written: Written) -> Numbers
         Written::TooLong(needed) => three(11, 0, needed as u64),
         Written::Refused(number, place) => three(number as u64, place as u64, 0),
     }
+}
+
+// "Running returns number, place, tokens taken"
+fn run_numbers(ran: RunAnswer) -> Numbers
+    ensures { λ r. ⌜ numbers-held r ≡ run-numbers (answer-held ran) ⌝ }
+{
+    three(ran.number as u64, ran.place as u64, ran.count as u64)
 }
 
 // Puts three numbers at the front of `out`, which has room for them.
@@ -117,7 +126,7 @@ pub extern "C" fn image_run(image: &[u8], text: &[u8], stack: &mut [u8], out: &m
         return;
     }
     let ran = stage6_machine_runner::run(image, text, stack);
-    let told = three(ran.number as u64, ran.place as u64, ran.count as u64);
+    let told = run_numbers(ran);
     put(out, told);
 }
 
@@ -161,6 +170,6 @@ pub extern "C" fn image_run_table(
         return;
     }
     let ran = stage6_machine_table::run_table(image, text, table, winners, stack);
-    let told = three(ran.number as u64, ran.place as u64, ran.count as u64);
+    let told = run_numbers(ran);
     put(out, told);
 }

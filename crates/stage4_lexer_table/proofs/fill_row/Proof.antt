@@ -30,11 +30,11 @@ loop-holds c =
       paste-zero (now (a .table)) (a .at) (numbers-by (take (a .count) (now (a .sets))) (now (a .classes)) (a .held) 256),
     )
 
-mul-set : tie.Need-mul-set Inv-loop μ-loop
-mul-set c = omega arith
+mul-kept : tie.Need-mul-kept Inv-loop μ-loop
+mul-kept c = omega arith
 
-element-copy-out-set : tie.Need-element-copy-out-set Inv-loop μ-loop
-element-copy-out-set c = omega arith
+element-copy-out-kept : tie.Need-element-copy-out-kept Inv-loop μ-loop
+element-copy-out-kept c = omega arith
 
 place-of-requires : tie.Need-place-of-requires Inv-loop μ-loop
 place-of-requires c κs = let p = c .before .before .before .before .before .pre in (p .0, p .1)
@@ -133,8 +133,8 @@ fill-row-spec =
     Inv-loop
     μ-loop
     loop-holds
-    mul-set
-    element-copy-out-set
+    mul-kept
+    element-copy-out-kept
     place-of-requires
     add-number
     cast-number

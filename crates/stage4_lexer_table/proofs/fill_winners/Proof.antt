@@ -32,7 +32,7 @@ inside : (c : tie.In-loop Inv-loop μ-loop) → c .before .loop .i + 1 < 256
 inside c = omega (arith, c .loop-test .taken, c .before .before .before .before .pre .2 .few)
 
 kept : (c : tie.At-loop Inv-loop μ-loop) → length (c .loop .winners) ≡ length (now (c .before .before .before .args .winners))
-kept c = c .loop .inv .1 ∙ length-set (now (c .before .before .before .args .winners)) 0 32
+kept c = c .loop .inv .1 ∙ length-set (now (c .before .before .before .args .winners)) 0 _
 
 slice-write-winners : tie.Need-slice-write-winners Inv-loop μ-loop
 slice-write-winners c = omega (arith, c .before .before .pre .3)

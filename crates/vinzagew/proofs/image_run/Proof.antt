@@ -4,7 +4,6 @@ use mathlib.Core.List.{List}
 use Prim.Native.Nat.{ℕ}
 use Rattle.stage6_machine.specs.Answer.{Answer}
 use Rattle.stage6_machine.specs.Run.{stack-after}
-use Rattle.stage6_machine_turn.specs.Steps.{answer-held}
 use Rattle.vinzagew.specs.Out.{run-numbers, out-after}
 use Rattle.vinzagew.proofs.Laws.{out-short, same-short, after-long}
 use borrow.Author.Needs.{needs}
@@ -19,11 +18,8 @@ returns c =
 run-requires : tie.Need-run-requires
 run-requires c κs = search needs
 
-cast-three : tie.Need-cast-three
-cast-three c = search needs
-
-three-requires : tie.Need-three-requires
-three-requires c κs = search needs
+run-numbers-requires : tie.Need-run-numbers-requires
+run-numbers-requires c κs = search needs
 
 put-requires : tie.Need-put-requires
 put-requires c κs = search needs
@@ -35,13 +31,15 @@ same-length-2 : tie.Need-same-length-2
 same-length-2 c = search needs
 
 returns-2 : tie.Need-returns-2
-unfolding answer-held run-numbers
 returns-2 c =
-    let asked = c .before .before .before .before .before .before .before .before .before .before in
+    let stored = c .before .before in
+    let told = stored .before .before in
+    let run = told .before .before .before in
+    let asked = run .before .before in
     let z = asked .before .before .before .before .before .args in
-    let e = c .before .before .before .before .before .before .before .before .run .ensures in
-    let n = c .before .before .before .before .three .ensures ∙ ap run-numbers (e .0) in (
-      c .before .before .put .ensures ∙ ap (λ (l : List ℕ). out-after l (z .out .now)) n,
+    let e = run .run .ensures in
+    let n = told .run-numbers .ensures ∙ ap run-numbers (e .0) in (
+      stored .put .ensures ∙ ap (λ (l : List ℕ). out-after l (z .out .now)) n,
       e .1 ∙ ap (λ (a : Answer). stack-after a (z .stack .now)) (e .0) ∙ after-long (z .out .now) _ (z .stack .now) (asked .if1 .left),
     )
 
@@ -51,8 +49,7 @@ image-run-spec =
     (tie.spec
     returns
     run-requires
-    cast-three
-    three-requires
+    run-numbers-requires
     put-requires
     same-length
     same-length-2

@@ -2,7 +2,6 @@
 use mathlib.Core.Path.{ap, _∙_}
 use mathlib.Core.List.{List}
 use Prim.Native.Nat.{ℕ}
-use Rattle.stage6_machine_turn.specs.Steps.{answer-held}
 use Rattle.vinzagew.specs.Out.{run-numbers, out-after}
 use Rattle.vinzagew.proofs.Laws.{out-short, same-short, after-long}
 use borrow.Author.Needs.{needs}
@@ -23,11 +22,8 @@ returns c =
 run-table-requires : tie.Need-run-table-requires
 run-table-requires c κs = search needs
 
-cast-three : tie.Need-cast-three
-cast-three c = search needs
-
-three-requires : tie.Need-three-requires
-three-requires c κs = search needs
+run-numbers-requires : tie.Need-run-numbers-requires
+run-numbers-requires c κs = search needs
 
 put-requires : tie.Need-put-requires
 put-requires c κs = search needs
@@ -45,16 +41,15 @@ same-length-4 : tie.Need-same-length-4
 same-length-4 c = search needs
 
 returns-2 : tie.Need-returns-2
-unfolding answer-held run-numbers
 returns-2 c =
     let stored = c .before .before in
     let told = stored .before .before in
-    let run = told .before .before .before .before .before .before .before .before in
+    let run = told .before .before .before .before .before .before .before in
     let asked = run .before .before .before .before in
     let z = asked .before .before .before .before .before .before .before .args in
     let out = z .out .now in
     let e = run .run-table .ensures in
-    let n = told .three .ensures ∙ ap run-numbers (e .0) in
+    let n = told .run-numbers .ensures ∙ ap run-numbers (e .0) in
     let long = asked .if1 .left in (
       stored .put .ensures ∙ ap (λ (l : List ℕ). out-after l out) n,
       e .1 ∙ after-long out _ (z .table .now) long,
@@ -68,8 +63,7 @@ image-run-table-spec =
     (tie.spec
     returns
     run-table-requires
-    cast-three
-    three-requires
+    run-numbers-requires
     put-requires
     same-length
     same-length-2
