@@ -193,6 +193,10 @@ module _ (ps : List Position) (first : ℕ) where
   unfolding table-entries
   entries-length = rows-length (λ row. map (number-of rows) (next-sets ps first row)) row-entries row-length rows
 
+  pub winners-length : length (table-winners ps first) ≡ length rows
+  unfolding table-winners
+  winners-length = length-map rows (winner-in ps)
+
   pub entry-at : (more : List ℕ) (x : ℕ) → Met x rows → (b : ℕ) → b < row-entries
       → getD (table-entries ps first ++ more) (number-of rows x * row-entries + b) 0 ≡ number-of rows (keep ps 0 (held-in ps first x) b)
   unfolding table-entries next-sets

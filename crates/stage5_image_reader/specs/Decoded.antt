@@ -34,6 +34,11 @@ pub record Decoded (bytes : List ℕ) (t : ImageTables) (i : Image) : Type 0 whe
   pub most-nonterminals : t .nonterminals ≤ 64
   pub rows : RowsHeld bytes (t .nonterminals) (t .productions) (t .empty) (i .rows)
 
+-- Tables from their parts.
+abbrev pub tables-from : ℕ → ℕ → PositionColumns → ℕ → ℕ → List ℕ → ImageTables
+tables-from rules skips positions nonterminals empty productions =
+    record { rules = rules; skips = skips; positions = positions; nonterminals = nonterminals; empty = empty; productions = productions }
+
 -- What a refused image's tables are.
 unfoldable pub no-tables : ImageTables
 no-tables = record {

@@ -4,28 +4,37 @@ ghost use mathlib.Core.Path.{_≡_};
 ghost use lib.ListN.{length};
 ghost use Rattle.stage5_image.specs.Image.{Image};
 ghost use Rattle.stage5_image.specs.ImageRanges.{InRange};
-ghost use Rattle.stage5_image_reader.specs.Decoded.{Decoded};
+ghost use Rattle.stage5_image_reader.specs.Decoded.{Decoded, tables-from};
 ghost use Rattle.stage6_machine.specs.Run.{run-image, run, stack-after};
 ghost use Rattle.stage6_machine_turn.specs.Steps.{answer-held};
 use stage4_lexer_classes::class_table;
-use stage5_image_reader::ImageTables;
+use stage4_lexer_columns::PositionColumns;
 use stage5_image_reader::Outcome;
 use stage6_machine_turn::RunAnswer;
 use stage6_machine_turn::Turn;
 
-// Runs a readable image, given by its bytes and tables. The class table is filled once, before the text is read. What is left on the stack
+// Runs a readable image, given by its bytes and the parts of its tables, of which the productions are not copied. The class table is filled once, before the text is read. What is left on the stack
 // is not promised.
-fn run_image(image: &[u8], tables: ImageTables, text: &[u8], stack: &mut [u8]) -> RunAnswer
-    requires { ⌜ ((i : Image) × Decoded (now image) tables i × InRange i) ⌝ }
+fn run_image(
+    image: &[u8],
+    rules: usize,
+    skips: u64,
+    positions: PositionColumns,
+    nonterminals: usize,
+    empty: u64,
+    productions: &[usize; 2048],
+    text: &[u8],
+    stack: &mut [u8],
+) -> RunAnswer
+    requires { ⌜ ((i : Image) × Decoded (now image) (tables-from rules skips positions nonterminals empty (now productions)) i × InRange i) ⌝ }
     ensures { λ r. ⌜ ((i : Image)
-        → Decoded (now (image .entry)) tables i
+        → Decoded (now (image .entry)) (tables-from rules skips positions nonterminals empty (now (productions .entry))) i
         → answer-held r ≡ run-image i (length (now (stack .entry))) (now (text .entry))) ⌝ }
 {
     if stack.len() < 1 {
         return stage6_machine_turn::answer(17, 0, 0);
     }
     stack[0] = 0;
-    let positions = tables.positions;
     let classes = class_table(positions.count, &positions.low, &positions.high);
     let mut state = stage6_machine_turn::first_state();
     while state.place < text.len() {
@@ -43,9 +52,9 @@ fn run_image(image: &[u8], tables: ImageTables, text: &[u8], stack: &mut [u8]) -
         );
         let after = stage6_machine_turn::one_turn(
             image,
-            &tables.productions,
-            tables.empty,
-            tables.skips,
+            productions,
+            empty,
+            skips,
             stack,
             found,
             state,
@@ -55,7 +64,7 @@ fn run_image(image: &[u8], tables: ImageTables, text: &[u8], stack: &mut [u8]) -
             Turn::Next(next) => state = next,
         }
     }
-    stage6_machine_turn::at_end(tables.empty, stack, state)
+    stage6_machine_turn::at_end(empty, stack, state)
 }
 
 // Runs an image over a text with a lent stack. The stack ends all zero, untouched after 12 and 13.
@@ -72,8 +81,17 @@ pub fn run(image: &[u8], text: &[u8], stack: &mut [u8]) -> RunAnswer
     if let Outcome::Refused(place) = outcome {
         return stage6_machine_turn::answer(13, place, 0);
     }
-    let tables = read.tables;
-    let ran = run_image(image, tables, text, stack);
+    let ran = run_image(
+        image,
+        read.tables.rules,
+        read.tables.skips,
+        read.tables.positions,
+        read.tables.nonterminals,
+        read.tables.empty,
+        &read.tables.productions,
+        text,
+        stack,
+    );
     let entries = stack.len();
     stage0_buffers::clear_front(stack, entries);
     ran

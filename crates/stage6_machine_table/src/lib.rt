@@ -7,32 +7,48 @@ ghost use lib.Dec.{leb};
 ghost use Prim.Native.Nat.{ℕ, _≤_};
 ghost use lib.ListN.{length};
 ghost use Rattle.stage4_lexer.specs.Table.{written-over, most-rows};
+ghost use Rattle.stage4_lexer_columns.specs.declared.PositionColumns.{PositionColumns};
 ghost use Rattle.stage5_image.specs.Image.{Image};
 ghost use Rattle.stage5_image.specs.ImageRanges.{InRange};
-ghost use Rattle.stage5_image_reader.specs.Decoded.{Decoded};
+ghost use Rattle.stage5_image_reader.specs.Decoded.{Decoded, tables-from};
+ghost use Rattle.stage5_image_reader.specs.declared.ImageTables.{ImageTables};
 ghost use Rattle.stage6_machine.specs.Run.{run-image};
 ghost use Rattle.stage6_machine.specs.TableRun.{rows-of, entries-of, winners-of};
 ghost use Rattle.stage6_machine.specs.TableRun.{beginning, run-table, table-after, winners-after, table-stack-after};
 ghost use Rattle.stage6_machine_turn.specs.Steps.{answer-held};
 ghost use Rattle.stage6_machine_table.specs.Built.{WithTable};
 use stage4_lexer_classes::class_table;
-use stage5_image_reader::ImageTables;
+use stage4_lexer_columns::PositionColumns;
 use stage5_image_reader::Outcome;
 use stage6_machine_turn::RunAnswer;
 use stage6_machine_turn::Turn;
 
-// Runs a readable image, given by its bytes and tables, by the rows of its scanner's table. What is left on the stack is not promised.
+// Runs a readable image, given by its bytes and the parts of its tables, by the rows of its scanner's table. What is left on the stack is not promised.
 fn run_rows<'a>(
     image: &[u8],
-    tables: ImageTables,
+    rules: usize,
+    skips: u64,
+    nonterminals: usize,
+    empty: u64,
+    productions: &[usize; 2048],
     text: &'a [u8],
     table: &'a [u16],
     winners: &'a [u16],
     stack: &mut [u8],
 ) -> RunAnswer
-    requires { ⌜ ((i : Image) × WithTable (now image) tables (now table) (now winners) i) ⌝ }
-    ensures { λ r. ⌜ ((i : Image)
-        → WithTable (now (image .entry)) tables (now (table .entry)) (now (winners .entry)) i
+    requires { ⌜ ((p : PositionColumns) × (i : Image) × WithTable
+        (now image)
+        (tables-from rules skips p nonterminals empty (now productions))
+        (now table)
+        (now winners)
+        i) ⌝ }
+    ensures { λ r. ⌜ ((p : PositionColumns) (i : Image)
+        → WithTable
+        (now (image .entry))
+        (tables-from rules skips p nonterminals empty (now (productions .entry)))
+        (now (table .entry))
+        (now (winners .entry))
+        i
         → answer-held r ≡ run-image i (length (now (stack .entry))) (now (text .entry))) ⌝ }
 {
     if stack.len() < 1 {
@@ -45,9 +61,9 @@ fn run_rows<'a>(
         let found = stage4_lexer_rows::match_by_rows(&text[p..], table, winners);
         let after = stage6_machine_turn::one_turn(
             image,
-            &tables.productions,
-            tables.empty,
-            tables.skips,
+            productions,
+            empty,
+            skips,
             stack,
             found,
             state,
@@ -57,20 +73,19 @@ fn run_rows<'a>(
             Turn::Next(next) => state = next,
         }
     }
-    stage6_machine_turn::at_end(tables.empty, stack, state)
+    stage6_machine_turn::at_end(empty, stack, state)
 }
 
-// Builds the table of an image, given by the machine's tables, and tells whether it has no more than 256 rows. Otherwise nothing is
+// Builds the table of an image, given by the columns of its positions, and tells whether it has no more than 256 rows. Otherwise nothing is
 // written.
-fn build_of(tables: ImageTables, table: &mut [u16], winners: &mut [u16]) -> bool
-    requires { ⌜ ((bytes : List ℕ) × (i : Image) × Decoded bytes tables i × InRange i × (65536 ≤ length (now table))
-        × (256 ≤ length (now winners))) ⌝ }
-    ensures { λ r. ⌜ ((bytes : List ℕ) (i : Image) → Decoded bytes tables i
+fn build_of(positions: PositionColumns, table: &mut [u16], winners: &mut [u16]) -> bool
+    requires { ⌜ ((bytes : List ℕ) × (t : ImageTables) × (i : Image) × Decoded bytes t i × InRange i × (t .positions ≡ positions)
+        × (65536 ≤ length (now table)) × (256 ≤ length (now winners))) ⌝ }
+    ensures { λ r. ⌜ ((bytes : List ℕ) (t : ImageTables) (i : Image) → Decoded bytes t i → t .positions ≡ positions
         → (r ≡ leb (length (rows-of i)) most-rows)
         × (now (table .exit) ≡ cond r (written-over (entries-of i) (now (table .entry))) (now (table .entry)))
         × (now (winners .exit) ≡ cond r (written-over (winners-of i) (now (winners .entry))) (now (winners .entry)))) ⌝ }
 {
-    let positions = tables.positions;
     let classes = class_table(positions.count, &positions.low, &positions.high);
     stage4_lexer_table::build_table(
         table,
@@ -125,11 +140,21 @@ pub fn run_table(
     if let Outcome::Refused(place) = outcome {
         return stage6_machine_turn::answer(13, place, 0);
     }
-    let tables = read.tables;
-    if !build_of(tables, table, winners) {
+    if !build_of(read.tables.positions, table, winners) {
         return stage6_machine_turn::answer(19, 0, 0);
     }
-    let ran = run_rows(image, tables, text, table, winners, stack);
+    let ran = run_rows(
+        image,
+        read.tables.rules,
+        read.tables.skips,
+        read.tables.nonterminals,
+        read.tables.empty,
+        &read.tables.productions,
+        text,
+        table,
+        winners,
+        stack,
+    );
     let entries = stack.len();
     stage0_buffers::clear_front(stack, entries);
     ran

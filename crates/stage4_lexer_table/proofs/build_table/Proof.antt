@@ -1,6 +1,7 @@
 -- `build_table` meets its contract: the rows tell whether there are too many, and nothing is written before.
 use borrow.Author.Needs.{needs}
 use mathlib.Core.Path.{refl, sym}
+use native.Mathlib.Omega.{arith}
 use borrow.Author.Tests.{le-leb, lt-leb}
 use Rattle.stage4_lexer_table.proofs.Meeting.{few-rows, many-rows}
 use Rattle.stage4_lexer_table.proofs.build_table.Statement.{statement}
@@ -10,7 +11,7 @@ reach-rows-requires : tie.Need-reach-rows-requires
 reach-rows-requires c κs = let s = c .before .before in (s .pre .0, s .pre .1)
 
 returns : tie.Need-returns
-returns c = (sym (lt-leb _ 256 (many-rows _ _ _ _ (c .if1 .taken) (c .before .reach-rows .ensures .1))), refl, refl)
+returns c = (sym (lt-leb _ 256 (many-rows _ _ _ _ (omega (arith, c .if1 .taken)) (c .before .reach-rows .ensures .1))), refl, refl)
 
 fill-table-requires : tie.Need-fill-table-requires
 fill-table-requires c κs =

@@ -57,7 +57,7 @@ loop-again c =
       e .0,
       e .1,
       reached-next _ _ _ _ _ (start .args .first) (start .args .count) (start .pre .0) _ (start .pre .1) (l .sets) _ (l .met) _ (l .i)
-          (omega (arith, l .inv .0, l .inv .1)) (c .before .before .before .before .loop-test .taken) (c .before .before .before .if1 .left) (l .inv .2)
+          (omega (arith, l .inv .0, l .inv .1)) (c .before .before .before .before .loop-test .taken) (omega (arith, c .before .before .before .if1 .left)) (l .inv .2)
           _ (c .before .before .follow-sets .ensures) (λ so-far below m h. e .2 _ so-far below m h),
     )
 

@@ -46,7 +46,7 @@ enum-told c = search needs
 
 run-image-requires : tie.Need-run-image-requires
 run-image-requires c κs =
-    let told = c .before .before in
+    let told = c .before .before .before .before in
     let read = told .before .before in
     let readable = read .read-image .ensures .readable (told .enum-told .given .1) in
     (readable .0, readable .2, read-in-range _ _ _ (readable .1) .0)
@@ -61,16 +61,16 @@ returns-3 : tie.Need-returns-3
 returns-3 c =
     let cleared = c .before .before in
     let ran = cleared .before .before .before .before in
-    let told = ran .before .before .before in
+    let told = ran .before .before .before .before .before in
     let read = told .before .before in
     let start = read .before .before .before .before .before in
     let readable = read .read-image .ensures .readable (told .enum-told .given .1) in
     let answers = ran .run-image .ensures (readable .0) (readable .2) in
-    let left = ran .run-image .last .1 .1 .1 .0 in (
+    let left = ran .run-image .last .1 .1 .1 .1 .1 .1 .1 .1 .0 in (
       answers ∙ sym (run-got _ _ _ (read .before .if1 .left) (readable .0) _ (readable .1)),
       cleared .clear-front .ensures
           ∙ cleared-all (length left) left (omega arith)
-          ∙ ap (λ (k : ℕ). replicate k 0) (ran .run-image .kept .1 .1 .1 .0)
+          ∙ ap (λ (k : ℕ). replicate k 0) (ran .run-image .kept .1 .1 .1 .1 .1 .1 .1 .1 .0)
           ∙ stack-cleared (readable .0) _ _ _ (now (start .args .stack)) answers,
     )
 

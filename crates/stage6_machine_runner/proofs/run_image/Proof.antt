@@ -6,82 +6,99 @@ use native.Mathlib.Omega.{arith}
 use lib.ListN.{length, set, length-set}
 use lib.Seq.{getD-set-same}
 use denote.Ref.{now}
-use Rattle.stage5_image.specs.Image.{Image}
-use Rattle.stage5_image_reader.specs.Decoded.{Decoded}
 use Rattle.stage4_lexer_scanner.specs.Meaning.{match-of}
+use Rattle.stage5_image.specs.Image.{Image}
+use Rattle.stage5_image_reader.specs.Decoded.{Decoded, tables-from}
+use Rattle.stage5_image_reader.specs.declared.ImageTables.{ImageTables}
 use Rattle.stage6_machine.specs.Run.{match-at, run-from, first-state}
 use Rattle.stage6_machine_turn.specs.Steps.{answer-held, turn-step, MatchFits}
 use Rattle.stage6_machine_turn.specs.declared.Turn.the-variants.{Next, Done}
 use Rattle.stage6_machine_turn.specs.StackLaws.{ready-entries}
-use Rattle.stage6_machine_runner.proofs.Prepared.{low-high, prepared}
 use Rattle.stage6_machine_runner.proofs.Turns.{Going, scanned, going-first, going-ends, going-fits, going-done, going-next}
 use Rattle.stage6_machine_runner.proofs.Ending.{run-no-entry, run-some-entry}
+use Rattle.stage6_machine_runner.proofs.Prepared.{low-high, prepared}
 use Rattle.stage6_machine_runner.proofs.run_image.Statement.{statement}
 use Rattle.stage6_machine_runner.proofs.run_image.Tie as tie
 
 abbrev Inv-loop : tie.InvT-loop
-Inv-loop image text stack₀ tables positions classes state₀ stack state =
+Inv-loop image rules skips nonterminals empty productions text stack₀ positions classes state₀ stack state =
     (length stack ≡ length stack₀)
-    × ((i : Image) → Decoded image tables i
-    → Going i image tables text stack state (run-from i (length stack₀) text (length text) first-state))
+    × ((i : Image) → Decoded image (tables-from rules skips positions nonterminals empty productions) i
+    → Going i image (tables-from rules skips positions nonterminals empty productions) text stack state
+    (run-from i (length stack₀) text (length text) first-state))
 
 abbrev μ-loop : tie.MeasureT-loop
-μ-loop image text stack₀ tables positions classes state₀ stack state = length text - state .place
+μ-loop image rules skips nonterminals empty productions text stack₀ positions classes state₀ stack state = length text - state .place
+
+-- The start, from the head of the loop.
+abbrev start-of : tie.At-loop Inv-loop μ-loop → tie.Start Inv-loop μ-loop
+start-of head = head .before .before .before .before .before .before .before .before .before .before
+
+abbrev scan-head : tie.After-longest-match Inv-loop μ-loop → tie.At-loop Inv-loop μ-loop
+scan-head c = c .before .before .before .before .before .before .before .before .before .before
+
+-- The machine's tables, from their parts, and that they hold an image.
+abbrev tables-of : tie.Start Inv-loop μ-loop → ImageTables
+tables-of s =
+    let a = s .args in tables-from (a .rules) (a .skips) (a .t4) (a .nonterminals) (a .empty) (now (a .productions))
+
+abbrev Held : tie.Start Inv-loop μ-loop → Image → Type 0
+Held s i = Decoded (now (s .args .image)) (tables-of s) i
 
 -- ---- what is known within a turn, for any image that the tables hold
 
 -- What was found is the image's longest match.
-found-here : (c : tie.After-longest-match Inv-loop μ-loop) (i : Image)
-    → let head = c .before .before .before .before .before .before .before .before .before .before in
-    let start = head .before .before .before .before .before .before .before .before .before .before .before in
-    Decoded (now (start .args .image)) (start .args .t2) i
-    → match-of (c .longest-match .result) ≡ match-at i (now (start .args .text)) (head .loop .state .place)
-found-here c i d =
-    let head = c .before .before .before .before .before .before .before .before .before .before in
-    let a = head .before .before .before .before .before .before .before .before .before .before .before .args in
-    scanned i (now (a .image)) (a .t2) d (now (a .text)) (head .loop .state .place) (c .longest-match .result) (c .longest-match .ensures)
+found-here : (c : tie.After-longest-match Inv-loop μ-loop) (i : Image) → Held (start-of (scan-head c)) i
+    → match-of (c .longest-match .result) ≡ match-at i (now (start-of (scan-head c) .args .text)) (scan-head c .loop .state .place)
+found-here c i w =
+    let head = scan-head c in
+    let start = start-of head in
+    scanned i (now (start .args .image)) (tables-of start) w (now (start .args .text)) (head .loop .state .place) (c .longest-match .result)
+    (c .longest-match .ensures)
+
+more-here : (c : tie.After-longest-match Inv-loop μ-loop) → scan-head c .loop .state .place < length (now (start-of (scan-head c) .args .text))
+more-here c = c .before .before .before .before .before .before .before .before .if2 .taken
+
+small : (c : tie.After-shared-slice-known2 Inv-loop μ-loop) → length (now (c .before .before .args .text)) < 18446744073709551616
+small c = omega arith
 
 -- It fits the state.
-fits-here : (c : tie.After-longest-match Inv-loop μ-loop) (i : Image)
-    → let head = c .before .before .before .before .before .before .before .before .before .before in
-    let start = head .before .before .before .before .before .before .before .before .before .before .before in
-    Decoded (now (start .args .image)) (start .args .t2) i → MatchFits (c .longest-match .result) (head .loop .state)
-fits-here c i d =
-    let head = c .before .before .before .before .before .before .before .before .before .before in
+fits-here : (c : tie.After-longest-match Inv-loop μ-loop) (i : Image) → Held (start-of (scan-head c)) i
+    → MatchFits (c .longest-match .result) (scan-head c .loop .state)
+fits-here c i w =
+    let head = scan-head c in
     let l = head .loop in
-    let start = head .before .before .before .before .before .before .before .before .before .before .before in
-    let text = now (start .args .text) in
-    let more : l .state .place < length text = c .before .before .before .before .before .before .before .before .if2 .taken in
-    let small : length text < 18446744073709551616 = omega arith in
-    going-fits i (now (start .args .image)) (start .args .t2) d text (l .stack) (l .state) _ (l .inv .1 i d) more
-    (c .longest-match .result) (found-here c i d) small
+    let a = start-of head .args in
+    going-fits i (now (a .image)) (tables-of (start-of head)) w (now (a .text)) (l .stack) (l .state) _ (l .inv .1 i w) (more-here c)
+    (c .longest-match .result) (found-here c i w) (small (head .before .before .before .before .before .before .before .before))
+
+-- From what a turn leaves to the match and the head of the loop.
+abbrev turn-scan : tie.After-one-turn Inv-loop μ-loop → tie.After-longest-match Inv-loop μ-loop
+turn-scan c = c .before .before
+
+abbrev next-turn : tie.After-after2 Inv-loop μ-loop → tie.After-one-turn Inv-loop μ-loop
+next-turn c = c .before .before .before .before
 
 -- The state after the turn.
 next-here : (c : tie.After-after2 Inv-loop μ-loop) (i : Image)
-    → let turn = c .before .before .before .before in
-    let head = turn .before .before .before .before .before .before .before .before .before .before .before .before .before .before in
+    → let turn = next-turn c in
+    let head = scan-head (turn-scan turn) in
+    let a = start-of head .args in
+    Held (start-of head) i
+    → Going i (now (a .image)) (tables-of (start-of head)) (now (a .text)) (turn .one-turn .last .1 .1 .1 .1 .0) (c .after2 .given .0 .0)
+    (run-from i (length (set (now (a .stack)) 0 0)) (now (a .text)) (length (now (a .text))) first-state)
+    × (head .loop .state .place < c .after2 .given .0 .0 .place)
+next-here c i w =
+    let turn = next-turn c in
+    let scan = turn-scan turn in
+    let head = scan-head scan in
     let l = head .loop in
-    let start = head .before .before .before .before .before .before .before .before .before .before .before in
-    let entry = set (now (start .args .stack)) 0 0 in
-    let text = now (start .args .text) in
-    let s = c .after2 .given .0 .0 in
-    Decoded (now (start .args .image)) (start .args .t2) i
-    → Going i (now (start .args .image)) (start .args .t2) text (turn .one-turn .last .1 .1 .1 .1 .0) s
-    (run-from i (length entry) text (length text) first-state)
-    × (l .state .place < s .place)
-next-here c i d =
-    let turn = c .before .before .before .before in
-    let scan = turn .before .before .before .before in
-    let head = scan .before .before .before .before .before .before .before .before .before .before in
-    let l = head .loop in
-    let start = head .before .before .before .before .before .before .before .before .before .before .before in
-    let text = now (start .args .text) in
-    let more : l .state .place < length text = scan .before .before .before .before .before .before .before .before .if2 .taken in
-    let t = start .args .t2 in
-    let e : turn-step (now (start .args .image)) (t .productions) (t .empty) (t .skips) (l .stack) (scan .longest-match .result) (l .state) .outcome
+    let a = start-of head .args in
+    let t = tables-of (start-of head) in
+    let e : turn-step (now (a .image)) (t .productions) (t .empty) (t .skips) (l .stack) (scan .longest-match .result) (l .state) .outcome
     ≡ Next (c .after2 .given .0 .0) = sym (turn .one-turn .ensures .0) ∙ c .after2 .given .1 in
-    going-next i (now (start .args .image)) (start .args .t2) d text (l .stack) (l .state) _ (l .inv .1 i d) more
-    (scan .longest-match .result) (found-here scan i d) (fits-here scan i d) _ (c .after2 .given .0 .0)
+    going-next i (now (a .image)) t w (now (a .text)) (l .stack) (l .state) _ (l .inv .1 i w) (more-here scan)
+    (scan .longest-match .result) (found-here scan i w) (fits-here scan i w) _ (c .after2 .given .0 .0)
     (turn .one-turn .kept .1 .1 .1 .1 .0) (turn .one-turn .ensures .1) e
 
 answer-requires : tie.Need-answer-requires Inv-loop μ-loop
@@ -91,15 +108,14 @@ returns : tie.Need-returns Inv-loop μ-loop
 unfolding answer-held
 returns c =
     let start = c .before .before .before .before .before in
-    λ i d. ap answer-held (c .answer .ensures) ∙ run-no-entry i _ (now (start .args .text)) (c .before .if1 .taken)
+    λ i w. ap answer-held (c .answer .ensures) ∙ run-no-entry i _ (now (start .args .text)) (c .before .if1 .taken)
 
 slice-write-stack : tie.Need-slice-write-stack Inv-loop μ-loop
 slice-write-stack c = search needs
 
 class-table-requires : tie.Need-class-table-requires Inv-loop μ-loop
 class-table-requires c κs =
-    let start = c .before .before .before .before .before .before .before .before in
-    let w = start .pre in
+    let w = c .before .before .before .before .before .before .before .pre in
     (w .1 .most-positions, low-high _ _ _ (w .1) (w .2))
 
 first-state-requires : tie.Need-first-state-requires Inv-loop μ-loop
@@ -107,11 +123,11 @@ first-state-requires c κs = tt
 
 loop-holds : tie.Need-loop-holds Inv-loop μ-loop
 loop-holds c =
-    let start = c .before .before .before .before .before .before .before .before .before .before in
+    let start = c .before .before .before .before .before .before .before .before .before in
     let entry = now (start .args .stack) in
-    let room : 0 < length entry = omega (arith, c .before .before .before .before .before .before .if1 .left) in (
+    let room : 0 < length entry = omega (arith, c .before .before .before .before .before .if1 .left) in (
       refl,
-      λ i d. going-first i _ _ d _ (set entry 0 0) (c .first-state .ensures) (getD-set-same entry 0 0 0 room)
+      λ i w. going-first i _ _ w _ (set entry 0 0) (c .first-state .ensures) (getD-set-same entry 0 0 0 room)
           (omega (arith, room, length-set entry 0 0)),
     )
 
@@ -127,85 +143,78 @@ part-longest-match-end c = search needs
 longest-match-requires : tie.Need-longest-match-requires Inv-loop μ-loop
 longest-match-requires c κs =
     let head = c .before .before .before .before .before .before .before .before .before in
-    let start = head .before .before .before .before .before .before .before .before .before .before .before in
-    let w = start .pre in
+    let w = start-of head .pre in
     (w .1 .most-positions, prepared _ _ _ (w .1) (w .2) _ (head .before .before .class-table .ensures _ _ _))
 
 one-turn-requires : tie.Need-one-turn-requires Inv-loop μ-loop
 one-turn-requires c κs =
-    let scan = c .before .before .before in
-    let head = scan .before .before .before .before .before .before .before .before .before .before in
-    let start = head .before .before .before .before .before .before .before .before .before .before .before in
-    let w = start .pre in
+    let scan = c .before in
+    let head = scan-head scan in
+    let w = start-of head .pre in
     (fits-here scan (w .0) (w .1), (_, _, head .loop .inv .1 (w .0) (w .1) .ready))
 
 enum-known-after : tie.Need-enum-known-after Inv-loop μ-loop
 enum-known-after c = search needs
 
+-- The stack keeps its length.
+kept-here : (turn : tie.After-one-turn Inv-loop μ-loop)
+    → length (turn .one-turn .last .1 .1 .1 .1 .0) ≡ length (now (start-of (scan-head (turn-scan turn)) .args .stack))
+kept-here turn =
+    let head = scan-head (turn-scan turn) in
+    turn .one-turn .kept .1 .1 .1 .1 .0 ∙ head .loop .inv .0 ∙ length-set (now (start-of head .args .stack)) 0 0
+
 same-length : tie.Need-same-length Inv-loop μ-loop
-same-length c =
-    let turn = c .before .before .before .before .before in
-    let head = turn .before .before .before .before .before .before .before .before .before .before .before .before .before .before in
-    let start = head .before .before .before .before .before .before .before .before .before .before .before in
-    turn .one-turn .kept .1 .1 .1 .1 .0 ∙ head .loop .inv .0 ∙ length-set (now (start .args .stack)) 0 0
+same-length c = kept-here (c .before .before .before .before .before)
 
 returns-2 : tie.Need-returns-2 Inv-loop μ-loop
 returns-2 c =
     let turn = c .before .before .before .before .before in
-    let scan = turn .before .before .before .before in
-    let head = scan .before .before .before .before .before .before .before .before .before .before in
+    let scan = turn-scan turn in
+    let head = scan-head scan in
     let l = head .loop in
-    let start = head .before .before .before .before .before .before .before .before .before .before .before in
-    let text = now (start .args .text) in
-    let more : l .state .place < length text = scan .before .before .before .before .before .before .before .before .if2 .taken in
-    let t = start .args .t2 in
-    let e : turn-step (now (start .args .image)) (t .productions) (t .empty) (t .skips) (l .stack) (scan .longest-match .result) (l .state) .outcome
-    ≡ Done (c .before .after .given .0 .0) = sym (turn .one-turn .ensures .0) ∙ c .before .after .given .1 in
-    λ i d.
-    let g = going-done i (now (start .args .image)) (start .args .t2) d text (l .stack) (l .state) _ (l .inv .1 i d) more
-    (scan .longest-match .result) (found-here scan i d) (fits-here scan i d) (c .before .after .given .0 .0) e in
-    run-some-entry i _ _ _ (length-set (now (start .args .stack)) 0 0) (head .before .before .before .before .before .before .before .if1 .left) _ g
+    let a = start-of head .args in
+    let t = tables-of (start-of head) in
+    let done = c .before .after .given .0 .0 in
+    let e : turn-step (now (a .image)) (t .productions) (t .empty) (t .skips) (l .stack) (scan .longest-match .result) (l .state) .outcome ≡ Done done =
+    sym (turn .one-turn .ensures .0) ∙ c .before .after .given .1 in
+    λ i w.
+    let g = going-done i (now (a .image)) t w (now (a .text)) (l .stack) (l .state) _ (l .inv .1 i w) (more-here scan)
+    (scan .longest-match .result) (found-here scan i w) (fits-here scan i w) done e in
+    run-some-entry i _ _ _ (length-set (now (a .stack)) 0 0) (head .before .before .before .before .before .before .if1 .left) _ g
 
 enum-known-after-2 : tie.Need-enum-known-after-2 Inv-loop μ-loop
 enum-known-after-2 c = search needs
 
 loop-less : tie.Need-loop-less Inv-loop μ-loop
 loop-less c =
-    let head = c .before .before .before .before .before .before .before .before .before .before .before .before .before .before .before .before .before .before .before in
-    let start = head .before .before .before .before .before .before .before .before .before .before .before in
-    let w = start .pre in
+    let w = start-of (scan-head (turn-scan (next-turn (c .before)))) .pre in
     let t = next-here (c .before) (w .0) (w .1) in
     omega (arith, t .0 .within, t .1)
 
 loop-again : tie.Need-loop-again Inv-loop μ-loop
 loop-again c =
-    let turn = c .before .before .before .before .before in
-    let head = turn .before .before .before .before .before .before .before .before .before .before .before .before .before .before in
-    (turn .one-turn .kept .1 .1 .1 .1 .0 ∙ head .loop .inv .0, λ i d. next-here (c .before) i d .0)
+    let turn = next-turn (c .before) in
+    (turn .one-turn .kept .1 .1 .1 .1 .0 ∙ scan-head (turn-scan turn) .loop .inv .0, λ i w. next-here (c .before) i w .0)
 
 at-end-requires : tie.Need-at-end-requires Inv-loop μ-loop
 at-end-requires c κs =
     let head = c .before .before .before in
-    let start = head .before .before .before .before .before .before .before .before .before .before .before in
-    let w = start .pre in
+    let w = start-of head .pre in
     ready-entries (head .loop .inv .1 (w .0) (w .1) .ready)
 
 same-length-2 : tie.Need-same-length-2 Inv-loop μ-loop
 same-length-2 c =
     let head = c .before .before .before .before in
-    let start = head .before .before .before .before .before .before .before .before .before .before .before in
-    head .loop .inv .0 ∙ length-set (now (start .args .stack)) 0 0
+    head .loop .inv .0 ∙ length-set (now (start-of head .args .stack)) 0 0
 
 returns-3 : tie.Need-returns-3 Inv-loop μ-loop
 returns-3 c =
     let head = c .before .before .before .before in
     let l = head .loop in
-    let start = head .before .before .before .before .before .before .before .before .before .before .before in
-    λ i d.
-    let g = going-ends i (now (start .args .image)) (start .args .t2) d (now (start .args .text)) (l .stack) (l .state) _ (l .inv .1 i d)
-    (c .before .before .if2 .left) in
-    run-some-entry i _ _ _ (length-set (now (start .args .stack)) 0 0) (head .before .before .before .before .before .before .before .if1 .left) _
-    (ap answer-held (c .at-end .ensures) ∙ g)
+    let a = start-of head .args in
+    λ i w.
+    let g = going-ends i (now (a .image)) (tables-of (start-of head)) w (now (a .text)) (l .stack) (l .state) _ (l .inv .1 i w) (c .before .before .if2 .left) in
+    run-some-entry i _ _ _ (length-set (now (a .stack)) 0 0) (head .before .before .before .before .before .before .if1 .left) _ (ap answer-held (c .at-end .ensures) ∙ g)
 
 pub run-image-spec : {M : Type 1} → statement M
 run-image-spec =

@@ -8,7 +8,10 @@ use lib.ListN.{length, set, length-set}
 use lib.Seq.{getD-set-same}
 use denote.Ref.{now}
 use Rattle.stage4_lexer_scanner.specs.Meaning.{match-of}
+use Rattle.stage4_lexer_columns.specs.declared.PositionColumns.{PositionColumns}
 use Rattle.stage5_image.specs.Image.{Image}
+use Rattle.stage5_image_reader.specs.Decoded.{tables-from}
+use Rattle.stage5_image_reader.specs.declared.ImageTables.{ImageTables}
 use Rattle.stage6_machine.specs.Run.{match-at, run-from, first-state}
 use Rattle.stage6_machine_turn.specs.Steps.{answer-held, turn-step, MatchFits}
 use Rattle.stage6_machine_turn.specs.declared.Turn.the-variants.{Next, Done}
@@ -21,13 +24,14 @@ use Rattle.stage6_machine_table.proofs.run_rows.Statement.{statement}
 use Rattle.stage6_machine_table.proofs.run_rows.Tie as tie
 
 abbrev Inv-loop : tie.InvT-loop
-Inv-loop image text table winners stack₀ tables state₀ stack state =
+Inv-loop image rules skips nonterminals empty productions text table winners stack₀ state₀ stack state =
     (length stack ≡ length stack₀)
-    × ((i : Image) → WithTable image tables table winners i
-    → Going i image tables text stack state (run-from i (length stack₀) text (length text) first-state))
+    × ((p : PositionColumns) (i : Image) → WithTable image (tables-from rules skips p nonterminals empty productions) table winners i
+    → Going i image (tables-from rules skips p nonterminals empty productions) text stack state
+    (run-from i (length stack₀) text (length text) first-state))
 
 abbrev μ-loop : tie.MeasureT-loop
-μ-loop image text table winners stack₀ tables state₀ stack state = length text - state .place
+μ-loop image rules skips nonterminals empty productions text table winners stack₀ state₀ stack state = length text - state .place
 
 -- The start, from the head of the loop.
 abbrev start-of : tie.At-loop Inv-loop μ-loop → tie.Start Inv-loop μ-loop
@@ -36,15 +40,20 @@ start-of head = head .before .before .before .before .before .before .before .be
 abbrev scan-head : tie.After-match-by-rows Inv-loop μ-loop → tie.At-loop Inv-loop μ-loop
 scan-head c = c .before .before .before .before
 
-abbrev With : tie.Start Inv-loop μ-loop → Image → Type 0
-With s i = WithTable (now (s .args .image)) (s .args .t2) (now (s .args .table)) (now (s .args .winners)) i
+-- The machine's tables, from their parts, and what a run by rows relies on.
+abbrev tables-of : tie.Start Inv-loop μ-loop → PositionColumns → ImageTables
+tables-of s p =
+    let a = s .args in tables-from (a .rules) (a .skips) p (a .nonterminals) (a .empty) (now (a .productions))
+
+abbrev With : tie.Start Inv-loop μ-loop → PositionColumns → Image → Type 0
+With s p i = WithTable (now (s .args .image)) (tables-of s p) (now (s .args .table)) (now (s .args .winners)) i
 
 -- ---- what is known within a turn, for any image that the tables hold
 
 -- What was found is the image's longest match.
-found-here : (c : tie.After-match-by-rows Inv-loop μ-loop) (i : Image) → With (start-of (scan-head c)) i
+found-here : (c : tie.After-match-by-rows Inv-loop μ-loop) (p : PositionColumns) (i : Image) → With (start-of (scan-head c)) p i
     → match-of (c .match-by-rows .result) ≡ match-at i (now (start-of (scan-head c) .args .text)) (scan-head c .loop .state .place)
-found-here c i w =
+found-here c p i w =
     let head = scan-head c in
     let a = start-of head .args in
     let known = head .before .before .before .before .before .before in
@@ -58,42 +67,42 @@ small : (c : tie.After-shared-slice-known2 Inv-loop μ-loop) → length (now (c 
 small c = omega arith
 
 -- It fits the state.
-fits-here : (c : tie.After-match-by-rows Inv-loop μ-loop) (i : Image) → With (start-of (scan-head c)) i
+fits-here : (c : tie.After-match-by-rows Inv-loop μ-loop) (p : PositionColumns) (i : Image) → With (start-of (scan-head c)) p i
     → MatchFits (c .match-by-rows .result) (scan-head c .loop .state)
-fits-here c i w =
+fits-here c p i w =
     let head = scan-head c in
     let l = head .loop in
     let a = start-of head .args in
-    going-fits i (now (a .image)) (a .t2) (w .decoded) (now (a .text)) (l .stack) (l .state) _ (l .inv .1 i w) (more-here c)
-    (c .match-by-rows .result) (found-here c i w) (small (head .before .before .before .before .before .before))
+    going-fits i (now (a .image)) (tables-of (start-of head) p) (w .decoded) (now (a .text)) (l .stack) (l .state) _ (l .inv .1 p i w) (more-here c)
+    (c .match-by-rows .result) (found-here c p i w) (small (head .before .before .before .before .before .before))
 
 -- From what a turn leaves to the match and the head of the loop.
 abbrev turn-scan : tie.After-one-turn Inv-loop μ-loop → tie.After-match-by-rows Inv-loop μ-loop
-turn-scan c = c .before .before .before .before
+turn-scan c = c .before .before
 
 abbrev next-turn : tie.After-after2 Inv-loop μ-loop → tie.After-one-turn Inv-loop μ-loop
 next-turn c = c .before .before .before .before
 
 -- The state after the turn.
-next-here : (c : tie.After-after2 Inv-loop μ-loop) (i : Image)
+next-here : (c : tie.After-after2 Inv-loop μ-loop) (p : PositionColumns) (i : Image)
     → let turn = next-turn c in
     let head = scan-head (turn-scan turn) in
     let a = start-of head .args in
-    With (start-of head) i
-    → Going i (now (a .image)) (a .t2) (now (a .text)) (turn .one-turn .last .1 .1 .1 .1 .0) (c .after2 .given .0 .0)
+    With (start-of head) p i
+    → Going i (now (a .image)) (tables-of (start-of head) p) (now (a .text)) (turn .one-turn .last .1 .1 .1 .1 .0) (c .after2 .given .0 .0)
     (run-from i (length (set (now (a .stack)) 0 0)) (now (a .text)) (length (now (a .text))) first-state)
     × (head .loop .state .place < c .after2 .given .0 .0 .place)
-next-here c i w =
+next-here c p i w =
     let turn = next-turn c in
     let scan = turn-scan turn in
     let head = scan-head scan in
     let l = head .loop in
     let a = start-of head .args in
-    let t = a .t2 in
+    let t = tables-of (start-of head) p in
     let e : turn-step (now (a .image)) (t .productions) (t .empty) (t .skips) (l .stack) (scan .match-by-rows .result) (l .state) .outcome
     ≡ Next (c .after2 .given .0 .0) = sym (turn .one-turn .ensures .0) ∙ c .after2 .given .1 in
-    going-next i (now (a .image)) t (w .decoded) (now (a .text)) (l .stack) (l .state) _ (l .inv .1 i w) (more-here scan)
-    (scan .match-by-rows .result) (found-here scan i w) (fits-here scan i w) _ (c .after2 .given .0 .0)
+    going-next i (now (a .image)) t (w .decoded) (now (a .text)) (l .stack) (l .state) _ (l .inv .1 p i w) (more-here scan)
+    (scan .match-by-rows .result) (found-here scan p i w) (fits-here scan p i w) _ (c .after2 .given .0 .0)
     (turn .one-turn .kept .1 .1 .1 .1 .0) (turn .one-turn .ensures .1) e
 
 answer-requires : tie.Need-answer-requires Inv-loop μ-loop
@@ -103,7 +112,7 @@ returns : tie.Need-returns Inv-loop μ-loop
 unfolding answer-held
 returns c =
     let start = c .before .before .before .before .before .before .before in
-    λ i w. ap answer-held (c .answer .ensures) ∙ run-no-entry i _ (now (start .args .text)) (c .before .if1 .taken)
+    λ p i w. ap answer-held (c .answer .ensures) ∙ run-no-entry i _ (now (start .args .text)) (c .before .if1 .taken)
 
 slice-write-stack : tie.Need-slice-write-stack Inv-loop μ-loop
 slice-write-stack c = search needs
@@ -117,7 +126,7 @@ loop-holds c =
     let entry = now (start .args .stack) in
     let room : 0 < length entry = omega (arith, c .before .if1 .left) in (
       refl,
-      λ i w. going-first i _ _ (w .decoded) _ (set entry 0 0) (c .first-state .ensures) (getD-set-same entry 0 0 0 room)
+      λ p i w. going-first i _ _ (w .decoded) _ (set entry 0 0) (c .first-state .ensures) (getD-set-same entry 0 0 0 room)
           (omega (arith, room, length-set entry 0 0)),
     )
 
@@ -133,14 +142,14 @@ part-match-by-rows-end c = search needs
 match-by-rows-requires : tie.Need-match-by-rows-requires Inv-loop μ-loop
 match-by-rows-requires c κs =
     let w = start-of (c .before .before .before) .pre in
-    rows-in (w .0) (w .1 .in-range) _ _ (w .1 .built)
+    rows-in (w .1) (w .2 .in-range) _ _ (w .2 .built)
 
 one-turn-requires : tie.Need-one-turn-requires Inv-loop μ-loop
 one-turn-requires c κs =
-    let scan = c .before .before .before in
+    let scan = c .before in
     let head = scan-head scan in
     let w = start-of head .pre in
-    (fits-here scan (w .0) (w .1), (_, _, head .loop .inv .1 (w .0) (w .1) .ready))
+    (fits-here scan (w .0) (w .1) (w .2), (_, _, head .loop .inv .1 (w .0) (w .1) (w .2) .ready))
 
 enum-known-after : tie.Need-enum-known-after Inv-loop μ-loop
 enum-known-after c = search needs
@@ -157,18 +166,18 @@ same-length c = kept-here (c .before .before .before .before .before)
 
 returns-2 : tie.Need-returns-2 Inv-loop μ-loop
 returns-2 c =
+    λ p i w.
     let turn = c .before .before .before .before .before in
     let scan = turn-scan turn in
     let head = scan-head scan in
     let l = head .loop in
     let a = start-of head .args in
-    let t = a .t2 in
+    let t = tables-of (start-of head) p in
     let done = c .before .after .given .0 .0 in
     let e : turn-step (now (a .image)) (t .productions) (t .empty) (t .skips) (l .stack) (scan .match-by-rows .result) (l .state) .outcome ≡ Done done =
     sym (turn .one-turn .ensures .0) ∙ c .before .after .given .1 in
-    λ i w.
-    let g = going-done i (now (a .image)) t (w .decoded) (now (a .text)) (l .stack) (l .state) _ (l .inv .1 i w) (more-here scan)
-    (scan .match-by-rows .result) (found-here scan i w) (fits-here scan i w) done e in
+    let g = going-done i (now (a .image)) t (w .decoded) (now (a .text)) (l .stack) (l .state) _ (l .inv .1 p i w) (more-here scan)
+    (scan .match-by-rows .result) (found-here scan p i w) (fits-here scan p i w) done e in
     run-some-entry i _ _ _ (length-set (now (a .stack)) 0 0) (head .before .before .if1 .left) _ g
 
 enum-known-after-2 : tie.Need-enum-known-after-2 Inv-loop μ-loop
@@ -177,19 +186,19 @@ enum-known-after-2 c = search needs
 loop-less : tie.Need-loop-less Inv-loop μ-loop
 loop-less c =
     let w = start-of (scan-head (turn-scan (next-turn (c .before)))) .pre in
-    let t = next-here (c .before) (w .0) (w .1) in
+    let t = next-here (c .before) (w .0) (w .1) (w .2) in
     omega (arith, t .0 .within, t .1)
 
 loop-again : tie.Need-loop-again Inv-loop μ-loop
 loop-again c =
     let turn = next-turn (c .before) in
-    (turn .one-turn .kept .1 .1 .1 .1 .0 ∙ scan-head (turn-scan turn) .loop .inv .0, λ i w. next-here (c .before) i w .0)
+    (turn .one-turn .kept .1 .1 .1 .1 .0 ∙ scan-head (turn-scan turn) .loop .inv .0, λ p i w. next-here (c .before) p i w .0)
 
 at-end-requires : tie.Need-at-end-requires Inv-loop μ-loop
 at-end-requires c κs =
     let head = c .before .before .before in
     let w = start-of head .pre in
-    ready-entries (head .loop .inv .1 (w .0) (w .1) .ready)
+    ready-entries (head .loop .inv .1 (w .0) (w .1) (w .2) .ready)
 
 same-length-2 : tie.Need-same-length-2 Inv-loop μ-loop
 same-length-2 c =
@@ -201,8 +210,8 @@ returns-3 c =
     let head = c .before .before .before .before in
     let l = head .loop in
     let a = start-of head .args in
-    λ i w.
-    let g = going-ends i (now (a .image)) (a .t2) (w .decoded) (now (a .text)) (l .stack) (l .state) _ (l .inv .1 i w) (c .before .before .if2 .left) in
+    λ p i w.
+    let g = going-ends i (now (a .image)) (tables-of (start-of head) p) (w .decoded) (now (a .text)) (l .stack) (l .state) _ (l .inv .1 p i w) (c .before .before .if2 .left) in
     run-some-entry i _ _ _ (length-set (now (a .stack)) 0 0) (head .before .before .if1 .left) _ (ap answer-held (c .at-end .ensures) ∙ g)
 
 pub run-rows-spec : {M : Type 1} → statement M

@@ -33,7 +33,7 @@ answer-requires-2 c κs = search needs
 returns-2 : tie.Need-returns-2
 unfolding answer-held
 returns-2 c =
-    promised-away _ _ _ _ _ 18 0 (short-winners _ _ _ _ (c .before .before .if1 .left) (c .before .if2 .taken)) _ (ap answer-held (c .answer2 .ensures))
+    promised-away _ _ _ _ _ 18 0 (short-winners _ _ _ _ (c .before .before .if1 .left) (omega (arith, c .before .if2 .taken))) _ (ap answer-held (c .answer2 .ensures))
     _ _ refl refl
 
 answer-requires-3 : tie.Need-answer-requires-3
@@ -70,10 +70,10 @@ enum-told : tie.Need-enum-told
 enum-told c = search needs
 
 -- The image that was read, once its bytes are known to be readable.
-abbrev told-of : tie.After-build-of-arg2 → tie.After-enum-told
+abbrev told-of : tie.After-build-of-arg3 → tie.After-enum-told
 told-of c = c .before .before .before
 
-abbrev read-of : tie.After-build-of-arg2 → tie.After-read-image
+abbrev read-of : tie.After-build-of-arg3 → tie.After-read-image
 read-of c = told-of c .before .before
 
 build-of-requires : tie.Need-build-of-requires
@@ -81,7 +81,7 @@ build-of-requires c κs =
     let short = read-of c .before in
     let long = short .before in
     let readable = read-of c .read-image .ensures .readable (told-of c .enum-told .given .1) in
-    (_, readable .0, readable .2, read-in-range _ _ _ (readable .1) .0, long .before .if1 .left, long .if2 .left)
+    (_, _, readable .0, readable .2, read-in-range _ _ _ (readable .1) .0, refl, long .before .if1 .left, long .if2 .left)
 
 answer-requires-5 : tie.Need-answer-requires-5
 answer-requires-5 c κs = search needs
@@ -100,7 +100,7 @@ returns-5 c =
     let short = read .before in
     let long = short .before in
     let readable = read .read-image .ensures .readable (told-of (built .before) .enum-told .given .1) in
-    let over = over-rows (readable .0) _ _ _ _ _ (built .build-of .ensures _ (readable .0) (readable .2)) (c .before .if4 .taken) in
+    let over = over-rows (readable .0) _ _ _ _ _ (built .build-of .ensures _ _ (readable .0) (readable .2) refl) (c .before .if4 .taken) in
     promised-away _ _ _ _ _ 19 0
     (begins-over _ _ _ _ (long .before .if1 .left) (long .if2 .left) (short .if3 .left) (readable .0) _ (readable .1) (over .0)) _
     (ap answer-held (c .answer5 .ensures)) _ _ (over .1) (over .2)
@@ -118,7 +118,7 @@ with-table c =
     let read = read-of (built .before) in
     let long = read .before .before in
     let readable = read .read-image .ensures .readable (told-of (built .before) .enum-told .given .1) in
-    let holds = built .build-of .ensures _ (readable .0) (readable .2) in
+    let holds = built .build-of .ensures _ _ (readable .0) (readable .2) refl in
     let within = within-rows (readable .0) _ _ _ _ _ holds (c .if4 .left) in (
       readable .0,
       _,
@@ -135,7 +135,7 @@ with-table c =
     )
 
 run-rows-requires : tie.Need-run-rows-requires
-run-rows-requires c κs = let w = with-table (c .before .before .before) in (w .0, w .3)
+run-rows-requires c κs = let w = with-table (c .before .before .before .before .before) in (_, w .0, w .3)
 
 clear-front-requires : tie.Need-clear-front-requires
 clear-front-requires c κs = search needs
@@ -153,18 +153,18 @@ returns-6 : tie.Need-returns-6
 returns-6 c =
     let cleared = c .before .before in
     let ended = cleared .before .before .before .before in
-    let passed = ended .before .before .before .before in
+    let passed = ended .before .before .before .before .before .before in
     let built = passed .before .before .before .before .before in
     let short = read-of (built .before) .before in
     let long = short .before in
     let start = long .before .before .before .before .before .before .before in
     let w = with-table passed in
-    let left = ended .run-rows .last .1 .1 .1 .1 .1 .0 in
+    let left = ended .run-rows .last .1 .1 .1 .1 .1 .1 .1 .1 .1 .0 in
     promised-built _ _ _ _ (now (start .args .stack)) (w .0)
     (begins-built _ _ _ _ (long .before .if1 .left) (long .if2 .left) (short .if3 .left) (w .0) (w .1) (w .2) (w .4))
-    _ (ended .run-rows .ensures (w .0) (w .3)) _ _ _ (w .5) (w .6)
+    _ (ended .run-rows .ensures _ (w .0) (w .3)) _ _ _ (w .5) (w .6)
     (cleared .clear-front .ensures ∙ cleared-all (length left) left (omega arith)
-    ∙ ap (λ (k : ℕ). replicate k 0) (ended .run-rows .kept .1 .1 .1 .1 .1 .0))
+    ∙ ap (λ (k : ℕ). replicate k 0) (ended .run-rows .kept .1 .1 .1 .1 .1 .1 .1 .1 .1 .0))
 
 pub run-table-spec : {M : Type 1} → statement M
 run-table-spec =
