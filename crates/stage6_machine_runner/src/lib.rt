@@ -13,8 +13,8 @@ use stage5_image_reader::Outcome;
 use stage6_machine_turn::RunAnswer;
 use stage6_machine_turn::Turn;
 
-// Runs a readable image, given by its bytes and the parts of its tables, of which the productions are not copied. The class table is filled once, before the text is read. What is left on the stack
-// is not promised.
+// Runs a readable image, given by its bytes and the parts of its tables, of which the productions are not copied. The class table is
+// filled once, before the text is read. What is left on the stack is not promised.
 fn run_image(
     image: &[u8],
     rules: usize,

@@ -23,7 +23,8 @@ use stage5_image_reader::Outcome;
 use stage6_machine_turn::RunAnswer;
 use stage6_machine_turn::Turn;
 
-// Runs a readable image, given by its bytes and the parts of its tables, by the rows of its scanner's table. What is left on the stack is not promised.
+// Runs a readable image, given by its bytes and the parts of its tables, by the rows of its scanner's table. What is left on the stack
+// is not promised.
 fn run_rows<'a>(
     image: &[u8],
     rules: usize,
