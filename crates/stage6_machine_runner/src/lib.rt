@@ -26,7 +26,9 @@ fn run_image(
     text: &[u8],
     stack: &mut [u8],
 ) -> RunAnswer
-    requires { ⌜ ((i : Image) × Decoded (now image) (tables-from rules skips positions nonterminals empty (now productions)) i × InRange i) ⌝ }
+    requires { ⌜ ((i : Image)
+        × Decoded (now image) (tables-from rules skips positions nonterminals empty (now productions)) i
+        × InRange i) ⌝ }
     ensures { λ r. ⌜ ((i : Image)
         → Decoded (now (image .entry)) (tables-from rules skips positions nonterminals empty (now (productions .entry))) i
         → answer-held r ≡ run-image i (length (now (stack .entry))) (now (text .entry))) ⌝ }

@@ -1,6 +1,6 @@
 // Outside vectors through the engine: reads the files `sheets` (checked, and then written), `read`, `run`, `table` and `program`, a case a
-// line, and prints a line for each. Lent buffers are filled with a pattern first, and a line also says whether they ended as they must. Nothing
-// is promised here: what checking, writing and running do is in the contracts of the crates that are called.
+// line, and prints a line for each. Lent buffers are filled with a pattern first, and a line also says whether they ended as they must.
+// Nothing is promised here: what checking, writing and running do is in the contracts of the crates that are called.
 use libc::STDOUT_FILENO;
 use stage5_image_checker::Verdict;
 use stage5_image_compiler::Written;
