@@ -5,5 +5,6 @@ pub mod Flags
 pub mod Tails
 pub mod Positions
 pub mod Productions
+pub mod Entries
 pub mod Rows
 pub mod Whole

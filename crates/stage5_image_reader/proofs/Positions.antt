@@ -18,7 +18,7 @@ use Rattle.stage4_lexer.specs.Positions.{Position}
 use Rattle.stage4_lexer_columns.specs.Held.{held-position, held-from, held-positions}
 use Rattle.stage4_lexer_columns.specs.declared.PositionColumns.{PositionColumns}
 use Rattle.stage5_image.specs.ImageReading.{image-field, read-flag, read-position}
-use Rattle.stage5_image_reader.specs.Answers.{positions-in, with-position, no-positions}
+use Rattle.stage5_image_reader.specs.Answers.{positions-in, columns-from, with-position}
 use Rattle.stage5_image_reader.specs.Tables.{listed, FlagsOf}
 use Rattle.stage5_image_reader.proofs.Fields.{field-got, field-same, field-below, below-limit, flag-reads, flag-stops}
 use Rattle.stage5_image_reader.proofs.Turns.{then-got, many-all}
@@ -142,14 +142,15 @@ pub record Columns (c : PositionColumns) (ps : List Position) : Type 0 where
   pub follow : Column (λ p. p .follow) (c .follow) ps
   pub last : FlagsOf (λ p. p .last) no-position (c .last) ps
 
-pub columns-none : Columns no-positions []
+pub columns-none : (low high rule follow : List ℕ) → length low ≡ 64 → length high ≡ 64 → length rule ≡ 64 → length follow ≡ 64
+    → Columns (columns-from 0 low high rule follow 0 0) []
 unfolding no-position
-columns-none = record {
+columns-none low high rule follow a b c d = record {
   size = refl;
-  low-size = refl;
-  high-size = refl;
-  rule-size = refl;
-  follow-size = refl;
+  low-size = a;
+  high-size = b;
+  rule-size = c;
+  follow-size = d;
   low = λ k h. absurd (omega arith);
   high = λ k h. absurd (omega arith);
   rule = λ k h. absurd (omega arith);

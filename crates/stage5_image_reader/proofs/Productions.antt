@@ -11,7 +11,7 @@ use lib.ListN.{length, getD, set, length-set}
 use lib.Seq.{getD-set-same, getD-set-other}
 use lib.Bits.{bitAnd}
 use lib.Dec.{eqb, leb, ltb}
-use borrow.Author.Tests.{eq-eqb, ne-eqb, le-leb, lt-ltb}
+use borrow.Author.Tests.{eq-eqb, ne-eqb, le-leb, lt-ltb, ltb-true}
 use Rattle.stage0_laws.specs.Bits.{bit}
 use Rattle.stage0_laws.specs.BitLaws.{and-test, shl-one}
 use Rattle.stage0_laws.specs.Order.{compare-cases}
@@ -20,8 +20,10 @@ use Rattle.stage3_normal_form.specs.Productions.{Production, production-of, mos
 use Rattle.stage5_image.specs.ImageReading.{image-field, read-list, read-production}
 use Rattle.stage5_image_reader.specs.Answers.{ProductionHeld, ProductionAnswers}
 use Rattle.stage5_image_reader.specs.declared.ProductionRead.the-variants as production
-use Rattle.stage5_image_reader.specs.Tables.{held-flags, TailAt, Members, EntryIs, EntriesOf, Room, SameBelow}
-use Rattle.stage5_image_reader.proofs.Fields.{field-passes, field-fails, field-stricter, field-range, field-one-byte, below-limit}
+use Rattle.stage5_image_reader.specs.Tables.{held-flags, TailAt, Members, EntryTail, EntryIs, EntriesOf, Room, SameBelow}
+use Rattle.stage5_image_reader.proofs.Fields.{field-got, field-passes, field-fails, field-stricter, field-range, field-one-byte}
+use Rattle.stage5_image_reader.proofs.Fields.{below-limit}
+use Rattle.stage5_image_reader.proofs.Turns.{many-next}
 use Rattle.stage5_image_reader.proofs.Flags.{length-listed, getD-listed}
 
 -- ---- answers
@@ -29,25 +31,27 @@ use Rattle.stage5_image_reader.proofs.Flags.{length-listed, getD-listed
 value-refused : {X : Type 0} {rule place next p : ℕ} → production.Production rule place next ≡ production.Refused p → X
 value-refused {X} {rule} {place} {next} {p} e = let z : _≡_ {A = ℕ} 0 1 = cc in absurd (omega arith)
 
-module _ {bytes : List ℕ} {n least : ℕ} {x : Reading Production} where
-  pub production-value : {rule place next : ℕ} (p : Production) → x ≡ got p next → ProductionHeld bytes n least rule place p
-      → ProductionAnswers bytes n least (production.Production rule place next) x
+module _ {bytes : List ℕ} {n least at : ℕ} {x : Reading Production} where
+  pub production-value : {rule place next : ℕ} (p : Production) → x ≡ got p next → ProductionHeld bytes n least at rule place next p
+      → ProductionAnswers bytes n least at (production.Production rule place next) x
   production-value {rule} {place} {next} p h k = record {
     value = λ e. (p, h ∙ ap (got p) (same-next e), same-held e);
     refusal = λ e. value-refused e;
   }
     where
-      same-held : {r l m : ℕ} → production.Production rule place next ≡ production.Production r l m → ProductionHeld bytes n least r l p
-      same-held {r} {l} {m} e =
-          let same-rule : rule ≡ r = cc in
-          let same-place : place ≡ l = cc in
-          subst (λ (y : ℕ). ProductionHeld bytes n least y l p) same-rule
-          (subst (λ (y : ℕ). ProductionHeld bytes n least rule y p) same-place k)
-
       same-next : {r l m : ℕ} → production.Production rule place next ≡ production.Production r l m → next ≡ m
       same-next {r} {l} {m} e = cc
 
-  pub production-refusal : {p : ℕ} → x ≡ stop 13 p → ProductionAnswers bytes n least (production.Refused p) x
+      same-held : {r l m : ℕ} → production.Production rule place next ≡ production.Production r l m
+          → ProductionHeld bytes n least at r l m p
+      same-held {r} {l} {m} e =
+          let same-rule : rule ≡ r = cc in
+          let same-place : place ≡ l = cc in
+          subst (λ (y : ℕ). ProductionHeld bytes n least at y l m p) same-rule
+          (subst (λ (y : ℕ). ProductionHeld bytes n least at rule y m p) same-place
+          (subst (λ (y : ℕ). ProductionHeld bytes n least at rule place y p) (same-next e) k))
+
+  pub production-refusal : {p : ℕ} → x ≡ stop 13 p → ProductionAnswers bytes n least at (production.Refused p) x
   production-refusal {p} h = record { value = λ e. value-refused (sym e); refusal = λ e. h ∙ ap (stop 13) (refused-at e) }
     where
       refused-at : {q : ℕ} → production.Refused p ≡ production.Refused q → p ≡ q
@@ -139,6 +143,30 @@ tail-at bytes n place size at-tail tail hb e l m =
       members = subst (λ (x : ℕ). Members bytes x n tail) (o .after) m;
     }
 
+-- A production has one byte for the rule, one for the tail's length and one for each member.
+module _ (bytes : List ℕ) (hb : (i : ℕ) → getD bytes i 0 < 256) where
+  tail-next : (n size at : ℕ) → n ≤ 64 → {tail : List ℕ} {next : ℕ} → read-list (image-field (λ v. ltb v n) bytes) size at ≡ got tail next
+      → next ≡ at + size
+  unfolding read-list
+  tail-next n size at h e =
+      many-next (λ (s : Bool) at. image-field (λ v. ltb v n) bytes at) (λ s a. s)
+      (λ s at v next f. let g = field-got (λ v. ltb v n) bytes at f in
+      field-one-byte (λ v. ltb v n) bytes at hb f (omega (arith, ltb-true v n (g .allowed))) .after)
+      true size at e
+
+  pub production-near : (least rules n at : ℕ) {rule at-length size at-tail next : ℕ} {tail : List ℕ} → 1 ≤ rules → rules ≤ 32 → n ≤ 64
+      → image-field (between least (rules - 1)) bytes at ≡ got rule at-length
+      → image-field (between 0 most-tail) bytes at-length ≡ got size at-tail
+      → read-list (image-field (λ v. ltb v n) bytes) size at-tail ≡ got tail next
+      → (at-length ≡ at + 1) × (at ≤ next) × (next ≤ at + 34)
+  production-near least rules n at {rule} {at-length} {size} {at-tail} {next} one most few e e₂ e₃ =
+      let r = field-range least (rules - 1) bytes at e in
+      let o = field-one-byte (between least (rules - 1)) bytes at hb e (omega arith) in
+      let r₂ = field-range 0 most-tail bytes at-length e₂ in
+      let o₂ = field-one-byte (between 0 most-tail) bytes at-length hb e₂ (omega arith) in
+      let f = tail-next n size at-tail few e₃ in
+      (o .after, omega (arith, o .after, o₂ .after, f), omega (arith, o .after, o₂ .after, f, r₂ .1))
+
 -- ---- the production of a rule
 
 some-none : {A X : Type 0} {a : A} → some a ≡ none → X
@@ -172,52 +200,53 @@ production-other r (q ∷ ps) p h = go (eqb (q .head) r) (production-other r ps 
 
 -- The productions of a row so far, in the table from a base on: rules from `least` on have none yet, and nothing but the row's
 -- own entries was changed.
-pub record Entering (bytes : List ℕ) (n base : ℕ) (table₀ table : List ℕ) (least : ℕ) (ps : List Production) : Type 0 where
-  pub entries : EntriesOf bytes n table base ps
+pub record Entering (bytes : List ℕ) (start n base : ℕ) (table₀ table : List ℕ) (least : ℕ) (ps : List Production) : Type 0 where
+  pub entries : EntriesOf bytes start n table base ps
   pub free : (r : ℕ) → least ≤ r → production-of r ps ≡ none
   pub same : SameBelow base table₀ table
   pub room : Room table (base + 32)
 
-pub entering-none : (bytes : List ℕ) (n base : ℕ) (table : List ℕ) → Room table base → Entering bytes n base table table 0 []
+pub entering-none : (bytes : List ℕ) (start n base : ℕ) (table : List ℕ) → Room table base → Entering bytes start n base table table 0 []
 unfolding production-of
-entering-none bytes n base table z = record {
+entering-none bytes start n base table z = record {
   entries = λ r h. z .zero-from (base + r) (omega arith);
   free = λ r h. refl;
   same = λ k h. refl;
   room = record { size = z .size; zero-from = λ k h. z .zero-from k (omega arith) };
 }
 
-module _ (bytes : List ℕ) (n base : ℕ) (table₀ table : List ℕ) (least : ℕ) (ps : List Production)
-    (s : Entering bytes n base table₀ table least ps)
-    (rule place : ℕ) (p : Production) (head : p .head ≡ rule) (l : least ≤ rule) (b : rule < 32) (fits : base + 32 ≤ 2048)
-    (t : TailAt bytes n place (p .tail)) where
-  entry-new : (r : ℕ) → r ≡ rule
-      → EntryIs bytes n (getD (set table (base + rule) (place + 1)) (base + r) 0) (production-of r (ps ++ (p ∷ [])))
+module _ (bytes : List ℕ) (start n base : ℕ) (table₀ table : List ℕ) (least : ℕ) (ps : List Production)
+    (s : Entering bytes start n base table₀ table least ps)
+    (rule entry : ℕ) (p : Production) (head : p .head ≡ rule) (l : least ≤ rule) (b : rule < 32) (fits : base + 32 ≤ 2048)
+    (t : EntryTail bytes start n entry (p .tail)) where
+  abbrev entered : List ℕ
+  entered = set table (base + rule) entry
+
+  entry-new : (r : ℕ) → r ≡ rule → EntryIs bytes start n (getD entered (base + r) 0) (production-of r (ps ++ (p ∷ [])))
   entry-new r e =
       let o : production-of r (ps ++ (p ∷ [])) ≡ some p = production-new r ps p (s .free r (omega arith)) (head ∙ sym e) in
-      let g : getD (set table (base + rule) (place + 1)) (base + r) 0 ≡ place + 1 =
-      ap (λ (x : ℕ). getD (set table (base + rule) (place + 1)) (base + x) 0) e
-      ∙ getD-set-same table (base + rule) (place + 1) 0 (omega (arith, s .room .size)) in
-      subst (EntryIs bytes n (getD (set table (base + rule) (place + 1)) (base + r) 0)) (sym o) (place, g, t)
+      let g : getD entered (base + r) 0 ≡ entry =
+      ap (λ (x : ℕ). getD entered (base + x) 0) e ∙ getD-set-same table (base + rule) entry 0 (omega (arith, s .room .size)) in
+      subst (EntryIs bytes start n (getD entered (base + r) 0)) (sym o)
+      (subst (λ (x : ℕ). EntryTail bytes start n x (p .tail)) (sym g) t)
 
-  entry-other : (r : ℕ) → r < 32 → (r ≡ rule → ⊥)
-      → EntryIs bytes n (getD (set table (base + rule) (place + 1)) (base + r) 0) (production-of r (ps ++ (p ∷ [])))
+  entry-other : (r : ℕ) → r < 32 → (r ≡ rule → ⊥) → EntryIs bytes start n (getD entered (base + r) 0) (production-of r (ps ++ (p ∷ [])))
   entry-other r h d =
       let o : production-of r (ps ++ (p ∷ [])) ≡ production-of r ps = production-other r ps p (λ e. d (sym e ∙ head)) in
-      let g : getD (set table (base + rule) (place + 1)) (base + r) 0 ≡ getD table (base + r) 0 =
-      getD-set-other table (base + rule) (base + r) (place + 1) 0 (λ e. d (omega arith)) in
-      subst (EntryIs bytes n (getD (set table (base + rule) (place + 1)) (base + r) 0)) (sym o)
-      (subst (λ (x : ℕ). EntryIs bytes n x (production-of r ps)) (sym g) (s .entries r h))
+      let g : getD entered (base + r) 0 ≡ getD table (base + r) 0 =
+      getD-set-other table (base + rule) (base + r) entry 0 (λ e. d (omega arith)) in
+      subst (EntryIs bytes start n (getD entered (base + r) 0)) (sym o)
+      (subst (λ (x : ℕ). EntryIs bytes start n x (production-of r ps)) (sym g) (s .entries r h))
 
-  pub entering-more : Entering bytes n base table₀ (set table (base + rule) (place + 1)) (rule + 1) (ps ++ (p ∷ []))
+  pub entering-more : Entering bytes start n base table₀ entered (rule + 1) (ps ++ (p ∷ []))
   entering-more = record {
     entries = λ r h. ⊎-elim (λ m. entry-other r h (λ e. omega arith))
         (⊎-elim (λ e. entry-new r e) (λ m. entry-other r h (λ e. omega arith))) (compare-cases r rule);
     free = λ r h. production-other r ps p (λ e. omega (arith, head)) ∙ s .free r (omega arith);
-    same = λ k h. getD-set-other table (base + rule) k (place + 1) 0 (λ e. omega arith) ∙ s .same k h;
+    same = λ k h. getD-set-other table (base + rule) k entry 0 (λ e. omega arith) ∙ s .same k h;
     room = record {
-      size = length-set table (base + rule) (place + 1) ∙ s .room .size;
-      zero-from = λ k h. getD-set-other table (base + rule) k (place + 1) 0 (λ e. omega arith) ∙ s .room .zero-from k h;
+      size = length-set table (base + rule) entry ∙ s .room .size;
+      zero-from = λ k h. getD-set-other table (base + rule) k entry 0 (λ e. omega arith) ∙ s .room .zero-from k h;
     };
   }
 

@@ -118,3 +118,20 @@ many-all one update P h s (suc n) at e =
     let r = then-got (one s at) (λ a next. and-then (read-many one update (update s a) n next) (λ l end. got (a ∷ l) end)) e in
     let q = then-got (read-many one update (update s (r .0)) n (r .1)) (λ l end. got (r .0 ∷ l) end) (r .3) in
     got-list P (q .3) (h s at (r .0) (r .1) (r .2), many-all one update P h (update s (r .0)) n (r .1) (q .2))
+
+got-end : {A : Type 0} {l m : A} {n e : ℕ} → got l n ≡ got m e → n ≡ e
+got-end {A} {l} {m} {n} {e} h = cc
+
+-- Things of one byte each end so many bytes on.
+pub many-next : {S A : Type 0} (one : S → ℕ → Reading A) (update : S → A → S)
+    → ((s : S) (at : ℕ) (a : A) (next : ℕ) → one s at ≡ got a next → next ≡ at + 1)
+    → (s : S) (n at : ℕ) {l : List A} {end : ℕ} → read-many one update s n at ≡ got l end → end ≡ at + n
+unfolding read-many
+many-next one update h s zero at e = let f = got-end e in omega arith
+many-next one update h s (suc n) at e =
+    let r = then-got (one s at) (λ a next. and-then (read-many one update (update s a) n next) (λ l end. got (a ∷ l) end)) e in
+    let q = then-got (read-many one update (update s (r .0)) n (r .1)) (λ l end. got (r .0 ∷ l) end) (r .3) in
+    let f = got-end (q .3) in
+    let g = many-next one update h (update s (r .0)) n (r .1) (q .2) in
+    let k = h s at (r .0) (r .1) (r .2) in
+    omega arith

@@ -13,8 +13,7 @@ use Rattle.stage5_image.specs.Image.{Image}
 use Rattle.stage5_image.specs.ImageReading.{image-field, read-flag, read-list, read-row, image-end, read-image}
 use Rattle.stage5_image_reader.specs.Answers.{positions-in}
 use Rattle.stage5_image_reader.specs.Tables.{held-flags, FlagsOf, FlagsHeld, Room}
-use Rattle.stage5_image_reader.specs.Decoded.{Decoded, refused-image, ImageAnswers, read-grammar, read-lexer}
-use Rattle.stage5_image_reader.specs.declared.ImageTables.{ImageTables}
+use Rattle.stage5_image_reader.specs.Decoded.{Decoded, tables-of, ImageAnswers, read-grammar, read-lexer}
 use Rattle.stage5_image_reader.specs.declared.ImageRead.{ImageRead}
 use Rattle.stage5_image_reader.specs.declared.Outcome.the-variants.{Readable, Refused}
 use Rattle.stage5_image_reader.proofs.Positions.{field-set}
@@ -24,23 +23,25 @@ use Rattle.stage5_image_reader.proofs.Positions.{field-set}
 readable-refused : {X : Type 0} {p : ℕ} → Readable ≡ Refused p → X
 readable-refused {X} {p} e = let z : _≡_ {A = ℕ} 0 1 = cc in absurd (omega arith)
 
-pub image-readable : {bytes : List ℕ} {t : ImageTables} {x : Reading Image} (i : Image) → x ≡ got i (length bytes) → Decoded bytes t i
-    → ImageAnswers bytes (record { outcome = Readable; tables = t }) x
-image-readable i h d = record { readable = λ e. (i, h, d); refusal = λ e. readable-refused e }
+module _ {bytes : List ℕ} {r : ImageRead} {low high rule follow starts productions : List ℕ} {x : Reading Image} where
+  pub image-readable : r .outcome ≡ Readable → (i : Image) → x ≡ got i (length bytes)
+      → Decoded bytes (tables-of r low high rule follow starts productions) i
+      → ImageAnswers bytes r low high rule follow starts productions x
+  image-readable o i h d = record { readable = λ e. (i, h, d); refusal = λ e. readable-refused (sym o ∙ e) }
 
-pub image-refused : {bytes : List ℕ} {r : ImageRead} {x : Reading Image} {place : ℕ} → r ≡ refused-image place → x ≡ stop 13 place
-    → ImageAnswers bytes r x
-unfolding refused-image
-image-refused {bytes} {r} {x} {place} h e = record {
-  readable = λ f. readable-refused (sym f ∙ ap (λ (r : ImageRead). r .outcome) h);
-  refusal = λ f. (e ∙ ap (stop 13) (refused-at (sym (ap (λ (r : ImageRead). r .outcome) h) ∙ f)), ap (λ (r : ImageRead). r .tables) h);
-}
-  where
-    refused-at : {q : ℕ} → Refused place ≡ Refused q → place ≡ q
-    refused-at {q} e = cc
+  pub image-refused : {place : ℕ} → r .outcome ≡ Refused place → x ≡ stop 13 place
+      → ImageAnswers bytes r low high rule follow starts productions x
+  image-refused {place} h e = record {
+    readable = λ f. readable-refused (sym f ∙ h);
+    refusal = λ f. e ∙ ap (stop 13) (refused-at (sym h ∙ f));
+  }
+    where
+      refused-at : {q : ℕ} → Refused place ≡ Refused q → place ≡ q
+      refused-at {q} e = cc
 
-pub image-same : {bytes : List ℕ} {r : ImageRead} {x y : Reading Image} → x ≡ y → ImageAnswers bytes r y → ImageAnswers bytes r x
-image-same {bytes} {r} e a = subst (λ (z : Reading Image). ImageAnswers bytes r z) (sym e) a
+  pub image-same : {y : Reading Image} → x ≡ y → ImageAnswers bytes r low high rule follow starts productions y
+      → ImageAnswers bytes r low high rule follow starts productions x
+  image-same e a = subst (λ (z : Reading Image). ImageAnswers bytes r low high rule follow starts productions z) (sym e) a
 
 -- ---- the table before any row
 

@@ -6,7 +6,7 @@ use mathlib.Core.List.{List}
 use Prim.Native.Nat.{ℕ, suc, _+_, _^_, _≤_, _<_}
 use lib.Bits.{bitOr}
 use lib.Dec.{eqb}
-use lib.ListN.{set, replicate}
+use lib.ListN.{set}
 use Rattle.stage1_sheet.specs.Field.{Reading, stop, got, read-many}
 use Rattle.stage3_normal_form.specs.Productions.{Production, Row}
 use Rattle.stage4_lexer.specs.Positions.{Position}
@@ -54,16 +54,10 @@ position-reading (position.Refused place) = stop 13 place
 abbrev pub positions-in : List ℕ → ℕ → ℕ → ℕ → Reading (List Position)
 positions-in bytes rules count at = read-many (read-position bytes rules count) (λ before p. p .rule) 0 count at
 
-abbrev pub no-positions : PositionColumns
-no-positions = record {
-  count = 0;
-  low = replicate 64 0;
-  high = replicate 64 0;
-  rule = replicate 64 0;
-  follow = replicate 64 0;
-  last = 0;
-  first = 0;
-}
+-- Columns of so many positions, from their parts.
+abbrev pub columns-from : ℕ → List ℕ → List ℕ → List ℕ → List ℕ → ℕ → ℕ → PositionColumns
+columns-from count low high rule follow last first =
+    record { count = count; low = low; high = high; rule = rule; follow = follow; last = last; first = first }
 
 -- Columns with one position more.
 unfoldable pub with-position : PositionColumns → ℕ → ℕ → ℕ → ℕ → ℕ → PositionColumns
@@ -96,28 +90,31 @@ productions-in bytes b count at = read-many (production-in bytes b) (λ least p.
 abbrev pub row-in : List ℕ → Bounds → ℕ → Reading Row
 row-in bytes b at = read-row bytes (held-flags (b .skips) (b .rules)) (b .nonterminals) at
 
--- A production whose tail's length stands at a place.
-pub record ProductionHeld (bytes : List ℕ) (n least rule place : ℕ) (p : Production) : Type 0 where
+-- A production, read from `at` on, whose tail's length stands at a place.
+pub record ProductionHeld (bytes : List ℕ) (n least at rule place next : ℕ) (p : Production) : Type 0 where
   pub head : p .head ≡ rule
   pub at-least : least ≤ rule
   pub below : rule < 32
+  pub near : place ≡ at + 1
+  pub onward : at ≤ next
+  pub short : next ≤ at + 34
   pub tail : TailAt bytes n place (p .tail)
 
 -- A production's answer.
-pub record ProductionAnswers (bytes : List ℕ) (n least : ℕ) (r : ProductionRead) (x : Reading Production) : Type 0 where
+pub record ProductionAnswers (bytes : List ℕ) (n least at : ℕ) (r : ProductionRead) (x : Reading Production) : Type 0 where
   pub value : {rule place next : ℕ} → r ≡ production.Production rule place next
-      → (p : Production) × (x ≡ got p next) × ProductionHeld bytes n least rule place p
+      → (p : Production) × (x ≡ got p next) × ProductionHeld bytes n least at rule place next p
   pub refusal : {place : ℕ} → r ≡ production.Refused place → x ≡ stop 13 place
 
--- So many productions of one row, entered from a base on. What stands below the base stays, and what follows the row's entries
--- is zero as it was.
-pub record ProductionsEntered (bytes : List ℕ) (b : Bounds) (count at base : ℕ) (table table' : List ℕ) (r : Field) : Type 0 where
-  pub answers : Answers (EntriesHeld bytes (b .nonterminals) table' base) r (productions-in bytes b count at)
+-- So many productions of the row that starts at a place, entered from a base on. What stands below the base stays, and what follows the
+-- row's entries is zero as it was.
+pub record ProductionsEntered (bytes : List ℕ) (b : Bounds) (count start at base : ℕ) (table table' : List ℕ) (r : Field) : Type 0 where
+  pub answers : Answers (EntriesHeld bytes start (b .nonterminals) table' base) r (productions-in bytes b count at)
   pub same : SameBelow base table table'
   pub room : Room table' (base + 32)
 
 -- A row, entered from a base on.
 pub record RowEntered (bytes : List ℕ) (b : Bounds) (at base : ℕ) (table table' : List ℕ) (r : Field) : Type 0 where
-  pub answers : Answers (RowHeld bytes (b .nonterminals) table' base) r (row-in bytes b at)
+  pub answers : Answers (RowHeld bytes at (b .nonterminals) table' base) r (row-in bytes b at)
   pub same : SameBelow base table table'
   pub room : Room table' (base + 32)

@@ -5,7 +5,7 @@ use mathlib.Core.Bool.{Bool, false}
 use mathlib.Core.List.{List}
 use Prim.Native.Nat.{ℕ, _^_, _≤_, _<_}
 use lib.Dec.{ltb}
-use lib.ListN.{length, replicate}
+use lib.ListN.{length}
 use Rattle.stage0_laws.specs.Lists.{All}
 use Rattle.stage1_sheet.specs.Limits.{most-classes, most-expression-nodes}
 use Rattle.stage1_sheet.specs.Field.{Reading, stop, got, and-then, between}
@@ -14,14 +14,25 @@ use Rattle.stage4_lexer_columns.specs.Held.{held-positions}
 use Rattle.stage4_lexer_columns.specs.declared.PositionColumns.{PositionColumns}
 use Rattle.stage5_image.specs.Image.{Image}
 use Rattle.stage5_image.specs.ImageReading.{image-field, read-list, read-row, image-end}
-use Rattle.stage5_image_reader.specs.Answers.{positions-in, no-positions}
+use Rattle.stage5_image_reader.specs.Answers.{positions-in, columns-from}
 use Rattle.stage5_image_reader.specs.Tables.{held-flags, FlagsOf, RowsHeld}
-use Rattle.stage5_image_reader.specs.declared.ImageTables.{ImageTables}
 use Rattle.stage5_image_reader.specs.declared.ImageRead.{ImageRead}
+use Rattle.stage5_image_reader.specs.declared.Lexer.{Lexer}
 use Rattle.stage5_image_reader.specs.declared.Outcome.the-variants.{Readable, Refused}
 
+-- The tables of an image. The entry of `productions` for a nonterminal n and a rule r stands at n * 32 + r, and the entry of `starts` for n
+-- is the place where its row starts in the image's bytes.
+pub record ImageTables : Type 0 where
+  pub rules : ℕ
+  pub skips : ℕ
+  pub positions : PositionColumns
+  pub nonterminals : ℕ
+  pub empty : ℕ
+  pub starts : List ℕ
+  pub productions : List ℕ
+
 -- The tables hold an image that stands in these bytes. Left free: the columns' entries from the position count on, and the entries of
--- `productions` from the last nonterminal's on; no function reads them.
+-- `starts` and `productions` from the last nonterminal's on; no function reads them.
 pub record Decoded (bytes : List ℕ) (t : ImageTables) (i : Image) : Type 0 where
   pub rules : t .rules ≡ length (i .skips)
   pub most-rules : t .rules ≤ 32
@@ -32,32 +43,26 @@ pub record Decoded (bytes : List ℕ) (t : ImageTables) (i : Image) : Type 0 whe
   pub first : t .positions .first ≡ i .first
   pub some-nonterminals : 1 ≤ t .nonterminals
   pub most-nonterminals : t .nonterminals ≤ 64
-  pub rows : RowsHeld bytes (t .nonterminals) (t .productions) (t .empty) (i .rows)
+  pub rows : RowsHeld bytes (t .nonterminals) (t .starts) (t .productions) (t .empty) (i .rows)
 
--- Tables from their parts.
-abbrev pub tables-from : ℕ → ℕ → PositionColumns → ℕ → ℕ → List ℕ → ImageTables
-tables-from rules skips positions nonterminals empty productions =
-    record { rules = rules; skips = skips; positions = positions; nonterminals = nonterminals; empty = empty; productions = productions }
-
--- What a refused image's tables are.
-unfoldable pub no-tables : ImageTables
-no-tables = record {
-  rules = 0;
-  skips = 0;
-  positions = no-positions;
-  nonterminals = 0;
-  empty = 0;
-  productions = replicate 2048 0;
+-- The tables out of what reading returns and the arrays that it filled.
+abbrev pub tables-of : ImageRead → List ℕ → List ℕ → List ℕ → List ℕ → List ℕ → List ℕ → ImageTables
+tables-of r low high rule follow starts productions = record {
+  rules = r .rules;
+  skips = r .skips;
+  positions = columns-from (r .count) low high rule follow (r .last) (r .first);
+  nonterminals = r .nonterminals;
+  empty = r .empty;
+  starts = starts;
+  productions = productions;
 }
 
-unfoldable pub refused-image : ℕ → ImageRead
-refused-image place = record { outcome = Refused place; tables = no-tables }
-
--- The answer to the reading of an image: all bytes were read, and the tables hold the image; or 13 at its place, and the tables
--- hold nothing.
-pub record ImageAnswers (bytes : List ℕ) (r : ImageRead) (x : Reading Image) : Type 0 where
-  pub readable : r .outcome ≡ Readable → (i : Image) × (x ≡ got i (length bytes)) × Decoded bytes (r .tables) i
-  pub refusal : {place : ℕ} → r .outcome ≡ Refused place → (x ≡ stop 13 place) × (r .tables ≡ no-tables)
+-- The answer to the reading of an image: all bytes were read, and the tables hold the image; or 13 at its place, and what the arrays then
+-- hold is left free.
+pub record ImageAnswers (bytes : List ℕ) (r : ImageRead) (low high rule follow starts productions : List ℕ) (x : Reading Image) : Type 0 where
+  pub readable : r .outcome ≡ Readable
+      → (i : Image) × (x ≡ got i (length bytes)) × Decoded bytes (tables-of r low high rule follow starts productions) i
+  pub refusal : {place : ℕ} → r .outcome ≡ Refused place → x ≡ stop 13 place
 
 -- ---- the parts
 
@@ -67,12 +72,6 @@ pub record RulesRead (rules skips : ℕ) : Type 0 where
   pub most : rules ≤ 32
   pub flags : FlagsOf (λ b. b) false skips (held-flags skips rules)
 
--- What is known after the first set.
-pub record LexerRead (rules skips : ℕ) (c : PositionColumns) : Type 0 where
-  pub rules-read : RulesRead rules skips
-  pub most : c .count ≤ 64
-  pub below : All (λ p. p .rule < rules) (held-positions c)
-
 -- From the nonterminal count on.
 unfoldable pub read-grammar : List ℕ → List Bool → List Position → ℕ → ℕ → Reading Image
 read-grammar bytes skips ps first at =
@@ -81,8 +80,12 @@ read-grammar bytes skips ps first at =
     (λ rows end. image-end bytes (record { skips = skips; positions = ps; first = first; rows = rows }) end))
 
 -- The same for the flags and positions that the code holds.
-abbrev pub grammar-in : List ℕ → ℕ → ℕ → PositionColumns → ℕ → Reading Image
-grammar-in bytes rules skips c at = read-grammar bytes (held-flags skips rules) (held-positions c) (c .first) at
+abbrev pub columns-in : Lexer → List ℕ → List ℕ → List ℕ → List ℕ → PositionColumns
+columns-in l low high rule follow = columns-from (l .count) low high rule follow (l .last) (l .first)
+
+abbrev pub grammar-in : List ℕ → Lexer → List ℕ → List ℕ → List ℕ → List ℕ → ℕ → Reading Image
+grammar-in bytes l low high rule follow at =
+    read-grammar bytes (held-flags (l .skips) (l .rules)) (held-positions (columns-in l low high rule follow)) (l .first) at
 
 -- From the position count on.
 unfoldable pub read-lexer : List ℕ → ℕ → List Bool → ℕ → Reading Image

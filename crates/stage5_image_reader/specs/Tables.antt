@@ -4,7 +4,7 @@ use mathlib.Core.Path.{_≡_}
 use mathlib.Core.Bool.{Bool, false}
 use mathlib.Core.List.{List, [], _∷_}
 use mathlib.Core.Option.{Option, none, some}
-use Prim.Native.Nat.{ℕ, zero, suc, _+_, _*_, _≤_, _<_}
+use Prim.Native.Nat.{ℕ, zero, suc, _+_, _*_, _/_, _%_, _≤_, _<_}
 use lib.Dec.{eqb}
 use lib.ListN.{length, getD, take, drop}
 use Rattle.stage0_laws.specs.Bits.{bit}
@@ -62,31 +62,56 @@ pub record TailAt (bytes : List ℕ) (n place : ℕ) (tail : List ℕ) : Type 0 
   pub short : length tail ≤ most-tail
   pub members : Members bytes (place + 1) n tail
 
--- An entry of the table of productions: 0 for none, else 1 + the place of the tail's length.
-abbrev pub EntryIs : List ℕ → ℕ → ℕ → Option Production → Type 0
-EntryIs bytes n entry none = entry ≡ 0
-EntryIs bytes n entry (some p) = (place : ℕ) × (entry ≡ place + 1) × TailAt bytes n place (p .tail)
+-- So many bytes from a place on.
+abbrev pub part : List ℕ → ℕ → ℕ → List ℕ
+part bytes at size = take size (drop at bytes)
+
+-- The tail that an entry of the table of productions stands for, by its two highest bits: a tail of up to two members stands in the entry
+-- itself, six bits a member; of a longer one, the entry says how far behind the start of its row its length stands.
+unfoldable pub tail-by : ℕ → List ℕ → ℕ → ℕ → List ℕ
+tail-by zero bytes start entry = []
+tail-by (suc zero) bytes start entry = entry % 64 ∷ []
+tail-by (suc (suc zero)) bytes start entry = entry % 64 ∷ entry / 64 % 64 ∷ []
+tail-by (suc (suc (suc k))) bytes start entry =
+    part bytes (start + entry % 16384 + 1) (getD bytes (start + entry % 16384) 0)
+
+abbrev pub entry-tail : List ℕ → ℕ → ℕ → List ℕ
+entry-tail bytes start entry = tail-by (entry / 16384) bytes start entry
+
+-- An entry that stands for a tail. A longer tail lies within the image's bytes and is not empty.
+pub record EntryTail (bytes : List ℕ) (start n entry : ℕ) (tail : List ℕ) : Type 0 where
+  pub some-entry : 0 < entry
+  pub tail-is : entry-tail bytes start entry ≡ tail
+  pub below : All (λ m. m < n) tail
+  pub inside : 3 ≤ entry / 16384
+      → (1 ≤ getD bytes (start + entry % 16384) 0)
+      × (start + entry % 16384 + 1 + getD bytes (start + entry % 16384) 0 ≤ length bytes)
+
+-- An entry of the table of productions: 0 for none.
+abbrev pub EntryIs : List ℕ → ℕ → ℕ → ℕ → Option Production → Type 0
+EntryIs bytes start n entry none = entry ≡ 0
+EntryIs bytes start n entry (some p) = EntryTail bytes start n entry (p .tail)
 
 -- The entries from a base on are those of a row's productions, by rule.
-abbrev pub EntriesOf : List ℕ → ℕ → List ℕ → ℕ → List Production → Type 0
-EntriesOf bytes n table base ps = (r : ℕ) → r < 32 → EntryIs bytes n (getD table (base + r) 0) (production-of r ps)
+abbrev pub EntriesOf : List ℕ → ℕ → ℕ → List ℕ → ℕ → List Production → Type 0
+EntriesOf bytes start n table base ps = (r : ℕ) → r < 32 → EntryIs bytes start n (getD table (base + r) 0) (production-of r ps)
 
 -- The same, where a value that says nothing stands for them.
-pub record EntriesHeld (bytes : List ℕ) (n : ℕ) (table : List ℕ) (base v : ℕ) (ps : List Production) : Type 0 where
-  pub entries : EntriesOf bytes n table base ps
+pub record EntriesHeld (bytes : List ℕ) (start n : ℕ) (table : List ℕ) (base v : ℕ) (ps : List Production) : Type 0 where
+  pub entries : EntriesOf bytes start n table base ps
 
 -- ---- rows
 
--- A row in the table from a base on; v is its ε flag as a number.
-pub record RowHeld (bytes : List ℕ) (n : ℕ) (table : List ℕ) (base v : ℕ) (row : Row) : Type 0 where
+-- A row in the table from a base on, which stands in the bytes from a start on; v is its ε flag as a number.
+pub record RowHeld (bytes : List ℕ) (start n : ℕ) (table : List ℕ) (base v : ℕ) (row : Row) : Type 0 where
   pub empty : eqb v 1 ≡ row .has-epsilon
-  pub entries : EntriesOf bytes n table base (row .productions)
+  pub entries : EntriesOf bytes start n table base (row .productions)
 
--- All rows in the table; s is the set of those with ε.
-pub record RowsHeld (bytes : List ℕ) (n : ℕ) (table : List ℕ) (s : ℕ) (rows : List Row) : Type 0 where
+-- All rows in the table, and their starts; s is the set of those with ε.
+pub record RowsHeld (bytes : List ℕ) (n : ℕ) (starts table : List ℕ) (s : ℕ) (rows : List Row) : Type 0 where
   pub size : length rows ≡ n
   pub empty : FlagsOf (λ row. row .has-epsilon) no-productions s rows
-  pub entries : (m : ℕ) → m < n → EntriesOf bytes n table (m * 32) ((row-of rows m) .productions)
+  pub entries : (m : ℕ) → m < n → EntriesOf bytes (getD starts m 0) n table (m * 32) ((row-of rows m) .productions)
 
 -- The table is whole, and its entries from a place on are zero: rows from there on can be entered.
 pub record Room (table : List ℕ) (at : ℕ) : Type 0 where

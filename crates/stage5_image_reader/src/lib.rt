@@ -1,19 +1,22 @@
 // The image reader: an image's bytes are read once, before the text, into tables for the machine. Question 13 is answered here,
 // and no other: the text is not looked at.
 ghost use mathlib.Core.Path.{_≡_};
-ghost use Prim.Native.Nat.{_+_, _-_, _^_, _≤_, _<_};
+ghost use mathlib.Core.List.{List};
+ghost use Prim.Native.Nat.{ℕ, _+_, _-_, _^_, _≤_, _<_};
 ghost use lib.Dec.{eqb, ltb};
 ghost use lib.ListN.{length};
+ghost use Rattle.stage0_laws.specs.Lists.{All};
 ghost use Rattle.stage1_sheet.specs.Field.{between};
+ghost use Rattle.stage4_lexer_columns.specs.Held.{held-positions};
 ghost use Rattle.stage5_image.specs.ImageReading.{image-field, read-flag, read-list, read-position, read-image};
-ghost use Rattle.stage5_image_reader.specs.Tables.{held-flags, FlagsHeld, PositionsHeld, MembersHeld, RowsHeld, Room};
+ghost use Rattle.stage5_image_reader.specs.Tables.{held-flags, FlagsHeld, PositionsHeld, MembersHeld, TailAt, EntryTail};
+ghost use Rattle.stage5_image_reader.specs.Tables.{RowsHeld, Room};
 ghost use Rattle.stage5_image_reader.specs.Answers.{field-reading, place-of, Answers, with-flag};
-ghost use Rattle.stage5_image_reader.specs.Answers.{position-reading, positions-in, no-positions, with-position};
+ghost use Rattle.stage5_image_reader.specs.Answers.{position-reading, positions-in, columns-from};
 ghost use Rattle.stage5_image_reader.specs.Answers.{InBounds, production-in, row-in, ProductionAnswers};
 ghost use Rattle.stage5_image_reader.specs.Answers.{ProductionsEntered, RowEntered};
-ghost use Rattle.stage5_image_reader.specs.Decoded.{ImageAnswers, no-tables, refused-image, RulesRead};
-ghost use Rattle.stage5_image_reader.specs.Decoded.{LexerRead, grammar-in, read-lexer};
-use stage4_lexer_columns::PositionColumns;
+ghost use Rattle.stage5_image_reader.specs.Decoded.{ImageAnswers, RulesRead, columns-in, grammar-in, read-lexer};
+ghost use Rattle.stage5_image_reader.specs.declared.Outcome.the-variants.{Refused};
 
 // What a field gives: a value and the place after it, or the place of question 13.
 enum Field {
@@ -34,10 +37,20 @@ enum PositionRead {
     Refused(usize),
 }
 
-// Positions, as columns, and the place after them, or the place of question 13.
+// Where positions end, or the place of question 13, and the set of those that are last. The columns hold the rest.
 struct PositionsRead {
     end: Field,
-    columns: PositionColumns,
+    last: u64,
+}
+
+// What stands in no column of an image's rules and positions: the number of rules, those that skip, the number of positions, and the last and
+// the first ones.
+struct Lexer {
+    rules: u64,
+    skips: u64,
+    count: usize,
+    last: u64,
+    first: u64,
 }
 
 // A production that was read: its rule, the place of its tail's length and the place after it, or the place of question 13.
@@ -53,26 +66,22 @@ struct Bounds {
     nonterminals: u64,
 }
 
-// The tables of an image. The entry of `productions` for a nonterminal n and a rule r stands at n * 32 + r: 0 where n has no
-// production for r, else 1 + the place of the tail's length in the image's bytes.
-pub struct ImageTables {
-    pub rules: usize,
-    pub skips: u64,
-    pub positions: PositionColumns,
-    pub nonterminals: usize,
-    pub empty: u64,
-    pub productions: [usize; 2048],
-}
-
 pub enum Outcome {
     Readable,
     Refused(usize),
 }
 
-// The answer to question 13, and the tables where the image is readable.
+// The answer to question 13, and what stands in no array of a readable image's tables: the number of rules, those that skip, the number of
+// positions, the last and the first ones, the number of nonterminals, and those with ε.
 pub struct ImageRead {
     pub outcome: Outcome,
-    pub tables: ImageTables,
+    pub rules: usize,
+    pub skips: u64,
+    pub count: usize,
+    pub last: u64,
+    pub first: u64,
+    pub nonterminals: usize,
+    pub empty: u64,
 }
 
 // The place that a refused field names.
@@ -203,51 +212,26 @@ fn read_position(bytes: &[u8], at: usize, rules: u64, count: u64, least: u64) ->
     }
 }
 
-// Columns with no positions.
-fn no_positions() -> PositionColumns
-    ensures { λ r. ⌜ r ≡ no-positions ⌝ }
-{
-    PositionColumns {
-        count: 0,
-        low: [0; 64],
-        high: [0; 64],
-        rule: [0; 64],
-        follow: [0; 64],
-        last: 0,
-        first: 0,
-    }
-}
-
-// Columns with one position more.
-fn with_position(
-    columns: PositionColumns,
-    low: u8,
-    high: u8,
-    rule: u8,
-    last: u64,
-    follow: u64,
-) -> PositionColumns
-    requires { ⌜ columns .count < 64 ⌝ }
-    ensures { λ r. ⌜ r ≡ with-position columns low high rule last follow ⌝ }
-{
-    let mut out = columns;
-    let n = columns.count;
-    out.low[n] = low;
-    out.high[n] = high;
-    out.rule[n] = rule;
-    out.follow[n] = follow;
-    out.last = with_flag(columns.last, n as u64, last);
-    out.count = n + 1;
-    out
-}
-
-// So many positions.
-fn read_positions(bytes: &[u8], at: usize, rules: u64, count: u64) -> PositionsRead
-    requires { ⌜ (1 ≤ rules) × (rules ≤ 32) × (count ≤ 64) ⌝ }
-    ensures { λ r. ⌜ Answers (PositionsHeld rules count (r .columns)) (r .end)
+// So many positions, into columns.
+fn read_positions(
+    bytes: &[u8],
+    at: usize,
+    rules: u64,
+    count: u64,
+    low: &mut [u8; 64],
+    high: &mut [u8; 64],
+    rule: &mut [u8; 64],
+    follow: &mut [u64; 64],
+) -> PositionsRead
+    requires { ⌜ (1 ≤ rules) × (rules ≤ 32) × (count ≤ 64)
+        × (length (now low) ≡ 64) × (length (now high) ≡ 64) × (length (now rule) ≡ 64) × (length (now follow) ≡ 64) ⌝ }
+    ensures { λ r. ⌜ Answers
+        (PositionsHeld rules count
+        (columns-from count (now (low .exit)) (now (high .exit)) (now (rule .exit)) (now (follow .exit)) (r .last) 0))
+        (r .end)
         (positions-in (now (bytes .entry)) rules count at) ⌝ }
 {
-    let mut columns = no_positions();
+    let mut last_ones: u64 = 0;
     let mut next = at;
     let mut least: u64 = 0;
     let mut i: u64 = 0;
@@ -257,19 +241,24 @@ fn read_positions(bytes: &[u8], at: usize, rules: u64, count: u64) -> PositionsR
             PositionRead::Refused(place) => {
                 return PositionsRead {
                     end: Field::Refused(place),
-                    columns,
+                    last: last_ones,
                 };
             }
             PositionRead::Position {
-                low,
-                high,
-                rule,
+                low: low_byte,
+                high: high_byte,
+                rule: rule_number,
                 last,
-                follow,
+                follow: follow_set,
                 next: after,
             } => {
-                columns = with_position(columns, low, high, rule, last, follow);
-                least = rule as u64;
+                let n = i as usize;
+                low[n] = low_byte;
+                high[n] = high_byte;
+                rule[n] = rule_number;
+                follow[n] = follow_set;
+                last_ones = with_flag(last_ones, i, last);
+                least = rule_number as u64;
                 next = after;
                 i += 1;
             }
@@ -277,7 +266,7 @@ fn read_positions(bytes: &[u8], at: usize, rules: u64, count: u64) -> PositionsR
     }
     PositionsRead {
         end: Field::Value(count, next),
-        columns,
+        last: last_ones,
     }
 }
 
@@ -288,6 +277,7 @@ fn read_production(bytes: &[u8], at: usize, bounds: Bounds, least: u64) -> Produ
         (now (bytes .entry))
         (bounds .nonterminals)
         least
+        at
         r
         (production-in (now (bytes .entry)) bounds least at) ⌝ }
 {
@@ -313,17 +303,41 @@ fn read_production(bytes: &[u8], at: usize, bounds: Bounds, least: u64) -> Produ
     }
 }
 
-// So many productions of one nonterminal, whose entries start at `base`.
+// The entry for a tail whose length stands at a place of the row that starts at `start`: its two highest bits are the number of members, up
+// to two of which stand in it, or 3 for more of them.
+fn tail_entry(bytes: &[u8], start: usize, place: usize) -> u16
+    requires { ⌜ (start ≤ place) × (place < start + 16384)
+        × ((n : ℕ) × (tail : List ℕ) × TailAt (now bytes) n place tail × (n ≤ 64)) ⌝ }
+    ensures { λ r. ⌜ ((n : ℕ) (tail : List ℕ) → TailAt (now (bytes .entry)) n place tail → n ≤ 64
+        → EntryTail (now (bytes .entry)) start n r tail) ⌝ }
+{
+    let size = bytes[place];
+    if size == 0 {
+        return 1;
+    }
+    if 2 < size {
+        return 49152 + (place - start) as u16;
+    }
+    let first = bytes[place + 1] as u16;
+    if size == 1 {
+        return 16384 + first;
+    }
+    32768 + bytes[place + 2] as u16 * 64 + first
+}
+
+// So many productions of one nonterminal, whose row starts at `start` and whose entries start at `base`.
 fn read_productions(
     bytes: &[u8],
+    start: usize,
     at: usize,
     bounds: Bounds,
     count: u64,
     base: usize,
-    table: &mut [usize; 2048],
+    table: &mut [u16; 2048],
 ) -> Field
-    requires { ⌜ InBounds bounds × (base + 32 ≤ 2048) × Room (now table) base ⌝ }
-    ensures { λ r. ⌜ ProductionsEntered (now (bytes .entry)) bounds count at base (now (table .entry)) (now (table .exit)) r ⌝ }
+    requires { ⌜ InBounds bounds × (at ≡ start + 2) × (count ≤ 32) × (base + 32 ≤ 2048) × Room (now table) base ⌝ }
+    ensures { λ r. ⌜ ProductionsEntered
+        (now (bytes .entry)) bounds count start at base (now (table .entry)) (now (table .exit)) r ⌝ }
 {
     let mut next = at;
     let mut least: u64 = 0;
@@ -337,7 +351,8 @@ fn read_productions(
                 tail,
                 next: after,
             } => {
-                table[base + rule as usize] = tail + 1;
+                let entry = tail_entry(bytes, start, tail);
+                table[base + rule as usize] = entry;
                 least = rule + 1;
                 next = after;
                 i += 1;
@@ -348,13 +363,7 @@ fn read_productions(
 }
 
 // The row of one nonterminal, whose entries start at `base`: its ε flag is the value.
-fn read_row(
-    bytes: &[u8],
-    at: usize,
-    bounds: Bounds,
-    base: usize,
-    table: &mut [usize; 2048],
-) -> Field
+fn read_row(bytes: &[u8], at: usize, bounds: Bounds, base: usize, table: &mut [u16; 2048]) -> Field
     requires { ⌜ InBounds bounds × (base + 32 ≤ 2048) × Room (now table) base ⌝ }
     ensures { λ r. ⌜ RowEntered (now (bytes .entry)) bounds at base (now (table .entry)) (now (table .exit)) r ⌝ }
 {
@@ -366,18 +375,24 @@ fn read_row(
     let Field::Value(size, at_first) = count else {
         return Field::Refused(place_of(count));
     };
-    let productions = read_productions(bytes, at_first, bounds, size, base, table);
+    let productions = read_productions(bytes, at, at_first, bounds, size, base, table);
     let Field::Value(_, next) = productions else {
         return Field::Refused(place_of(productions));
     };
     Field::Value(flag, next)
 }
 
-// The rows of all nonterminals: the set of those with ε is the value.
-fn read_rows(bytes: &[u8], at: usize, bounds: Bounds, table: &mut [usize; 2048]) -> Field
-    requires { ⌜ InBounds bounds × Room (now table) 0 ⌝ }
+// The rows of all nonterminals, and where each starts: the set of those with ε is the value.
+fn read_rows(
+    bytes: &[u8],
+    at: usize,
+    bounds: Bounds,
+    starts: &mut [usize; 64],
+    table: &mut [u16; 2048],
+) -> Field
+    requires { ⌜ InBounds bounds × (length (now starts) ≡ 64) × Room (now table) 0 ⌝ }
     ensures { λ r. ⌜ Answers
-        (RowsHeld (now (bytes .entry)) (bounds .nonterminals) (now (table .exit)))
+        (RowsHeld (now (bytes .entry)) (bounds .nonterminals) (now (starts .exit)) (now (table .exit)))
         r
         (read-list (row-in (now (bytes .entry)) bounds) (bounds .nonterminals) at) ⌝ }
 {
@@ -387,6 +402,8 @@ fn read_rows(bytes: &[u8], at: usize, bounds: Bounds, table: &mut [usize; 2048])
     let mut base: usize = 0;
     let mut i: u64 = 0;
     while i < count {
+        let n = i as usize;
+        starts[n] = next;
         let row = read_row(bytes, next, bounds, base, table);
         let Field::Value(flag, after) = row else {
             return Field::Refused(place_of(row));
@@ -399,27 +416,19 @@ fn read_rows(bytes: &[u8], at: usize, bounds: Bounds, table: &mut [usize; 2048])
     Field::Value(empty, next)
 }
 
-// Tables that hold nothing.
-fn no_tables() -> ImageTables
-    ensures { λ r. ⌜ r ≡ no-tables ⌝ }
-{
-    ImageTables {
-        rules: 0,
-        skips: 0,
-        positions: no_positions(),
-        nonterminals: 0,
-        empty: 0,
-        productions: [0; 2048],
-    }
-}
-
 // The answer of question 13 at a place.
 fn refused(place: usize) -> ImageRead
-    ensures { λ r. ⌜ r ≡ refused-image place ⌝ }
+    ensures { λ r. ⌜ r .outcome ≡ Refused place ⌝ }
 {
     ImageRead {
         outcome: Outcome::Refused(place),
-        tables: no_tables(),
+        rules: 0,
+        skips: 0,
+        count: 0,
+        last: 0,
+        first: 0,
+        nonterminals: 0,
+        empty: 0,
     }
 }
 
@@ -427,24 +436,27 @@ fn refused(place: usize) -> ImageRead
 fn read_grammar(
     bytes: &[u8],
     at: usize,
-    rules: u64,
-    skips: u64,
-    positions: PositionColumns,
+    lexer: Lexer,
+    starts: &mut [usize; 64],
+    productions: &mut [u16; 2048],
 ) -> ImageRead
-    requires { ⌜ LexerRead rules skips positions ⌝ }
-    ensures { λ r. ⌜ ImageAnswers (now (bytes .entry)) r (grammar-in (now (bytes .entry)) rules skips positions at) ⌝ }
+    requires { ⌜ RulesRead (lexer .rules) (lexer .skips) × (lexer .count ≤ 64)
+        × (length (now starts) ≡ 64) × Room (now productions) 0 ⌝ }
+    ensures { λ r. ⌜ ((low high rule follow : List ℕ)
+        → All (λ p. p .rule < lexer .rules) (held-positions (columns-in lexer low high rule follow))
+        → ImageAnswers (now (bytes .entry)) r low high rule follow (now (starts .exit)) (now (productions .exit))
+        (grammar-in (now (bytes .entry)) lexer low high rule follow at)) ⌝ }
 {
     let count = read_between(bytes, at, 1, 64);
     let Field::Value(nonterminals, at_rows) = count else {
         return refused(place_of(count));
     };
-    let mut productions = [0usize; 2048];
     let bounds = Bounds {
-        rules,
-        skips,
+        rules: lexer.rules,
+        skips: lexer.skips,
         nonterminals,
     };
-    let rows = read_rows(bytes, at_rows, bounds, &mut productions);
+    let rows = read_rows(bytes, at_rows, bounds, starts, productions);
     let Field::Value(empty, end) = rows else {
         return refused(place_of(rows));
     };
@@ -453,27 +465,41 @@ fn read_grammar(
     }
     ImageRead {
         outcome: Outcome::Readable,
-        tables: ImageTables {
-            rules: rules as usize,
-            skips,
-            positions,
-            nonterminals: nonterminals as usize,
-            empty,
-            productions,
-        },
+        rules: lexer.rules as usize,
+        skips: lexer.skips,
+        count: lexer.count,
+        last: lexer.last,
+        first: lexer.first,
+        nonterminals: nonterminals as usize,
+        empty,
     }
 }
 
 // The image from its position count on.
-fn read_lexer(bytes: &[u8], at: usize, rules: u64, skips: u64) -> ImageRead
-    requires { ⌜ RulesRead rules skips ⌝ }
-    ensures { λ r. ⌜ ImageAnswers (now (bytes .entry)) r (read-lexer (now (bytes .entry)) rules (held-flags skips rules) at) ⌝ }
+fn read_lexer(
+    bytes: &[u8],
+    at: usize,
+    rules: u64,
+    skips: u64,
+    low: &mut [u8; 64],
+    high: &mut [u8; 64],
+    rule: &mut [u8; 64],
+    follow: &mut [u64; 64],
+    starts: &mut [usize; 64],
+    productions: &mut [u16; 2048],
+) -> ImageRead
+    requires { ⌜ RulesRead rules skips
+        × (length (now low) ≡ 64) × (length (now high) ≡ 64) × (length (now rule) ≡ 64) × (length (now follow) ≡ 64)
+        × (length (now starts) ≡ 64) × Room (now productions) 0 ⌝ }
+    ensures { λ r. ⌜ ImageAnswers (now (bytes .entry)) r
+        (now (low .exit)) (now (high .exit)) (now (rule .exit)) (now (follow .exit)) (now (starts .exit)) (now (productions .exit))
+        (read-lexer (now (bytes .entry)) rules (held-flags skips rules) at) ⌝ }
 {
     let size = read_between(bytes, at, 1, 64);
     let Field::Value(count, at_positions) = size else {
         return refused(place_of(size));
     };
-    let positions = read_positions(bytes, at_positions, rules, count);
+    let positions = read_positions(bytes, at_positions, rules, count, low, high, rule, follow);
     let end = positions.end;
     let Field::Value(_, at_first) = end else {
         return refused(place_of(end));
@@ -482,15 +508,32 @@ fn read_lexer(bytes: &[u8], at: usize, rules: u64, skips: u64) -> ImageRead
     let Field::Value(first_set, at_nonterminals) = first else {
         return refused(place_of(first));
     };
-    let mut columns = positions.columns;
-    columns.first = first_set;
-    read_grammar(bytes, at_nonterminals, rules, skips, columns)
+    let lexer = Lexer {
+        rules,
+        skips,
+        count: count as usize,
+        last: positions.last,
+        first: first_set,
+    };
+    read_grammar(bytes, at_nonterminals, lexer, starts, productions)
 }
 
-// Reads an image: question 13, and the tables for the machine. What the tables hold past the image's own positions and nonterminals is
-// left free (`Decoded`).
-pub fn read_image(bytes: &[u8]) -> ImageRead
-    ensures { λ r. ⌜ ImageAnswers (now (bytes .entry)) r (read-image (now (bytes .entry))) ⌝ }
+// Reads an image: question 13, and the tables for the machine, into arrays that the caller has: the columns of its positions, the start of
+// each row, and the table of productions, which is all zero before.
+pub fn read_image(
+    bytes: &[u8],
+    low: &mut [u8; 64],
+    high: &mut [u8; 64],
+    rule: &mut [u8; 64],
+    follow: &mut [u64; 64],
+    starts: &mut [usize; 64],
+    productions: &mut [u16; 2048],
+) -> ImageRead
+    requires { ⌜ (length (now low) ≡ 64) × (length (now high) ≡ 64) × (length (now rule) ≡ 64) × (length (now follow) ≡ 64)
+        × (length (now starts) ≡ 64) × Room (now productions) 0 ⌝ }
+    ensures { λ r. ⌜ ImageAnswers (now (bytes .entry)) r
+        (now (low .exit)) (now (high .exit)) (now (rule .exit)) (now (follow .exit)) (now (starts .exit)) (now (productions .exit))
+        (read-image (now (bytes .entry))) ⌝ }
 {
     let version = read_between(bytes, 0, 1, 1);
     let Field::Value(_, at_rules) = version else {
@@ -504,5 +547,16 @@ pub fn read_image(bytes: &[u8]) -> ImageRead
     let Field::Value(skips, at_count) = flags else {
         return refused(place_of(flags));
     };
-    read_lexer(bytes, at_count, rules, skips)
+    read_lexer(
+        bytes,
+        at_count,
+        rules,
+        skips,
+        low,
+        high,
+        rule,
+        follow,
+        starts,
+        productions,
+    )
 }

@@ -1,16 +1,17 @@
 // One turn of the machine: a rule that matched is skipped, taken by a pending nonterminal, or refused; and the end of the text.
-// How a match is found, and the turns of a whole run, are not here. The pending nonterminals are the entries of the lent stack that
-// are in use, one byte each, the first one on top.
+// How a match is found, and the turns of a whole run, are not here. The first pending nonterminal is held in the state; the others are
+// entries of the lent stack, one byte each, from entry 1 on, the second of all on top.
 ghost use mathlib.Core.Path.{_≡_};
 ghost use mathlib.Core.List.{List};
 ghost use Prim.Native.Nat.{ℕ, _+_, _≤_, _<_};
-ghost use lib.ListN.{length};
+ghost use lib.ListN.{length, getD};
 ghost use Rattle.stage0_laws.specs.Bits.{bit};
 ghost use Rattle.stage0_laws.specs.Lists.{All};
 ghost use Rattle.stage3_normal_form.specs.Productions.{Row};
 ghost use Rattle.stage6_machine_turn.specs.Stack.{pending, pushed, Ready};
-ghost use Rattle.stage6_machine_turn.specs.Steps.{run-answer, state-at, part, MatchFits};
-ghost use Rattle.stage6_machine_turn.specs.Steps.{taker, all-members, end-answer, take-step, turn-step};
+ghost use Rattle.stage5_image_reader.specs.Tables.{part, entry-tail, EntryTail};
+ghost use Rattle.stage6_machine_turn.specs.Steps.{run-answer, state-at, MatchFits};
+ghost use Rattle.stage6_machine_turn.specs.Steps.{taker, replaced, all-members, end-answer, take-step, turn-step};
 use stage4_lexer_scanner::Found;
 
 // What a run returns.
@@ -20,23 +21,26 @@ pub struct RunAnswer {
     pub count: usize,
 }
 
-// The pending nonterminal that takes a rule: how many entries lie below it, and its entry in the table of productions.
+// The pending nonterminal that takes a rule: how many are pending behind it, itself, and its entry in the table of productions.
 enum Taker {
     Nothing,
-    At(usize, usize),
+    At(usize, u8, u16),
 }
 
-// What a take leaves: so many entries in use; or no pending nonterminal takes the rule; or the stack does not hold the tail.
+// What a take leaves: so many pending nonterminals, and the first; or no pending nonterminal takes the rule; or the stack does not hold
+// the tail.
 enum Taken {
-    Depth(usize),
+    Pending(usize, u8),
     NoTaker,
     TooDeep,
 }
 
-// The state of a run: the place in the text, how many entries of the stack are in use, and how many tokens were taken.
+// The state of a run: the place in the text, how many nonterminals are pending, the first of them (any byte where there is none), and how
+// many tokens were taken.
 pub struct State {
     pub place: usize,
     pub depth: usize,
+    pub first: u8,
     pub count: usize,
 }
 
@@ -58,11 +62,12 @@ pub fn answer(number: u8, place: usize, count: usize) -> RunAnswer
 
 // At the start, nonterminal 0 alone is pending.
 pub fn first_state() -> State
-    ensures { λ r. ⌜ r ≡ state-at 0 1 0 ⌝ }
+    ensures { λ r. ⌜ r ≡ state-at 0 1 0 0 ⌝ }
 {
     State {
         place: 0,
         depth: 1,
+        first: 0,
         count: 0,
     }
 }
@@ -77,27 +82,28 @@ fn is_member(set: u64, i: u8) -> bool
 
 // The pending nonterminals are tried from the first: a nullable one without a production for the rule is passed over.
 fn find_taker(
-    productions: &[usize; 2048],
+    productions: &[u16; 2048],
     empty: u64,
     stack: &[u8],
     depth: usize,
+    first: u8,
     rule: u8,
 ) -> Taker
-    requires { ⌜ (rule < 32) × (depth ≤ length (now stack)) × All (λ m. m < 64) (pending (now stack) depth) ⌝ }
-    ensures { λ r. ⌜ r ≡ taker (now (productions .entry)) empty (now (stack .entry)) depth rule ⌝ }
+    requires { ⌜ (rule < 32) × (depth ≤ length (now stack)) × All (λ m. m < 64) (pending (now stack) depth first) ⌝ }
+    ensures { λ r. ⌜ r ≡ taker (now (productions .entry)) empty (now (stack .entry)) depth first rule ⌝ }
 {
     let mut left = depth;
+    let mut nonterminal = first;
     while 0 < left {
-        let top = left - 1;
-        let nonterminal = stack[top];
+        left -= 1;
         let entry = productions[nonterminal as usize * 32 + rule as usize];
         if entry != 0 {
-            return Taker::At(top, entry);
+            return Taker::At(left, nonterminal, entry);
         }
         if !is_member(empty, nonterminal) {
             return Taker::Nothing;
         }
-        left = top;
+        nonterminal = stack[left];
     }
     Taker::Nothing
 }
@@ -116,38 +122,84 @@ fn push_tail(image: &[u8], at: usize, size: usize, stack: &mut [u8], base: usize
     }
 }
 
+// Puts a tail that stands in the image's bytes, its length first, in the place of its taker, behind which so many are pending.
+fn replace_by_long(image: &[u8], at: usize, stack: &mut [u8], below: usize) -> Taken
+    requires { ⌜ (below < length (now stack)) × (1 ≤ getD (now image) at 0)
+        × (at + 1 + getD (now image) at 0 ≤ length (now image)) ⌝ }
+    ensures { λ r.
+        ⌜ (r ≡ replaced (now (stack .entry)) below
+        (part (now (image .entry)) (at + 1) (getD (now (image .entry)) at 0)) .outcome)
+        × (now (stack .exit) ≡ replaced (now (stack .entry)) below
+        (part (now (image .entry)) (at + 1) (getD (now (image .entry)) at 0)) .stack) ⌝ }
+{
+    let size = image[at] as usize;
+    if stack.len() - below < size {
+        return Taken::TooDeep;
+    }
+    push_tail(image, at + 2, size - 1, stack, below + 1);
+    Taken::Pending(below + size, image[at + 1])
+}
+
+// Puts the tail that an entry stands for in the place of its taker, behind which so many are pending. The row of the taker starts at
+// `start` in the image's bytes.
+fn replace_taker(image: &[u8], start: usize, entry: u16, stack: &mut [u8], below: usize) -> Taken
+    requires { ⌜ (below < length (now stack)) × ((n : ℕ) × (tail : List ℕ) × EntryTail (now image) start n entry tail) ⌝ }
+    ensures { λ r.
+        ⌜ (r ≡ replaced (now (stack .entry)) below (entry-tail (now (image .entry)) start entry) .outcome)
+        × (now (stack .exit) ≡ replaced (now (stack .entry)) below (entry-tail (now (image .entry)) start entry) .stack) ⌝ }
+{
+    let size = entry / 16384;
+    if size == 0 {
+        return Taken::Pending(below, stack[below]);
+    }
+    if size == 3 {
+        return replace_by_long(image, start + (entry % 16384) as usize, stack, below);
+    }
+    let first = (entry % 64) as u8;
+    if size == 1 {
+        return Taken::Pending(below + 1, first);
+    }
+    if stack.len() - below < 2 {
+        return Taken::TooDeep;
+    }
+    let top = below + 1;
+    stack[top] = (entry / 64 % 64) as u8;
+    Taken::Pending(below + 2, first)
+}
+
 // Takes a rule: the taker's tail replaces it and those that were passed over.
 fn take_rule(
     image: &[u8],
-    productions: &[usize; 2048],
+    starts: &[usize; 64],
+    productions: &[u16; 2048],
     empty: u64,
     stack: &mut [u8],
     depth: usize,
+    first: u8,
     rule: u8,
 ) -> Taken
     requires { ⌜ (rule < 32)
-        × ((rows : List Row) × (n : ℕ) × Ready (now image) (now productions) empty rows n (now stack) depth) ⌝ }
+        × ((rows : List Row) × (n : ℕ) × Ready (now image) (now starts) (now productions) empty rows n (now stack) depth first) ⌝ }
     ensures { λ r.
-        ⌜ (r ≡ take-step (now (image .entry)) (now (productions .entry)) empty (now (stack .entry)) depth rule .outcome)
+        ⌜ (r ≡ take-step (now (image .entry)) (now (starts .entry)) (now (productions .entry)) empty (now (stack .entry))
+        depth first rule .outcome)
         × (now (stack .exit)
-        ≡ take-step (now (image .entry)) (now (productions .entry)) empty (now (stack .entry)) depth rule .stack) ⌝ }
+        ≡ take-step (now (image .entry)) (now (starts .entry)) (now (productions .entry)) empty (now (stack .entry))
+        depth first rule .stack) ⌝ }
 {
-    let found = find_taker(productions, empty, stack, depth, rule);
-    let Taker::At(base, entry) = found else {
+    let found = find_taker(productions, empty, stack, depth, first, rule);
+    let Taker::At(below, nonterminal, entry) = found else {
         return Taken::NoTaker;
     };
-    let size = image[entry - 1] as usize;
-    if stack.len() - base < size {
-        return Taken::TooDeep;
-    }
-    push_tail(image, entry, size, stack, base);
-    Taken::Depth(base + size)
+    let n = nonterminal as usize;
+    replace_taker(image, starts[n], entry, stack, below)
 }
 
 // One turn: what matched at the state's place is skipped, taken or refused.
 pub fn one_turn(
     image: &[u8],
-    productions: &[usize; 2048],
+    starts: &[usize; 64],
+    productions: &[u16; 2048],
     empty: u64,
     skips: u64,
     stack: &mut [u8],
@@ -155,11 +207,14 @@ pub fn one_turn(
     state: State,
 ) -> Turn
     requires { ⌜ MatchFits found state
-        × ((rows : List Row) × (k : ℕ) × Ready (now image) (now productions) empty rows k (now stack) (state .depth)) ⌝ }
+        × ((rows : List Row) × (k : ℕ)
+        × Ready (now image) (now starts) (now productions) empty rows k (now stack) (state .depth) (state .first)) ⌝ }
     ensures { λ r.
-        ⌜ (r ≡ turn-step (now (image .entry)) (now (productions .entry)) empty skips (now (stack .entry)) found state .outcome)
+        ⌜ (r ≡ turn-step (now (image .entry)) (now (starts .entry)) (now (productions .entry)) empty skips (now (stack .entry))
+        found state .outcome)
         × (now (stack .exit)
-        ≡ turn-step (now (image .entry)) (now (productions .entry)) empty skips (now (stack .entry)) found state .stack) ⌝ }
+        ≡ turn-step (now (image .entry)) (now (starts .entry)) (now (productions .entry)) empty skips (now (stack .entry))
+        found state .stack) ⌝ }
 {
     let Found::Rule(rule, n) = found else {
         return Turn::Done(answer(14, state.place, state.count));
@@ -168,17 +223,28 @@ pub fn one_turn(
         return Turn::Next(State {
             place: state.place + n,
             depth: state.depth,
+            first: state.first,
             count: state.count,
         });
     }
-    let taken = take_rule(image, productions, empty, stack, state.depth, rule);
+    let taken = take_rule(
+        image,
+        starts,
+        productions,
+        empty,
+        stack,
+        state.depth,
+        state.first,
+        rule,
+    );
     match taken {
         Taken::NoTaker => return Turn::Done(answer(15, state.place, state.count)),
         Taken::TooDeep => return Turn::Done(answer(17, state.place, state.count)),
-        Taken::Depth(depth) => {
+        Taken::Pending(depth, first) => {
             return Turn::Next(State {
                 place: state.place + n,
                 depth,
+                first,
                 count: state.count + 1,
             });
         }
@@ -186,26 +252,29 @@ pub fn one_turn(
 }
 
 // Whether all pending nonterminals are nullable.
-fn all_nullable(empty: u64, stack: &[u8], depth: usize) -> bool
-    requires { ⌜ (depth ≤ length (now stack)) × All (λ m. m < 64) (pending (now stack) depth) ⌝ }
-    ensures { λ r. ⌜ r ≡ all-members empty (pending (now (stack .entry)) depth) ⌝ }
+fn all_nullable(empty: u64, stack: &[u8], depth: usize, first: u8) -> bool
+    requires { ⌜ (depth ≤ length (now stack)) × All (λ m. m < 64) (pending (now stack) depth first) ⌝ }
+    ensures { λ r. ⌜ r ≡ all-members empty (pending (now (stack .entry)) depth first) ⌝ }
 {
     let mut left = depth;
+    let mut nonterminal = first;
     while 0 < left {
         left -= 1;
-        if !is_member(empty, stack[left]) {
+        if !is_member(empty, nonterminal) {
             return false;
         }
+        nonterminal = stack[left];
     }
     true
 }
 
 // At the text's end: 0 or 16.
 pub fn at_end(empty: u64, stack: &[u8], state: State) -> RunAnswer
-    requires { ⌜ (state .depth ≤ length (now stack)) × All (λ m. m < 64) (pending (now stack) (state .depth)) ⌝ }
-    ensures { λ r. ⌜ r ≡ end-answer empty (pending (now (stack .entry)) (state .depth)) (state .place) (state .count) ⌝ }
+    requires { ⌜ (state .depth ≤ length (now stack)) × All (λ m. m < 64) (pending (now stack) (state .depth) (state .first)) ⌝ }
+    ensures { λ r.
+        ⌜ r ≡ end-answer empty (pending (now (stack .entry)) (state .depth) (state .first)) (state .place) (state .count) ⌝ }
 {
-    if all_nullable(empty, stack, state.depth) {
+    if all_nullable(empty, stack, state.depth, state.first) {
         return answer(0, state.place, state.count);
     }
     answer(16, state.place, state.count)

@@ -38,11 +38,12 @@ returns c =
 
 read-positions-requires : tie.Need-read-positions-requires
 read-positions-requires c κs =
-    let size-known = c .before in
+    let size-known = c .before .before .before .before .before in
     let size-read = size-known .before .before in
     let start = size-read .before .before in
     let e = value-reads (size-known .size .given .1) (size-read .read-between .ensures) in
-    (start .pre .some, start .pre .most, field-range 1 64 _ _ e .1)
+    let p = start .pre in
+    (p .0 .some, p .0 .most, field-range 1 64 _ _ e .1, p .1, p .2, p .3, p .4)
 
 enum-known-end : tie.Need-enum-known-end
 enum-known-end c = search needs
@@ -61,7 +62,7 @@ returns-2 c =
     let placed = c .before in
     let known = placed .before in
     let read = known .before .before in
-    let size-known = read .before .before in
+    let size-known = read .before .before .before .before .before .before in
     let size-read = size-known .before .before in
     let e = value-reads (size-known .size .given .1) (size-read .read-between .ensures) in
     let stops = refusal-answers (read .read-positions .ensures) (known .enum-told2 .given .1) (placed .place-of2 .ensures) in
@@ -69,7 +70,7 @@ returns-2 c =
 
 largest-set-requires : tie.Need-largest-set-requires
 largest-set-requires c κs =
-    let size-known = c .before .before .before .before .before in
+    let size-known = c .before .before .before .before .before .before .before .before .before in
     let size-read = size-known .before .before in
     let e = value-reads (size-known .size .given .1) (size-read .read-between .ensures) in
     field-range 1 64 _ _ e .1
@@ -97,7 +98,7 @@ returns-3 c =
     let largest = first-read .before in
     let known = largest .before .before in
     let read = known .before .before in
-    let size-known = read .before .before in
+    let size-known = read .before .before .before .before .before .before in
     let size-read = size-known .before .before in
     let e = value-reads (size-known .size .given .1) (size-read .read-between .ensures) in
     let t = read .read-positions .ensures .value (known .end .given .1) in
@@ -105,37 +106,32 @@ returns-3 c =
     image-refused (c .refused3 .ensures) (first-stops _ _ _ _ e (t .1) (largest .largest-set .ensures) stops)
 
 read-grammar-requires : tie.Need-read-grammar-requires
-unfolding held-positions
 read-grammar-requires c κs =
-    let known = c .before .before .before .before .before .before .before in
+    let known = c .before .before .before .before .before .before .before .before in
     let read = known .before .before in
-    let size-known = read .before .before in
+    let size-known = read .before .before .before .before .before .before in
     let size-read = size-known .before .before in
     let start = size-read .before .before in
     let e = value-reads (size-known .size .given .1) (size-read .read-between .ensures) in
-    let t = read .read-positions .ensures .value (known .end .given .1) in
-    record {
-      rules-read = start .pre;
-      most = omega (arith, t .2 .size, field-range 1 64 _ _ e .1);
-      below = subst (λ (ps : List Position). All (λ p. p .rule < start .args .rules) ps) (t .2 .list) (t .2 .below);
-    }
+    (start .pre .0, field-range 1 64 _ _ e .1, start .pre .5, start .pre .6)
 
 returns-4 : tie.Need-returns-4
 unfolding held-positions
 returns-4 c =
-    let first-known = c .before .before .before in
+    let first-known = c .before .before .before .before in
     let first-read = first-known .before .before in
     let largest = first-read .before in
     let known = largest .before .before in
     let read = known .before .before in
-    let size-known = read .before .before in
+    let size-known = read .before .before .before .before .before .before in
     let size-read = size-known .before .before in
     let start = size-read .before .before in
     let e = value-reads (size-known .size .given .1) (size-read .read-between .ensures) in
     let t = read .read-positions .ensures .value (known .end .given .1) in
     let e₂ = value-reads (first-known .first .given .1) (first-read .read-between2 .ensures) in
     let flags = held-flags (start .args .skips) (start .args .rules) in
-    image-same (lexer-reads _ _ flags _ e (t .1) (largest .largest-set .ensures) (t .2 .list) e₂) (c .read-grammar .ensures)
+    let below = subst (λ (ps : List Position). All (λ p. p .rule < start .args .rules) ps) (t .2 .list) (t .2 .below) in
+    image-same (lexer-reads _ _ flags _ e (t .1) (largest .largest-set .ensures) (t .2 .list) e₂) (c .read-grammar .ensures _ _ _ _ below)
 
 pub read-lexer-spec : {M : Type 1} → statement M
 read-lexer-spec =

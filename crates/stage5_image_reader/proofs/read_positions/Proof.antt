@@ -1,44 +1,34 @@
 -- `read_positions` meets its contract. The loop's invariant: the positions so far were read, and the columns hold them.
 use borrow.Author.Needs.{needs}
 use native.Mathlib.Omega.{arith}
-use mathlib.Core.Path.{_≡_, sym, ap, subst, _∙_}
+use mathlib.Core.Path.{_≡_, refl, sym, ap, _∙_}
 use mathlib.Core.List.{List, []}
 use Prim.Native.Nat.{ℕ, _+_, _-_, _≤_, _<_}
+use lib.ListN.{set}
 use Rattle.stage4_lexer.specs.Positions.{Position}
-use Rattle.stage4_lexer_columns.specs.declared.PositionColumns.{PositionColumns}
+use Rattle.stage4_lexer_columns.specs.Held.{held-positions}
 use Rattle.stage5_image.specs.ImageReading.{read-position}
-use Rattle.stage5_image_reader.specs.Answers.{position-reading}
+use Rattle.stage5_image_reader.specs.Answers.{position-reading, columns-from, with-position}
 use Rattle.stage5_image_reader.proofs.Fields.{answers-value, answers-refusal}
-use Rattle.stage5_image_reader.proofs.Positions.{positions-below, Columns, columns-none, columns-next, columns-count, columns-held}
+use Rattle.stage5_image_reader.proofs.Positions.{positions-below, Columns, columns-none, columns-next, columns-held}
 use Rattle.stage5_image_reader.proofs.Turns.{Turns, turns-start, turns-more, turns-stop, turns-end}
 use Rattle.stage5_image_reader.proofs.read_positions.Statement.{statement}
 use Rattle.stage5_image_reader.proofs.read_positions.Tie as tie
 
 abbrev Inv-loop : tie.InvT-loop
-Inv-loop bytes at rules count columns₀ next₀ least₀ i₀ columns next least i =
+Inv-loop bytes at rules count low₀ high₀ rule₀ follow₀ last₀ next₀ least₀ i₀ low high rule follow last next least i =
     (i ≤ count)
     × ((ps : List Position)
     × Turns (read-position bytes rules count) (λ least p. p .rule) 0 count at i least next ps
-    × Columns columns ps
-    × (columns .count ≡ i))
+    × Columns (columns-from i low high rule follow last 0) ps)
 
 abbrev μ-loop : tie.MeasureT-loop
-μ-loop bytes at rules count columns₀ next₀ least₀ i₀ columns next least i = count - i
-
-no-positions-requires : tie.Need-no-positions-requires Inv-loop μ-loop
-no-positions-requires c κs = search needs
+μ-loop bytes at rules count low₀ high₀ rule₀ follow₀ last₀ next₀ least₀ i₀ low high rule follow last next least i = count - i
 
 loop-holds : tie.Need-loop-holds Inv-loop μ-loop
 loop-holds c =
-    let e = c .no-positions .ensures in (
-      search needs,
-      (
-        [],
-        turns-start _ _ _ _ _,
-        subst (λ (c : PositionColumns). Columns c []) (sym e) columns-none,
-        ap (λ (c : PositionColumns). c .count) e,
-      ),
-    )
+    let p = c .before .pre in
+    (search needs, ([], turns-start _ _ _ _ _, columns-none _ _ _ _ (p .3) (p .4) (p .5) (p .6)))
 
 read-position-requires : tie.Need-read-position-requires Inv-loop μ-loop
 read-position-requires c κs = search needs
@@ -57,8 +47,27 @@ returns c =
 enum-known-position-2 : tie.Need-enum-known-position-2 Inv-loop μ-loop
 enum-known-position-2 c = search needs
 
-with-position-requires : tie.Need-with-position-requires Inv-loop μ-loop
-with-position-requires c κs = search needs
+-- There is room for one position more.
+room : (c : tie.After-position2 Inv-loop μ-loop) → c .before .before .before .before .loop .i < 64
+room c = omega (arith, c .before .before .before .before .before .before .pre .2)
+
+element-write-low : tie.Need-element-write-low Inv-loop μ-loop
+element-write-low c = room (c .before)
+
+element-write-high : tie.Need-element-write-high Inv-loop μ-loop
+element-write-high c = room (c .before)
+
+element-write-rule : tie.Need-element-write-rule Inv-loop μ-loop
+element-write-rule c = room (c .before)
+
+mul-follow : tie.Need-mul-follow Inv-loop μ-loop
+mul-follow c = omega (arith, room (c .before))
+
+element-write-follow : tie.Need-element-write-follow Inv-loop μ-loop
+element-write-follow c = room (c .before)
+
+with-flag-requires : tie.Need-with-flag-requires Inv-loop μ-loop
+with-flag-requires c κs = room (c .before)
 
 cast-least : tie.Need-cast-least Inv-loop μ-loop
 cast-least c = search needs
@@ -70,31 +79,36 @@ loop-less : tie.Need-loop-less Inv-loop μ-loop
 loop-less c = search needs
 
 loop-again : tie.Need-loop-again Inv-loop μ-loop
+unfolding with-position
 loop-again c =
     let known = c .before .before in
     let read = known .before .before in
     let turn = read .before .before in
-    let start = turn .before .before .before in
-    let l = turn .loop .inv .1 in
-    let small : turn .loop .columns .count < 64 = omega (arith, l .3, start .pre .2) in
+    let l = turn .loop in
+    let p = known .position2 .given .0 in
     let e = sym (read .read-position .ensures) ∙ ap position-reading (known .position2 .given .1) in
-    let w = c .with-position .ensures in (
+    let w = ap
+    (λ (x : ℕ). columns-from (l .i + 1) (set (l .low) (l .i) (p .0)) (set (l .high) (l .i) (p .1 .0)) (set (l .rule) (l .i) (p .1 .1 .0))
+    (set (l .follow) (l .i) (p .1 .1 .1 .1 .0)) x 0)
+    (c .with-flag .ensures) in (
       omega arith,
       (
         _,
-        turns-more _ _ _ _ _ (l .1) (search needs) e,
-        columns-next (turn .loop .columns) _ (l .0) _ _ _ _ _ small (l .2) w,
-        columns-count _ _ _ _ _ _ _ w ∙ ap (λ (n : ℕ). n + 1) (l .3),
+        turns-more _ _ _ _ _ (l .inv .1 .1) (search needs) e,
+        columns-next _ _ (l .inv .1 .0) _ _ _ (p .1 .1 .1 .0) _ (room known) (l .inv .1 .2) w,
       ),
     )
 
 returns-2 : tie.Need-returns-2 Inv-loop μ-loop
 returns-2 c =
     let turn = c .before in
-    let l = turn .loop .inv .1 in
-    let e = turns-end _ _ _ _ _ (l .1) (search needs) in
-    answers-value (l .0) e
-    (record { size = omega (arith, l .3); list = columns-held _ _ (l .2); below = positions-below _ _ _ _ e })
+    let l = turn .loop in
+    let start = turn .before .before in
+    let e = turns-end _ _ _ _ _ (l .inv .1 .1) (search needs) in
+    let whole : l .i ≡ start .args .count = omega (arith, l .inv .0, c .loop-test .left) in
+    let held = columns-held _ _ (l .inv .1 .2)
+    ∙ ap (λ (k : ℕ). held-positions (columns-from k (l .low) (l .high) (l .rule) (l .follow) (l .last-ones) 0)) whole in
+    answers-value (l .inv .1 .0) e (record { size = refl; list = held; below = positions-below _ _ _ _ e })
 
 pub read-positions-spec : {M : Type 1} → statement M
 read-positions-spec =
@@ -102,13 +116,17 @@ read-positions-spec =
     (tie.spec
     Inv-loop
     μ-loop
-    no-positions-requires
     loop-holds
     read-position-requires
     enum-known-position
     returns
     enum-known-position-2
-    with-position-requires
+    element-write-low
+    element-write-high
+    element-write-rule
+    mul-follow
+    element-write-follow
+    with-flag-requires
     cast-least
     add-i
     loop-less

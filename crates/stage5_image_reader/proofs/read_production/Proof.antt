@@ -2,11 +2,13 @@
 use borrow.Author.Needs.{needs}
 use native.Mathlib.Omega.{arith}
 use mathlib.Core.Path.{refl}
-use Prim.Native.Nat.{_<_}
+use Prim.Native.Nat.{ℕ, _<_}
+use lib.ListN.{getD}
+use denote.Ref.{now}
 use Rattle.stage5_image_reader.proofs.Fields.{value-reads, refusal-reads, refusal-answers, field-range, field-inside}
 use Rattle.stage5_image_reader.proofs.Productions.{production-value, production-refusal, rule-refused, rule-skips}
 use Rattle.stage5_image_reader.proofs.Productions.{rule-passes, skip-set, skip-clear}
-use Rattle.stage5_image_reader.proofs.Productions.{rule-stops, size-stops, tail-stops, production-reads, tail-at}
+use Rattle.stage5_image_reader.proofs.Productions.{rule-stops, size-stops, tail-stops, production-reads, tail-at, production-near}
 use Rattle.stage5_image_reader.proofs.read_production.Statement.{statement}
 use Rattle.stage5_image_reader.proofs.read_production.Tie as tie
 
@@ -128,11 +130,16 @@ returns-5 c =
     let p = rule-passes _ _ _ (start .pre .rules) _ _ e (skip-clear _ _ small (tested .if1 .left)) in
     let e₂ = value-reads (size-known .size .given .1) (size-read .read-between2 .ensures) in
     let t = tail-read .read-tail .ensures .value (tail-known .tail .given .1) in
+    let hb : (i : ℕ) → getD (now (start .args .bytes)) i 0 < 256 = λ i. omega (arith, entry .shared-slice-known .given i) in
+    let near = production-near (now (start .args .bytes)) hb _ _ _ _ (start .pre .rules) (start .pre .most-rules) (start .pre .most-nonterminals) e e₂ (t .1) in
     production-value _ (production-reads _ _ _ _ _ p e₂ (t .1)) (record {
       head = refl;
       at-least = field-range _ _ _ _ e .0;
       below = omega (arith, field-range _ _ _ _ e .1, start .pre .rules, start .pre .most-rules);
-      tail = tail-at _ _ _ _ _ _ (λ i. omega (arith, entry .shared-slice-known .given i)) e₂ (t .2 .count) (t .2 .members);
+      near = near .0;
+      onward = near .1;
+      short = near .2;
+      tail = tail-at _ _ _ _ _ _ hb e₂ (t .2 .count) (t .2 .members);
     })
 
 pub read-production-spec : {M : Type 1} → statement M

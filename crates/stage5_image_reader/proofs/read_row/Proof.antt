@@ -1,8 +1,9 @@
 -- `read_row` meets its contract: one law of `Rows` for each answer.
 use borrow.Author.Needs.{needs}
+use native.Mathlib.Omega.{arith}
 use mathlib.Core.Path.{refl}
 use Rattle.stage5_image_reader.proofs.Fields.{value-reads, refusal-reads, answers-value, answers-refusal, refusal-answers}
-use Rattle.stage5_image_reader.proofs.Rows.{empty-stops, count-stops, productions-stop, row-reads, room-after}
+use Rattle.stage5_image_reader.proofs.Rows.{empty-stops, count-stops, productions-stop, row-reads, room-after, row-near}
 use Rattle.stage5_image_reader.proofs.read_row.Statement.{statement}
 use Rattle.stage5_image_reader.proofs.read_row.Tie as tie
 
@@ -50,7 +51,16 @@ returns-2 c =
     record { answers = answers-refusal (count-stops _ _ _ _ e stops); same = λ k h. refl; room = room-after _ _ (start .pre .2) }
 
 read-productions-requires : tie.Need-read-productions-requires
-read-productions-requires c κs = search needs
+read-productions-requires c κs =
+    let count-known = c .before .before in
+    let count-read = count-known .before .before in
+    let empty-known = count-read .before .before in
+    let empty-read = empty-known .before .before in
+    let start = empty-read .before .before in
+    let e = value-reads (empty-known .empty .given .1) (empty-read .read-between .ensures) in
+    let e₂ = value-reads (count-known .count .given .1) (count-read .read-between2 .ensures) in
+    let near = row-near _ (λ i. omega (arith, empty-read .before .shared-slice-known .given i)) _ e e₂ in
+    (start .pre .0, near .0, near .1, start .pre .1, start .pre .2)
 
 enum-known-productions : tie.Need-enum-known-productions
 enum-known-productions c = search needs
