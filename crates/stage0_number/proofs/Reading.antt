@@ -1,7 +1,7 @@
 -- The reader's loop against `decode`: what the groups read so far and the bytes still to come make together.
 -- On plain numbers and lists: nothing here speaks of the code.
 use Prim.Native.Nat.{ℕ, suc, _+_, _-_, _*_, _^_, _/_, _%_, _≤_, _<_}
-use mathlib.Core.Path.{_≡_, refl, ap, ap₂, _∙_}
+use mathlib.Core.Path.{_≡_, refl, sym, ap, ap₂, _∙_}
 use mathlib.Core.List.{List, _∷_}
 use mathlib.Core.Bool.{Bool, true, false, cond}
 use native.Mathlib.Omega.{arith}
@@ -14,10 +14,10 @@ use lib.ListN.{length, getD, drop, drop-of-length-le}
 use lib.Seq.{drop-cons}
 use borrow.Author.Tests.{lt-ltb, le-ltb, lt-leb}
 use Rattle.stage0_number.specs.Number.{count, value, highest}
-use Rattle.stage0_number.specs.Number.{Front, cut, whole, followed, front, judged, number-from, decode}
-use Rattle.stage0_number.specs.Groups.{count-positive}
+use Rattle.stage0_number.specs.Number.{Front, cut, whole, followed, front, fewest, judged, number-from, decode}
+use Rattle.stage0_number.specs.Groups.{count-positive, judged-read}
 use Rattle.stage0_number.specs.declared.Number.{Number}
-use Rattle.stage0_number.specs.declared.Number.the-variants.{Refused}
+use Rattle.stage0_number.specs.declared.Number.the-variants.{Read, Refused}
 
 -- ---- the tests, failed
 
@@ -123,3 +123,11 @@ module _ (u scale v : ℕ) (s : List ℕ) (i : ℕ) where
 
   pub turn-ten : i < length s → 128 ≤ getD s i 0 → u ≡ 9 → after u scale v (front (drop i s)) ≡ Refused
   turn-ten h l e = ap (after u scale v) (front-follows h l) ∙ after-ten u scale v (getD s i 0 % 128) (front (drop (i + 1) s)) e
+
+-- One group alone is the value, in the fewest bytes.
+pub one-group : (s : List ℕ) (at : ℕ) → at < length s → getD s at 0 < 128 → Read (getD s at 0) 1 true ≡ decode s at
+unfolding fewest
+one-group s at h l =
+    let b = getD s at 0 in
+    let n : 0 + b * 1 ≡ b = omega arith in
+    sym (decode-after s at ∙ turn-last 0 1 0 s at h l ∙ ap (judged 1 b) n ∙ judged-read 1 b b (omega arith) (omega arith))

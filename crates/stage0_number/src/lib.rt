@@ -39,9 +39,9 @@ fn with_last(earlier: usize, scale: u64, value: u64, last: u64) -> Number
     Number::Read(value + last * scale, count, fewest)
 }
 
-// The number at a place of some bytes. The place may lie past the end: then no number is there.
+// The groups at a place of some bytes. The place may lie past the end: then no number is there.
 // The next group counts for `scale`. No more than ten groups are looked at, so nothing overflows.
-pub fn read_number(bytes: &[u8], at: usize) -> Number
+fn read_groups(bytes: &[u8], at: usize) -> Number
     ensures { λ r. ⌜ r ≡ decode (now (bytes .entry)) at ⌝ }
 {
     let mut i = at;
@@ -64,6 +64,20 @@ pub fn read_number(bytes: &[u8], at: usize) -> Number
         count += 1;
         i += 1;
     }
+}
+
+// The number at a place of some bytes. Most numbers have one group, which is the value.
+pub fn read_number(bytes: &[u8], at: usize) -> Number
+    ensures { λ r. ⌜ r ≡ decode (now (bytes .entry)) at ⌝ }
+{
+    if bytes.len() <= at {
+        return Number::Refused;
+    }
+    let byte = bytes[at] as u64;
+    if byte < 128 {
+        return Number::Read(byte, 1, true);
+    }
+    read_groups(bytes, at)
 }
 
 // The fewest bytes of a number, which writing takes.
