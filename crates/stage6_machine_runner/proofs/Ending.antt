@@ -1,5 +1,5 @@
 -- A run of a readable image, by whether the stack has an entry, and that 12 and 13 leave the stack.
-use mathlib.Core.Path.{_≡_, ap, _∙_}
+use mathlib.Core.Path.{_≡_}
 use mathlib.Core.List.{List}
 use Prim.Native.Nat.{ℕ, _≤_, _<_}
 use lib.ListN.{length}
@@ -13,11 +13,9 @@ module _ (i : Image) (entries : ℕ) (text : List ℕ) where
   unfolding run-image
   run-no-entry h = rw (lt-ltb entries 1 h)
 
-  pub run-some-entry : (same : ℕ) → same ≡ entries → 1 ≤ entries → (a : Answer)
-      → a ≡ run-from i same text (length text) first-state → a ≡ run-image i entries text
+  pub run-some-entry : 1 ≤ entries → (a : Answer) → a ≡ run-from i entries text (length text) first-state → a ≡ run-image i entries text
   unfolding run-image
-  run-some-entry same e h a f =
-      rw (le-ltb entries 1 h) (f ∙ ap (λ (k : ℕ). run-from i k text (length text) first-state) e)
+  run-some-entry h a f = rw (le-ltb entries 1 h) f
 
 pub stack-kept-12 : (a : Answer) (stack : List ℕ) → a ≡ answer 12 0 0 → stack ≡ stack-after a stack
 unfolding stack-after

@@ -14,8 +14,7 @@ use Rattle.stage4_lexer_classes.specs.ClassTable.{ClassTable}
 use Rattle.stage4_lexer_scanner.specs.Meaning.{Prepared}
 use Rattle.stage5_image.specs.Image.{Image}
 use Rattle.stage5_image.specs.ImageRanges.{InRange}
-use Rattle.stage5_image_reader.specs.Decoded.{Decoded}
-use Rattle.stage5_image_reader.specs.declared.ImageTables.{ImageTables}
+use Rattle.stage5_image_reader.specs.Decoded.{ImageTables, Decoded}
 
 -- What holds of all positions of some columns, of one of them.
 held-one : (P : Position → Type 0) (low high rule follow : List ℕ) (last i n j : ℕ) → All P (held-from low high rule follow last i n) → i ≤ j

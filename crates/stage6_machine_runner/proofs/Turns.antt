@@ -1,11 +1,10 @@
 -- The turns of a run in code: the state that the loop keeps, and what a turn and the end of the text make of it.
-use mathlib.Core.Path.{_≡_, sym, ap, subst, _∙_}
-use mathlib.Core.List.{List, [], _∷_}
+use mathlib.Core.Path.{_≡_, refl, sym, ap, _∙_}
+use mathlib.Core.List.{List}
 use Prim.Native.Nat.{ℕ, suc, _+_, _-_, _≤_, _<_}
 use native.Mathlib.Omega.{arith}
-use lib.ListN.{length, getD, drop, take, length-drop}
+use lib.ListN.{length, drop, take, length-drop}
 use lib.Seq.{take-all}
-use Rattle.stage0_laws.specs.Lists.{All}
 use Rattle.stage4_lexer.specs.Positions.{Position}
 use Rattle.stage4_lexer.specs.Walk.{longest-match}
 use Rattle.stage4_lexer.specs.LongestMatchLaws.{match-within, match-rule-below}
@@ -14,13 +13,12 @@ use Rattle.stage4_lexer_scanner.specs.Meaning.{match-of}
 use Rattle.stage4_lexer_scanner.specs.declared.Found.{Found}
 use Rattle.stage4_lexer_scanner.specs.declared.Found.the-variants as found
 use Rattle.stage5_image.specs.Image.{Image}
-use Rattle.stage5_image_reader.specs.Decoded.{Decoded}
-use Rattle.stage5_image_reader.specs.declared.ImageTables.{ImageTables}
+use Rattle.stage5_image_reader.specs.Decoded.{ImageTables, Decoded}
 use Rattle.stage6_machine.specs.Answer.{Answer}
 use Rattle.stage6_machine.specs.Turn as machine
 use Rattle.stage6_machine.specs.Run.{match-at, text-turn, run-from, first-state}
 use Rattle.stage6_machine.specs.TurnLaws.{turn-before-end, run-goes-on, run-stops, run-at-end, Onward, turn-onward}
-use Rattle.stage6_machine_turn.specs.Stack.{pending, Ready}
+use Rattle.stage6_machine_turn.specs.Stack.{stacked, pending, Ready}
 use Rattle.stage6_machine_turn.specs.Steps.{answer-held, state-at, state-held, end-answer, turn-step, MatchFits}
 use Rattle.stage6_machine_turn.specs.TurnLaws.{turn-done, turn-next, end-is}
 use Rattle.stage6_machine_turn.specs.declared.RunAnswer.{RunAnswer}
@@ -34,7 +32,7 @@ pub record Going (i : Image) (bytes : List ℕ) (t : ImageTables) (text stack : 
   pub within : s .place ≤ length text
   pub counted : s .count ≤ s .place
   pub same : run-from i (length stack) text turns (state-held stack s) ≡ whole
-  pub ready : Ready bytes (t .productions) (t .empty) (i .rows) (t .nonterminals) stack (s .depth)
+  pub ready : Ready bytes (t .starts) (t .productions) (t .empty) (i .rows) (t .nonterminals) stack (s .depth) (s .first)
 
 -- What the scanner sees of a text is the rest from the place on.
 pub rest-of : (text : List ℕ) (p : ℕ) → take (length text - p) (drop p text) ≡ drop p text
@@ -55,31 +53,28 @@ scanned i bytes t decoded text p f e =
     ∙ ap (λ (l : List ℕ). longest-match (i .positions) (i .first) l) (rest-of text p)
 
 -- At the start: 0 alone is pending.
-going-start : (i : Image) (bytes : List ℕ) (t : ImageTables) → Decoded bytes t i → (text stack : List ℕ) → getD stack 0 0 ≡ 0
-    → 1 ≤ length stack
-    → Going i bytes t text stack (state-at 0 1 0) (run-from i (length stack) text (length text) first-state)
-unfolding pending
-going-start i bytes t decoded text stack z room =
-    let alone : pending stack 1 ≡ 0 ∷ [] = ap (λ (n : ℕ). n ∷ []) z in
-    let some-rows : 0 < t .nonterminals = omega (arith, decoded .some-nonterminals) in
+going-start : (i : Image) (bytes : List ℕ) (t : ImageTables) → Decoded bytes t i → (text stack : List ℕ) → 1 ≤ length stack
+    → Going i bytes t text stack (state-at 0 1 0 0) (run-from i (length stack) text (length text) first-state)
+unfolding pending stacked
+going-start i bytes t decoded text stack room =
     record {
       turns = length text;
       enough = omega arith;
       within = omega arith;
       counted = omega arith;
-      same = ap (λ (l : List ℕ). run-from i (length stack) text (length text) (machine.state 0 l 0)) alone;
+      same = refl;
       ready = record {
         held = decoded .rows;
         most = decoded .most-nonterminals;
         inside = room;
-        below = subst (All (λ m. m < t .nonterminals)) (sym alone) (some-rows, tt);
+        below = (omega (arith, decoded .some-nonterminals), tt);
       };
     }
 
 pub going-first : (i : Image) (bytes : List ℕ) (t : ImageTables) → Decoded bytes t i → (text stack : List ℕ) {s : State}
-    → s ≡ state-at 0 1 0 → getD stack 0 0 ≡ 0 → 1 ≤ length stack
+    → s ≡ state-at 0 1 0 0 → 1 ≤ length stack
     → Going i bytes t text stack s (run-from i (length stack) text (length text) first-state)
-going-first i bytes t decoded text stack e z room = rw e (going-start i bytes t decoded text stack z room)
+going-first i bytes t decoded text stack e room = rw e (going-start i bytes t decoded text stack room)
 
 module _ (i : Image) (bytes : List ℕ) (t : ImageTables) (decoded : Decoded bytes t i) (text stack : List ℕ) (s : State) (whole : Answer)
     (going : Going i bytes t text stack s whole) where
@@ -88,7 +83,7 @@ module _ (i : Image) (bytes : List ℕ) (t : ImageTables) (decoded : Decoded byt
 
   -- At the end.
   pub going-ends : length text ≤ s .place
-      → answer-held (end-answer (t .empty) (pending stack (s .depth)) (s .place) (s .count)) ≡ whole
+      → answer-held (end-answer (t .empty) (pending stack (s .depth) (s .first)) (s .place) (s .count)) ≡ whole
   going-ends h =
       end-is i bytes t decoded stack s (going .ready)
       ∙ sym (run-at-end i (length stack) text (going .turns) now-state h)
@@ -121,7 +116,7 @@ module _ (i : Image) (bytes : List ℕ) (t : ImageTables) (decoded : Decoded byt
           let k : suc (going .turns - 1) ≡ going .turns = omega (arith, going .enough) in
           ap (λ (k : ℕ). run-from i (length stack) text k now-state) k ∙ going .same
 
-      pub going-done : (a : RunAnswer) → turn-step bytes (t .productions) (t .empty) (t .skips) stack f s .outcome ≡ Done a
+      pub going-done : (a : RunAnswer) → turn-step bytes (t .starts) (t .productions) (t .empty) (t .skips) stack f s .outcome ≡ Done a
           → answer-held a ≡ whole
       going-done a g =
           sym (run-stops i (length stack) text (going .turns - 1) now-state (answer-held a)
@@ -129,8 +124,8 @@ module _ (i : Image) (bytes : List ℕ) (t : ImageTables) (decoded : Decoded byt
           ∙ present
 
       pub going-next : (stack' : List ℕ) (s' : State) → length stack' ≡ length stack
-          → stack' ≡ turn-step bytes (t .productions) (t .empty) (t .skips) stack f s .stack
-          → turn-step bytes (t .productions) (t .empty) (t .skips) stack f s .outcome ≡ Next s'
+          → stack' ≡ turn-step bytes (t .starts) (t .productions) (t .empty) (t .skips) stack f s .stack
+          → turn-step bytes (t .starts) (t .productions) (t .empty) (t .skips) stack f s .outcome ≡ Next s'
           → Going i bytes t text stack' s' whole × (s .place < s' .place)
       going-next stack' s' kept g h =
           let x = turn-next i bytes t decoded stack s (going .ready) f fits stack' s' g h in

@@ -6,8 +6,7 @@ use lib.ListN.{length}
 use Rattle.stage4_lexer.specs.Table.{most-rows}
 use Rattle.stage5_image.specs.Image.{Image}
 use Rattle.stage5_image.specs.ImageRanges.{InRange}
-use Rattle.stage5_image_reader.specs.Decoded.{Decoded}
-use Rattle.stage5_image_reader.specs.declared.ImageTables.{ImageTables}
+use Rattle.stage5_image_reader.specs.Decoded.{ImageTables, Decoded}
 use Rattle.stage6_machine.specs.TableRun.{lent-entries, rows-of, entries-of, winners-of}
 
 pub record Built (i : Image) (table winners : List ℕ) : Type 0 where

@@ -7,46 +7,42 @@ ghost use lib.Dec.{leb};
 ghost use Prim.Native.Nat.{ℕ, _≤_};
 ghost use lib.ListN.{length};
 ghost use Rattle.stage4_lexer.specs.Table.{written-over, most-rows};
-ghost use Rattle.stage4_lexer_columns.specs.declared.PositionColumns.{PositionColumns};
 ghost use Rattle.stage5_image.specs.Image.{Image};
 ghost use Rattle.stage5_image.specs.ImageRanges.{InRange};
-ghost use Rattle.stage5_image_reader.specs.Decoded.{Decoded, tables-from};
-ghost use Rattle.stage5_image_reader.specs.declared.ImageTables.{ImageTables};
+ghost use Rattle.stage5_image_reader.specs.Decoded.{Decoded, tables-of};
 ghost use Rattle.stage6_machine.specs.Run.{run-image};
 ghost use Rattle.stage6_machine.specs.TableRun.{rows-of, entries-of, winners-of};
 ghost use Rattle.stage6_machine.specs.TableRun.{beginning, run-table, table-after, winners-after, table-stack-after};
 ghost use Rattle.stage6_machine_turn.specs.Steps.{answer-held};
 ghost use Rattle.stage6_machine_table.specs.Built.{WithTable};
 use stage4_lexer_classes::class_table;
-use stage4_lexer_columns::PositionColumns;
+use stage5_image_reader::ImageRead;
 use stage5_image_reader::Outcome;
 use stage6_machine_turn::RunAnswer;
 use stage6_machine_turn::Turn;
 
-// Runs a readable image, given by its bytes and the parts of its tables, by the rows of its scanner's table. What is left on the stack
+// Runs a readable image, given by its bytes and what it reads of its tables, by the rows of its scanner's table. What is left on the stack
 // is not promised.
 fn run_rows<'a>(
     image: &[u8],
-    rules: usize,
-    skips: u64,
-    nonterminals: usize,
-    empty: u64,
-    productions: &[usize; 2048],
+    read: ImageRead,
+    starts: &[usize; 64],
+    productions: &[u16; 2048],
     text: &'a [u8],
     table: &'a [u16],
     winners: &'a [u16],
     stack: &mut [u8],
 ) -> RunAnswer
-    requires { ⌜ ((p : PositionColumns) × (i : Image) × WithTable
+    requires { ⌜ ((low high rule follow : List ℕ) × (i : Image) × WithTable
         (now image)
-        (tables-from rules skips p nonterminals empty (now productions))
+        (tables-of read low high rule follow (now starts) (now productions))
         (now table)
         (now winners)
         i) ⌝ }
-    ensures { λ r. ⌜ ((p : PositionColumns) (i : Image)
+    ensures { λ r. ⌜ ((low high rule follow : List ℕ) (i : Image)
         → WithTable
         (now (image .entry))
-        (tables-from rules skips p nonterminals empty (now (productions .entry)))
+        (tables-of read low high rule follow (now (starts .entry)) (now (productions .entry)))
         (now (table .entry))
         (now (winners .entry))
         i
@@ -55,16 +51,16 @@ fn run_rows<'a>(
     if stack.len() < 1 {
         return stage6_machine_turn::answer(17, 0, 0);
     }
-    stack[0] = 0;
     let mut state = stage6_machine_turn::first_state();
     while state.place < text.len() {
         let p = state.place;
         let found = stage4_lexer_rows::match_by_rows(&text[p..], table, winners);
         let after = stage6_machine_turn::one_turn(
             image,
+            starts,
             productions,
-            empty,
-            skips,
+            read.empty,
+            read.skips,
             stack,
             found,
             state,
@@ -74,30 +70,41 @@ fn run_rows<'a>(
             Turn::Next(next) => state = next,
         }
     }
-    stage6_machine_turn::at_end(empty, stack, state)
+    stage6_machine_turn::at_end(read.empty, stack, state)
 }
 
 // Builds the table of an image, given by the columns of its positions, and tells whether it has no more than 256 rows. Otherwise nothing is
 // written.
-fn build_of(positions: PositionColumns, table: &mut [u16], winners: &mut [u16]) -> bool
-    requires { ⌜ ((bytes : List ℕ) × (t : ImageTables) × (i : Image) × Decoded bytes t i × InRange i × (t .positions ≡ positions)
+fn build_of<'a>(
+    read: ImageRead,
+    low: &'a [u8; 64],
+    high: &'a [u8; 64],
+    rule: &'a [u8; 64],
+    follow: &'a [u64; 64],
+    table: &mut [u16],
+    winners: &mut [u16],
+) -> bool
+    requires { ⌜ ((bytes starts productions : List ℕ) × (i : Image)
+        × Decoded bytes (tables-of read (now low) (now high) (now rule) (now follow) starts productions) i × InRange i
         × (65536 ≤ length (now table)) × (256 ≤ length (now winners))) ⌝ }
-    ensures { λ r. ⌜ ((bytes : List ℕ) (t : ImageTables) (i : Image) → Decoded bytes t i → t .positions ≡ positions
+    ensures { λ r. ⌜ ((bytes starts productions : List ℕ) (i : Image)
+        → Decoded bytes
+        (tables-of read (now (low .entry)) (now (high .entry)) (now (rule .entry)) (now (follow .entry)) starts productions) i
         → (r ≡ leb (length (rows-of i)) most-rows)
         × (now (table .exit) ≡ cond r (written-over (entries-of i) (now (table .entry))) (now (table .entry)))
         × (now (winners .exit) ≡ cond r (written-over (winners-of i) (now (winners .entry))) (now (winners .entry)))) ⌝ }
 {
-    let classes = class_table(positions.count, &positions.low, &positions.high);
+    let classes = class_table(read.count, low, high);
     stage4_lexer_table::build_table(
         table,
         winners,
-        positions.count,
-        &positions.low,
-        &positions.high,
-        &positions.rule,
-        &positions.follow,
-        positions.last,
-        positions.first,
+        read.count,
+        low,
+        high,
+        rule,
+        follow,
+        read.last,
+        read.first,
         &classes,
     )
 }
@@ -136,21 +143,33 @@ pub fn run_table(
     if 1048576 < text.len() {
         return stage6_machine_turn::answer(12, 0, 0);
     }
-    let read = stage5_image_reader::read_image(image);
+    let mut low = [0u8; 64];
+    let mut high = [0u8; 64];
+    let mut rule = [0u8; 64];
+    let mut follow = [0u64; 64];
+    let mut starts = [0usize; 64];
+    let mut productions = [0u16; 2048];
+    let read = stage5_image_reader::read_image(
+        image,
+        &mut low,
+        &mut high,
+        &mut rule,
+        &mut follow,
+        &mut starts,
+        &mut productions,
+    );
     let outcome = read.outcome;
     if let Outcome::Refused(place) = outcome {
         return stage6_machine_turn::answer(13, place, 0);
     }
-    if !build_of(read.tables.positions, table, winners) {
+    if !build_of(read, &low, &high, &rule, &follow, table, winners) {
         return stage6_machine_turn::answer(19, 0, 0);
     }
     let ran = run_rows(
         image,
-        read.tables.rules,
-        read.tables.skips,
-        read.tables.nonterminals,
-        read.tables.empty,
-        &read.tables.productions,
+        read,
+        &starts,
+        &productions,
         text,
         table,
         winners,

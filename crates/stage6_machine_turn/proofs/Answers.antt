@@ -2,58 +2,40 @@
 use mathlib.Core.Path.{_≡_, refl, sym, ap, _∙_}
 use mathlib.Core.Bool.{Bool, true, false, cond}
 use mathlib.Core.List.{List}
-use Prim.Native.Nat.{ℕ, _+_, _-_, _≤_, _<_}
-use native.Mathlib.Omega.{arith}
-use lib.Dec.{ltb}
-use lib.ListN.{length, getD}
-use borrow.Author.Tests.{lt-ltb, le-ltb}
+use Prim.Native.Nat.{ℕ, _+_}
+use lib.ListN.{getD}
 use Rattle.stage0_laws.specs.Bits.{bit}
 use Rattle.stage4_lexer_scanner.specs.declared.Found.{Found}
 use Rattle.stage4_lexer_scanner.specs.declared.Found.the-variants as found
-use Rattle.stage6_machine_turn.specs.Stack.{pushed}
-use Rattle.stage6_machine_turn.specs.Steps.{part, taker, TakeStep, replaced, replace-taker, take-step}
+use Rattle.stage5_image_reader.specs.Tables.{entry-tail}
+use Rattle.stage6_machine_turn.specs.Steps.{taker, TakeStep, replaced, replace-taker, take-step}
 use Rattle.stage6_machine_turn.specs.Steps.{run-answer, state-at, all-members, end-answer, step-after-take, turn-by, TurnStep, turn-step}
 use Rattle.stage6_machine_turn.specs.declared.RunAnswer.{RunAnswer}
 use Rattle.stage6_machine_turn.specs.declared.Taker.the-variants.{Nothing, At}
 use Rattle.stage6_machine_turn.specs.declared.Taken.{Taken}
-use Rattle.stage6_machine_turn.specs.declared.Taken.the-variants.{Depth, NoTaker, TooDeep}
+use Rattle.stage6_machine_turn.specs.declared.Taken.the-variants.{NoTaker}
 use Rattle.stage6_machine_turn.specs.declared.State.{State}
 use Rattle.stage6_machine_turn.specs.declared.Turn.the-variants.{Next, Done}
+use Rattle.stage6_machine_turn.proofs.Replacing.{Leaves, leaves-same}
 
-module _ (bytes productions : List ℕ) (empty : ℕ) (stack : List ℕ) (depth rule : ℕ) where
+module _ (bytes starts productions : List ℕ) (empty : ℕ) (stack : List ℕ) (depth first rule : ℕ) where
   abbrev step : TakeStep
-  step = take-step bytes productions empty stack depth rule
+  step = take-step bytes starts productions empty stack depth first rule
 
-  pub no-taker : taker productions empty stack depth rule ≡ Nothing → (NoTaker ≡ step .outcome) × (stack ≡ step .stack)
+  pub no-taker : taker productions empty stack depth first rule ≡ Nothing → Leaves NoTaker stack step
   unfolding take-step replace-taker
   no-taker e = (rw e, rw e)
 
-  module _ (base entry : ℕ) (found : taker productions empty stack depth rule ≡ At base entry) (inside : base < length stack) where
-    by-taker : step ≡ replaced (ltb (length stack) (base + getD bytes (entry - 1) 0)) bytes stack base entry (getD bytes (entry - 1) 0)
-    unfolding take-step replace-taker
-    by-taker = ap (replace-taker bytes stack) found
-
-    pub too-deep : length stack - base < getD bytes (entry - 1) 0 → (TooDeep ≡ step .outcome) × (stack ≡ step .stack)
-    unfolding replaced
-    too-deep h =
-        let t = lt-ltb (length stack) (base + getD bytes (entry - 1) 0) (omega arith) in
-        let e = by-taker ∙ ap (λ (b : Bool). replaced b bytes stack base entry (getD bytes (entry - 1) 0)) t in
-        (sym (ap (λ (s : TakeStep). s .outcome) e), sym (ap (λ (s : TakeStep). s .stack) e))
-
-    pub took : getD bytes (entry - 1) 0 ≤ length stack - base → (stack' : List ℕ)
-        → stack' ≡ pushed stack base (part bytes entry (getD bytes (entry - 1) 0))
-        → (Depth (base + getD bytes (entry - 1) 0) ≡ step .outcome) × (stack' ≡ step .stack)
-    unfolding replaced
-    took h stack' f =
-        let t = le-ltb (length stack) (base + getD bytes (entry - 1) 0) (omega arith) in
-        let e = by-taker ∙ ap (λ (b : Bool). replaced b bytes stack base entry (getD bytes (entry - 1) 0)) t in
-        (sym (ap (λ (s : TakeStep). s .outcome) e), f ∙ sym (ap (λ (s : TakeStep). s .stack) e))
+  pub took : (below n entry : ℕ) → taker productions empty stack depth first rule ≡ At below n entry → (r : Taken) (stack' : List ℕ)
+      → Leaves r stack' (replaced stack below (entry-tail bytes (getD starts n 0) entry)) → Leaves r stack' step
+  unfolding take-step replace-taker
+  took below n entry e r stack' h = leaves-same r stack' _ step (sym (ap (replace-taker bytes starts stack) e)) h
 
 -- ---- a turn
 
-module _ (bytes productions : List ℕ) (empty skips : ℕ) (stack : List ℕ) (f : Found) (s : State) where
+module _ (bytes starts productions : List ℕ) (empty skips : ℕ) (stack : List ℕ) (f : Found) (s : State) where
   abbrev whole-turn : TurnStep
-  whole-turn = turn-step bytes productions empty skips stack f s
+  whole-turn = turn-step bytes starts productions empty skips stack f s
 
   pub step-unmatched : f ≡ found.Nothing → (a : RunAnswer) → a ≡ run-answer 14 (s .place) (s .count)
       → (Done a ≡ whole-turn .outcome) × (stack ≡ whole-turn .stack)
@@ -62,14 +44,14 @@ module _ (bytes productions : List ℕ) (empty skips : ℕ) (stack : List ℕ) (
 
   module _ (rule n : ℕ) (matched : f ≡ found.Rule rule n) where
     abbrev take-of-turn : TakeStep
-    take-of-turn = take-step bytes productions empty stack (s .depth) rule
+    take-of-turn = take-step bytes starts productions empty stack (s .depth) (s .first) rule
 
     by-match : whole-turn ≡ turn-by (bit skips rule) stack n s take-of-turn
     unfolding turn-step
-    by-match = ap (λ (x : Found). turn-step bytes productions empty skips stack x s) matched
+    by-match = ap (λ (x : Found). turn-step bytes starts productions empty skips stack x s) matched
 
     pub step-skips : bit skips rule ≡ true
-        → (Next (state-at (s .place + n) (s .depth) (s .count)) ≡ whole-turn .outcome) × (stack ≡ whole-turn .stack)
+        → (Next (state-at (s .place + n) (s .depth) (s .first) (s .count)) ≡ whole-turn .outcome) × (stack ≡ whole-turn .stack)
     unfolding turn-by
     step-skips e =
         let w = by-match ∙ ap (λ (b : Bool). turn-by b stack n s take-of-turn) e in

@@ -5,8 +5,8 @@ use Prim.Native.Nat.{ℕ, suc, _+_, _-_, _≤_, _<_}
 use native.Mathlib.Omega.{arith}
 use lib.ListN.{length, getD, set, take, drop, length-take, length-drop}
 use lib.Seq.{drop-cons}
+use Rattle.stage5_image_reader.specs.Tables.{part}
 use Rattle.stage6_machine_turn.specs.Stack.{pushed}
-use Rattle.stage6_machine_turn.specs.Steps.{part}
 
 module _ (bytes stack : List ℕ) (at size base : ℕ) where
   part-more : (left : ℕ) → 0 < left → left ≤ size → at + size ≤ length bytes

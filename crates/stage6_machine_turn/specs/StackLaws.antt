@@ -1,27 +1,37 @@
--- The entries of the stack that are in use: those below a store, bounds that hold of all, and what is pending once a tail is pushed.
-use mathlib.Core.Path.{_≡_, refl, ap, ap₂, subst, _∙_}
+-- The pending nonterminals and the stack that holds all but the first: entries below a store, bounds that hold of all, and what is pending
+-- once a tail is pushed.
+use mathlib.Core.Path.{_≡_, refl, sym, ap, ap₂, subst, _∙_}
 use mathlib.Core.List.{List, [], _∷_, _++_}
-use mathlib.Core.Logic.{⊎-elim}
 use Prim.Native.Nat.{ℕ, zero, suc, _+_, _-_, _≤_, _<_}
 use native.Mathlib.Omega.{arith}
 use lib.ListN.{length, getD, set, length-set}
 use lib.Seq.{getD-set-same, getD-set-other}
 use Rattle.stage0_laws.specs.Lists.{All}
-use Rattle.stage0_laws.specs.Order.{lt-or-le}
 use Rattle.stage3_normal_form.specs.Productions.{Row}
-use Rattle.stage6_machine_turn.specs.Stack.{pending, pushed, Ready}
+use Rattle.stage6_machine_turn.specs.Stack.{stacked, pending, pushed, Ready}
 
-pub length-pending : (stack : List ℕ) (depth : ℕ) → length (pending stack depth) ≡ depth
-unfolding pending
-length-pending stack zero = refl
-length-pending stack (suc depth) = ap suc (length-pending stack depth)
+-- Where the entry on top is the first that is pending, all are on the stack.
+pub pending-stacked : (stack : List ℕ) (below : ℕ) → pending stack below (getD stack below 0) ≡ stacked stack below
+unfolding pending stacked
+pending-stacked stack zero = refl
+pending-stacked stack (suc below) = refl
 
--- A store at the depth or above changes nothing below.
-pub pending-set : (stack : List ℕ) (i v depth : ℕ) → depth ≤ i → pending (set stack i v) depth ≡ pending stack depth
+pub length-stacked : (stack : List ℕ) (size : ℕ) → length (stacked stack size) ≡ size
+unfolding stacked
+length-stacked stack zero = refl
+length-stacked stack (suc size) = ap suc (length-stacked stack size)
+
+pub length-pending : (stack : List ℕ) (depth first : ℕ) → length (pending stack depth first) ≡ depth
 unfolding pending
-pending-set stack i v zero h = refl
-pending-set stack i v (suc depth) h =
-    ap₂ _∷_ (getD-set-other stack i depth v 0 (λ e. omega arith)) (pending-set stack i v depth (omega arith))
+length-pending stack zero first = refl
+length-pending stack (suc below) first = ap suc (length-stacked stack below)
+
+-- A store above the entries in use changes none of them.
+stacked-set : (stack : List ℕ) (i v size : ℕ) → size < i → stacked (set stack i v) size ≡ stacked stack size
+unfolding stacked
+stacked-set stack i v zero h = refl
+stacked-set stack i v (suc size) h =
+    ap₂ _∷_ (getD-set-other stack i (suc size) v 0 (λ e. omega arith)) (stacked-set stack i v size (omega arith))
 
 -- ---- bounds
 
@@ -34,29 +44,23 @@ module _ (bound : ℕ) where
   all-joined [] r h k = k
   all-joined (a ∷ l) r h k = (h .0, all-joined l r (h .1) k)
 
-  pub all-lower : (stack : List ℕ) (base depth : ℕ) → base ≤ depth → All (λ m. m < bound) (pending stack depth)
-      → All (λ m. m < bound) (pending stack base)
+  behind-first : (stack : List ℕ) (below first : ℕ) → All (λ m. m < bound) (pending stack (suc below) first)
+      → (first < bound) × All (λ m. m < bound) (pending stack below (getD stack below 0))
   unfolding pending
-  all-lower stack base zero k h = let e : base ≡ 0 = omega arith in rw e tt
-  all-lower stack base (suc depth) k h =
-      ⊎-elim
-      (λ l. let e : base ≡ suc depth = omega arith in rw e h)
-      (λ l. all-lower stack base depth l (h .1))
-      (lt-or-le depth base)
+  behind-first stack below first h = (h .0, subst (All (λ m. m < bound)) (sym (pending-stacked stack below)) (h .1))
 
-  -- The entry on top, and those below it.
-  pub all-top : (stack : List ℕ) (depth : ℕ) → 0 < depth → All (λ m. m < bound) (pending stack depth)
-      → (getD stack (depth - 1) 0 < bound) × All (λ m. m < bound) (pending stack (depth - 1))
-  unfolding pending
-  all-top stack depth k h =
+  -- The first one, and those behind it.
+  pub all-behind : (stack : List ℕ) (depth first : ℕ) → 0 < depth → All (λ m. m < bound) (pending stack depth first)
+      → (first < bound) × All (λ m. m < bound) (pending stack (depth - 1) (getD stack (depth - 1) 0))
+  all-behind stack depth first k h =
       let e : depth ≡ suc (depth - 1) = omega arith in
-      let a = subst (λ (d : ℕ). All (λ m. m < bound) (pending stack d)) e h in
-      (a .0, a .1)
+      behind-first stack (depth - 1) first (subst (λ (d : ℕ). All (λ m. m < bound) (pending stack d first)) e h)
 
 -- What the functions that only look at the entries ask.
-pub ready-entries : {bytes productions : List ℕ} {empty : ℕ} {rows : List Row} {n : ℕ} {stack : List ℕ} {depth : ℕ}
-    → Ready bytes productions empty rows n stack depth → (depth ≤ length stack) × All (λ m. m < 64) (pending stack depth)
-ready-entries {n = n} {stack = stack} {depth = depth} r = (r .inside, all-wider 64 n (pending stack depth) (r .most) (r .below))
+pub ready-entries : {bytes starts productions : List ℕ} {empty : ℕ} {rows : List Row} {n : ℕ} {stack : List ℕ} {depth first : ℕ}
+    → Ready bytes starts productions empty rows n stack depth first → (depth ≤ length stack) × All (λ m. m < 64) (pending stack depth first)
+ready-entries {n = n} {stack = stack} {depth = depth} {first = first} r =
+    (r .inside, all-wider 64 n (pending stack depth first) (r .most) (r .below))
 
 -- ---- a pushed tail
 
@@ -65,15 +69,24 @@ unfolding pushed
 length-pushed stack base [] = refl
 length-pushed stack base (n ∷ tail) = simp length-set (length-pushed stack _ tail)
 
-pub pending-pushed : (stack : List ℕ) (base : ℕ) (tail : List ℕ) → base + length tail ≤ length stack
-    → pending (pushed stack base tail) (base + length tail) ≡ tail ++ pending stack base
-unfolding pushed pending
-pending-pushed stack base [] h = let e : base + 0 ≡ base = omega arith in ap (λ (k : ℕ). pending stack k) e
-pending-pushed stack base (n ∷ tail) h =
-    let below = pushed stack base tail in
-    let top = base + length tail in
-    let e : base + length (n ∷ tail) ≡ suc top = omega arith in
-    let inside : top < length below = omega (arith, length-pushed stack base tail) in
-    ap (λ (k : ℕ). pending (set below top n) k) e
-    ∙ ap₂ _∷_ (getD-set-same below top n 0 inside)
-    (pending-set below top n top (omega arith) ∙ pending-pushed stack base tail (omega arith))
+stacked-pushed : (stack : List ℕ) (below : ℕ) (tail : List ℕ) → suc below + length tail ≤ length stack
+    → stacked (pushed stack (suc below) tail) (below + length tail) ≡ tail ++ stacked stack below
+unfolding pushed stacked
+stacked-pushed stack below [] h = let e : below + 0 ≡ below = omega arith in ap (λ (k : ℕ). stacked stack k) e
+stacked-pushed stack below (n ∷ tail) h =
+    let low = pushed stack (suc below) tail in
+    let top = suc below + length tail in
+    let e : below + length (n ∷ tail) ≡ suc (below + length tail) = omega arith in
+    let f : suc (below + length tail) ≡ top = omega arith in
+    let inside : top < length low = omega (arith, length-pushed stack (suc below) tail) in
+    ap (λ (k : ℕ). stacked (set low top n) k) e
+    ∙ ap₂ _∷_ (ap (λ (k : ℕ). getD (set low top n) k 0) f ∙ getD-set-same low top n 0 inside)
+    (stacked-set low top n (below + length tail) (omega arith) ∙ stacked-pushed stack below tail (omega arith))
+
+-- A tail in the place of its taker: its first member is the first that is pending, the others are pushed.
+pub pending-pushed : (stack : List ℕ) (below n : ℕ) (tail : List ℕ) → suc below + length tail ≤ length stack
+    → pending (pushed stack (suc below) tail) (suc below + length tail) n ≡ n ∷ tail ++ stacked stack below
+unfolding pending
+pending-pushed stack below n tail h =
+    let e : suc below + length tail ≡ suc (below + length tail) = omega arith in
+    ap (λ (k : ℕ). pending (pushed stack (suc below) tail) k n) e ∙ ap (λ (l : List ℕ). n ∷ l) (stacked-pushed stack below tail h)

@@ -1,9 +1,9 @@
 -- A take by the tables is a take by the image's rows, and the stack then holds what is pending.
-use mathlib.Core.Path.{_≡_, refl, sym, ap, ap₂, subst, _∙_}
+use mathlib.Core.Path.{_≡_, refl, sym, ap, subst, _∙_}
 use mathlib.Core.Bool.{Bool, true, false, cond}
-use mathlib.Core.List.{List, _∷_, _++_}
+use mathlib.Core.List.{List, [], _∷_, _++_}
 use mathlib.Core.Option.{Option, none, some}
-use Prim.Native.Nat.{ℕ, zero, suc, _+_, _-_, _*_, _≤_, _<_}
+use Prim.Native.Nat.{ℕ, zero, suc, _+_, _*_, _≤_, _<_}
 use native.Mathlib.Omega.{arith}
 use lib.Dec.{ltb, eqb}
 use lib.ListN.{length, getD, length-append}
@@ -11,16 +11,16 @@ use borrow.Author.Tests.{ltb-true, ltb-false, eqb-true, eqb-false}
 use Rattle.stage0_laws.specs.Bits.{bit}
 use Rattle.stage0_laws.specs.Lists.{All}
 use Rattle.stage3_normal_form.specs.Productions.{Production, Row, row-of, production-of}
-use Rattle.stage5_image_reader.specs.Tables.{TailAt, RowsHeld}
-use Rattle.stage5_image_reader.specs.TableLaws.{entry-none, entry-some, tail-inside}
+use Rattle.stage5_image_reader.specs.Tables.{entry-tail, EntryTail, RowsHeld}
+use Rattle.stage5_image_reader.specs.TableLaws.{entry-none, entry-some}
 use Rattle.stage6_machine.specs.Turn.{take-rule}
-use Rattle.stage6_machine_turn.specs.Stack.{pending, pushed, Ready}
-use Rattle.stage6_machine_turn.specs.Steps.{part, taker, replaced, replace-taker, take-step}
+use Rattle.stage6_machine_turn.specs.Stack.{stacked, pending, pushed, Ready}
+use Rattle.stage6_machine_turn.specs.Steps.{taker, TakeStep, replaced, replace-taker, take-step}
 use Rattle.stage6_machine_turn.specs.declared.Taker.{Taker}
 use Rattle.stage6_machine_turn.specs.declared.Taker.the-variants.{Nothing, At}
 use Rattle.stage6_machine_turn.specs.declared.Taken.{Taken}
-use Rattle.stage6_machine_turn.specs.declared.Taken.the-variants.{Depth, NoTaker, TooDeep}
-use Rattle.stage6_machine_turn.specs.StackLaws.{length-pending, all-joined, all-lower, length-pushed, pending-pushed}
+use Rattle.stage6_machine_turn.specs.declared.Taken.the-variants.{Pending, NoTaker, TooDeep}
+use Rattle.stage6_machine_turn.specs.StackLaws.{pending-stacked, length-stacked, all-joined, length-pushed, pending-pushed}
 
 -- ---- a take by the rows, one pending nonterminal a time
 
@@ -42,150 +42,153 @@ module _ (rows : List Row) (m : ℕ) (l : List ℕ) (rule : ℕ) where
 
 -- ---- the taker
 
--- What is known of a taker: its tail stands in the image's bytes, and is what a take puts before the entries below.
-pub record TailTaken (bytes : List ℕ) (n : ℕ) (stack : List ℕ) (o : Option (List ℕ)) (depth base entry : ℕ) : Type 0 where
+-- What is known of a taker: its entry stands for a tail, which is what a take puts before those behind the taker.
+pub record TailTaken (bytes starts : List ℕ) (n : ℕ) (stack : List ℕ) (o : Option (List ℕ)) (depth below m entry : ℕ) : Type 0 where
   pub tail : List ℕ
-  pub next-is : o ≡ some (tail ++ pending stack base)
-  pub there : TailAt bytes n (entry - 1) tail
-  pub under : base < depth
-  pub entered : 0 < entry
+  pub next-is : o ≡ some (tail ++ stacked stack below)
+  pub there : EntryTail bytes (getD starts m 0) n entry tail
+  pub behind : All (λ k. k < n) (stacked stack below)
+  pub under : below < depth
+  pub nonterminal : m < n
 
-abbrev TakesAs : List ℕ → ℕ → List ℕ → Option (List ℕ) → ℕ → Taker → Type 0
-TakesAs bytes n stack o depth Nothing = o ≡ none
-TakesAs bytes n stack o depth (At base entry) = TailTaken bytes n stack o depth base entry
+abbrev TakesAs : List ℕ → List ℕ → ℕ → List ℕ → Option (List ℕ) → ℕ → Taker → Type 0
+TakesAs bytes starts n stack o depth Nothing = o ≡ none
+TakesAs bytes starts n stack o depth (At below m entry) = TailTaken bytes starts n stack o depth below m entry
 
-module _ (bytes productions : List ℕ) (empty : ℕ) (rows : List Row) (n : ℕ) (held : RowsHeld bytes n productions empty rows) where
+module _ (bytes starts productions : List ℕ) (empty : ℕ) (rows : List Row) (n : ℕ)
+    (held : RowsHeld bytes n starts productions empty rows) where
   module _ (stack : List ℕ) (rule : ℕ) (small : rule < 32) where
-    abbrev rows-take : ℕ → Option (List ℕ)
-    rows-take depth = take-rule rows (pending stack depth) rule
+    abbrev rows-take : ℕ → ℕ → Option (List ℕ)
+    rows-take depth first = take-rule rows (pending stack depth first) rule
 
-    -- A taker further down takes for those above it too.
-    deeper : (depth : ℕ) (t : Taker) → (rows-take depth ≡ rows-take (suc depth))
-        → TakesAs bytes n stack (rows-take depth) depth t → TakesAs bytes n stack (rows-take (suc depth)) (suc depth) t
-    deeper depth Nothing e r = sym e ∙ r
-    deeper depth (At base entry) e r = record {
+    -- A taker further back takes for those before it too.
+    further : (below first : ℕ) (t : Taker) → (rows-take below (getD stack below 0) ≡ rows-take (suc below) first)
+        → TakesAs bytes starts n stack (rows-take below (getD stack below 0)) below t
+        → TakesAs bytes starts n stack (rows-take (suc below) first) (suc below) t
+    further below first Nothing e r = sym e ∙ r
+    further below first (At k m entry) e r = record {
       tail = r .tail;
       next-is = sym e ∙ r .next-is;
       there = r .there;
+      behind = r .behind;
       under = omega (arith, r .under);
-      entered = r .entered;
+      nonterminal = r .nonterminal;
     }
 
-    at-top : (depth : ℕ) → getD stack depth 0 < n → (x y : Bool)
-        → eqb (getD productions (getD stack depth 0 * 32 + rule) 0) 0 ≡ x → bit empty (getD stack depth 0) ≡ y
-        → (t : Taker) → TakesAs bytes n stack (rows-take depth) depth t
-        → TakesAs bytes n stack (rows-take (suc depth)) (suc depth)
-        (cond x (cond y t Nothing) (At depth (getD productions (getD stack depth 0 * 32 + rule) 0)))
+    at-first : (below m : ℕ) → m < n → All (λ k. k < n) (stacked stack below) → (x y : Bool)
+        → eqb (getD productions (m * 32 + rule) 0) 0 ≡ x → bit empty m ≡ y
+        → (t : Taker) → TakesAs bytes starts n stack (rows-take below (getD stack below 0)) below t
+        → TakesAs bytes starts n stack (rows-take (suc below) m) (suc below)
+        (cond x (cond y t Nothing) (At below m (getD productions (m * 32 + rule) 0)))
     unfolding pending
-    at-top depth h false y e f t r =
-        let m = getD stack depth 0 in
+    at-first below m h b false y e f t r =
         let entry = getD productions (m * 32 + rule) 0 in
-        let s = entry-some bytes n entry _ (held .entries m h rule small) (eqb-false entry 0 e) in
+        let s = entry-some bytes (getD starts m 0) n entry _ (held .entries m h rule small) (eqb-false entry 0 e) in
         record {
           tail = s .0 .tail;
-          next-is = take-some rows m (pending stack depth) rule (s .0) (s .1);
+          next-is = take-some rows m (stacked stack below) rule (s .0) (s .1);
           there = s .2;
+          behind = b;
           under = omega arith;
-          entered = some-entry entry (eqb-false entry 0 e);
+          nonterminal = h;
         }
-      where
-        some-entry : (k : ℕ) → (k ≡ 0 → ⊥) → 0 < k
-        some-entry zero g = absurd (g refl)
-        some-entry (suc k) g = omega arith
-    at-top depth h true false e f t r =
-        let m = getD stack depth 0 in
-        let o = entry-none bytes n _ _ (held .entries m h rule small) (eqb-true _ 0 e) in
-        take-stops rows m (pending stack depth) rule o (sym (held .empty m) ∙ f)
-    at-top depth h true true e f t r =
-        let m = getD stack depth 0 in
-        let o = entry-none bytes n _ _ (held .entries m h rule small) (eqb-true _ 0 e) in
-        deeper depth t (sym (take-passes rows m (pending stack depth) rule o (sym (held .empty m) ∙ f) (rows-take depth) refl)) r
+    at-first below m h b true false e f t r =
+        let o = entry-none bytes (getD starts m 0) n _ _ (held .entries m h rule small) (eqb-true _ 0 e) in
+        take-stops rows m (stacked stack below) rule o (sym (held .empty m) ∙ f)
+    at-first below m h b true true e f t r =
+        let o = entry-none bytes (getD starts m 0) n _ _ (held .entries m h rule small) (eqb-true _ 0 e) in
+        let passed = take-passes rows m (stacked stack below) rule o (sym (held .empty m) ∙ f) (take-rule rows (stacked stack below) rule) refl in
+        further below m t (ap (λ (l : List ℕ). take-rule rows l rule) (pending-stacked stack below) ∙ sym passed) r
 
-    pub taker-takes : (depth : ℕ) → All (λ m. m < n) (pending stack depth)
-        → TakesAs bytes n stack (rows-take depth) depth (taker productions empty stack depth rule)
+    pub taker-takes : (depth first : ℕ) → All (λ k. k < n) (pending stack depth first)
+        → TakesAs bytes starts n stack (rows-take depth first) depth (taker productions empty stack depth first rule)
     unfolding taker pending take-rule
-    taker-takes zero h = refl
-    taker-takes (suc depth) h =
-        at-top depth (h .0) (eqb (getD productions (getD stack depth 0 * 32 + rule) 0) 0) (bit empty (getD stack depth 0)) refl refl
-        (taker productions empty stack depth rule) (taker-takes depth (h .1))
+    taker-takes zero first h = refl
+    taker-takes (suc below) first h =
+        at-first below first (h .0) (h .1) (eqb (getD productions (first * 32 + rule) 0) 0) (bit empty first) refl refl
+        (taker productions empty stack below (getD stack below 0) rule)
+        (taker-takes below (getD stack below 0) (subst (All (λ k. k < n)) (sym (pending-stacked stack below)) (h .1)))
 
 -- ---- a take
 
 -- What a take leaves, against the rows.
-abbrev pub TakeLeads : List ℕ → List ℕ → ℕ → List Row → ℕ → List ℕ → Option (List ℕ) → List ℕ → Taken → Type 0
-TakeLeads bytes productions empty rows n stack o stack' (Depth depth) =
-    (o ≡ some (pending stack' depth)) × Ready bytes productions empty rows n stack' depth × (length stack' ≡ length stack)
-TakeLeads bytes productions empty rows n stack o stack' NoTaker = o ≡ none
-TakeLeads bytes productions empty rows n stack o stack' TooDeep = (next : List ℕ) × (o ≡ some next) × (length stack < length next)
+abbrev pub TakeLeads : List ℕ → List ℕ → List ℕ → ℕ → List Row → ℕ → List ℕ → Option (List ℕ) → List ℕ → Taken → Type 0
+TakeLeads bytes starts productions empty rows n stack o stack' (Pending depth first) =
+    (o ≡ some (pending stack' depth first)) × Ready bytes starts productions empty rows n stack' depth first
+    × (length stack' ≡ length stack)
+TakeLeads bytes starts productions empty rows n stack o stack' NoTaker = o ≡ none
+TakeLeads bytes starts productions empty rows n stack o stack' TooDeep = (next : List ℕ) × (o ≡ some next) × (length stack < length next)
 
-module _ (bytes productions : List ℕ) (empty : ℕ) (rows : List Row) (n : ℕ) (stack : List ℕ) (depth rule : ℕ) (small : rule < 32)
-    (ready : Ready bytes productions empty rows n stack depth) where
+module _ (bytes starts productions : List ℕ) (empty : ℕ) (rows : List Row) (n : ℕ) (stack : List ℕ) (depth first rule : ℕ)
+    (small : rule < 32) (ready : Ready bytes starts productions empty rows n stack depth first) where
   abbrev taken-by-rows : Option (List ℕ)
-  taken-by-rows = take-rule rows (pending stack depth) rule
+  taken-by-rows = take-rule rows (pending stack depth first) rule
 
-  -- A taker that was found.
-  taker-known : (base entry : ℕ) → taker productions empty stack depth rule ≡ At base entry
-      → TailTaken bytes n stack taken-by-rows depth base entry
-  taker-known base entry e =
-      subst (TakesAs bytes n stack taken-by-rows depth) e
-      (taker-takes bytes productions empty rows n (ready .held) stack rule small depth (ready .below))
+  abbrev LeadsTo : TakeStep → Type 0
+  LeadsTo s = TakeLeads bytes starts productions empty rows n stack taken-by-rows (s .stack) (s .outcome)
 
-  -- The tail in the bytes.
-  module _ (base entry : ℕ) (x : TailTaken bytes n stack taken-by-rows depth base entry) where
-    tail-within : (0 < entry) × (entry + getD bytes (entry - 1) 0 ≤ length bytes) × (base < length stack)
-    tail-within =
-        let i = tail-inside bytes n (entry - 1) (x .tail) (x .there) in
-        let s = x .there .size in
-        (x .entered, omega (arith, i, s, x .entered), omega (arith, x .under, ready .inside))
+  -- A tail replaces a taker.
+  module _ (below : ℕ) (under : below < depth) (behind : All (λ k. k < n) (stacked stack below)) where
+    by-none : taken-by-rows ≡ some (stacked stack below)
+        → LeadsTo (record { outcome = Pending below (getD stack below 0); stack = stack })
+    by-none e =
+        let same = pending-stacked stack below in (
+          e ∙ ap some (sym same),
+          record {
+            held = ready .held;
+            most = ready .most;
+            inside = omega (arith, under, ready .inside);
+            below = subst (All (λ k. k < n)) (sym same) behind;
+          },
+          refl,
+        )
 
-    tail-part : part bytes entry (getD bytes (entry - 1) 0) ≡ x .tail
-    tail-part =
-        let e : entry ≡ entry - 1 + 1 = omega (arith, x .entered) in
-        ap₂ (λ (i j : ℕ). part bytes i j) e (x .there .size) ∙ x .there .members .there
-
-    by-room : (b : Bool) → ltb (length stack) (base + getD bytes (entry - 1) 0) ≡ b
-        → TakeLeads bytes productions empty rows n stack taken-by-rows
-        (replaced b bytes stack base entry (getD bytes (entry - 1) 0) .stack)
-        (replaced b bytes stack base entry (getD bytes (entry - 1) 0) .outcome)
-    unfolding replaced
-    by-room true e =
-        let size = length-append (x .tail) (pending stack base) in
-        let low = length-pending stack base in
-        let over = ltb-true (length stack) (base + getD bytes (entry - 1) 0) e in
-        (x .tail ++ pending stack base, x .next-is, omega (arith, size, low, over, x .there .size))
-    by-room false e =
-        let fits = ltb-false (length stack) (base + getD bytes (entry - 1) 0) e in
-        let room : base + length (x .tail) ≤ length stack = omega (arith, fits, x .there .size) in
-        let stack' = pushed stack base (part bytes entry (getD bytes (entry - 1) 0)) in
-        let same : length stack' ≡ length stack = length-pushed stack base (part bytes entry (getD bytes (entry - 1) 0)) in
-        let now-pending : pending stack' (base + getD bytes (entry - 1) 0) ≡ x .tail ++ pending stack base =
-        ap₂ (λ (l : List ℕ) (k : ℕ). pending (pushed stack base l) (base + k)) tail-part (x .there .size)
-        ∙ pending-pushed stack base (x .tail) room in
-        let low = all-lower n stack base depth (omega (arith, x .under)) (ready .below) in (
-          x .next-is ∙ ap some (sym now-pending),
+    by-room : (m : ℕ) (tail : List ℕ) → taken-by-rows ≡ some (m ∷ tail ++ stacked stack below) → All (λ k. k < n) (m ∷ tail)
+        → (b : Bool) → ltb (length stack) (suc below + length tail) ≡ b
+        → LeadsTo (cond b (record { outcome = TooDeep; stack = stack })
+        (record { outcome = Pending (suc below + length tail) m; stack = pushed stack (suc below) tail }))
+    by-room m tail e h true t =
+        let size = length-append tail (stacked stack below) in
+        let low = length-stacked stack below in
+        let over = ltb-true (length stack) (suc below + length tail) t in
+        (m ∷ tail ++ stacked stack below, e, omega (arith, size, low, over))
+    by-room m tail e h false t =
+        let fits = ltb-false (length stack) (suc below + length tail) t in
+        let same = length-pushed stack (suc below) tail in
+        let now-pending = pending-pushed stack below m tail fits in (
+          e ∙ ap some (sym now-pending),
           record {
             held = ready .held;
             most = ready .most;
             inside = omega (arith, fits, same);
-            below = subst (All (λ m. m < n)) (sym now-pending) (all-joined n (x .tail) (pending stack base) (x .there .members .below) low);
+            below = subst (All (λ k. k < n)) (sym now-pending) (all-joined n (m ∷ tail) (stacked stack below) h behind);
           },
           same,
         )
 
-  pub take-leads : TakeLeads bytes productions empty rows n stack taken-by-rows
-      (take-step bytes productions empty stack depth rule .stack) (take-step bytes productions empty stack depth rule .outcome)
-  unfolding take-step replace-taker
-  take-leads =
-      by-taker (taker productions empty stack depth rule)
-      (taker-takes bytes productions empty rows n (ready .held) stack rule small depth (ready .below))
-    where
-      by-taker : (t : Taker) → TakesAs bytes n stack taken-by-rows depth t
-          → TakeLeads bytes productions empty rows n stack taken-by-rows
-          (replace-taker bytes stack t .stack) (replace-taker bytes stack t .outcome)
-      by-taker Nothing r = r
-      by-taker (At base entry) r = by-room base entry r (ltb (length stack) (base + getD bytes (entry - 1) 0)) refl
+    by-tail : (tail : List ℕ) → taken-by-rows ≡ some (tail ++ stacked stack below) → All (λ k. k < n) tail
+        → LeadsTo (replaced stack below tail)
+    unfolding replaced
+    by-tail [] e h = by-none e
+    by-tail (m ∷ tail) e h = by-room m tail e h (ltb (length stack) (suc below + length tail)) refl
 
-  -- Where the taker's tail stands, for one that was found.
-  pub found-tail : (base entry : ℕ) → taker productions empty stack depth rule ≡ At base entry
-      → (0 < entry) × (entry + getD bytes (entry - 1) 0 ≤ length bytes) × (base < length stack)
-  found-tail base entry e = tail-within base entry (taker-known base entry e)
+  by-taker : (t : Taker) → TakesAs bytes starts n stack taken-by-rows depth t → LeadsTo (replace-taker bytes starts stack t)
+  unfolding replace-taker
+  by-taker Nothing r = r
+  by-taker (At below m entry) r =
+      subst (λ (l : List ℕ). LeadsTo (replaced stack below l)) (sym (r .there .tail-is))
+      (by-tail below (r .under) (r .behind) (r .tail) (r .next-is) (r .there .below))
+
+  abbrev known-taker : TakesAs bytes starts n stack taken-by-rows depth (taker productions empty stack depth first rule)
+  known-taker = taker-takes bytes starts productions empty rows n (ready .held) stack rule small depth first (ready .below)
+
+  pub take-leads : LeadsTo (take-step bytes starts productions empty stack depth first rule)
+  unfolding take-step
+  take-leads = by-taker (taker productions empty stack depth first rule) known-taker
+
+  -- What replacing a taker that was found asks.
+  pub found-taker : (below m entry : ℕ) → taker productions empty stack depth first rule ≡ At below m entry
+      → (below < length stack) × (m < 64) × ((tail : List ℕ) × EntryTail bytes (getD starts m 0) n entry tail)
+  found-taker below m entry e =
+      let x = subst (TakesAs bytes starts n stack taken-by-rows depth) e known-taker in
+      (omega (arith, x .under, ready .inside), omega (arith, x .nonterminal, ready .most), (x .tail, x .there))

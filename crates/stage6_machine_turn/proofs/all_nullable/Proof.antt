@@ -1,4 +1,4 @@
--- `all_nullable` meets its contract. The loop's invariant: those above the entries that are left are nullable.
+-- `all_nullable` meets its contract. The loop's invariant: those before the ones that are left are nullable.
 use mathlib.Core.Path.{_≡_, refl, sym, _∙_}
 use Prim.Native.Nat.{_≤_, _<_}
 use native.Mathlib.Omega.{arith}
@@ -7,19 +7,19 @@ use borrow.Author.Tests.{not-true, not-false}
 use Rattle.stage0_laws.specs.Lists.{All}
 use Rattle.stage6_machine_turn.specs.Stack.{pending}
 use Rattle.stage6_machine_turn.specs.Steps.{all-members}
-use Rattle.stage6_machine_turn.specs.StackLaws.{all-top}
+use Rattle.stage6_machine_turn.specs.StackLaws.{all-behind}
 use Rattle.stage6_machine_turn.proofs.Entries.{members-stop, members-pass, members-none}
 use Rattle.stage6_machine_turn.proofs.all_nullable.Statement.{statement}
 use Rattle.stage6_machine_turn.proofs.all_nullable.Tie as tie
 
 abbrev Inv-loop : tie.InvT-loop
-Inv-loop empty stack depth left₀ left =
+Inv-loop empty stack depth first left₀ nonterminal₀ left nonterminal =
     (left ≤ length stack)
-    × All (λ m. m < 64) (pending stack left)
-    × (all-members empty (pending stack left) ≡ all-members empty (pending stack depth))
+    × All (λ m. m < 64) (pending stack left nonterminal)
+    × (all-members empty (pending stack left nonterminal) ≡ all-members empty (pending stack depth first))
 
 abbrev μ-loop : tie.MeasureT-loop
-μ-loop empty stack depth left₀ left = left
+μ-loop empty stack depth first left₀ nonterminal₀ left nonterminal = left
 
 loop-holds : tie.Need-loop-holds Inv-loop μ-loop
 loop-holds c = (c .before .pre .0, c .before .pre .1, refl)
@@ -27,34 +27,37 @@ loop-holds c = (c .before .pre .0, c .before .pre .1, refl)
 sub-left : tie.Need-sub-left Inv-loop μ-loop
 sub-left c = omega arith
 
-shared-slice-read-is-member : tie.Need-shared-slice-read-is-member Inv-loop μ-loop
-shared-slice-read-is-member c = omega (arith, c .before .before .loop .inv .0, c .before .loop-test .taken)
-
 is-member-requires : tie.Need-is-member-requires Inv-loop μ-loop
-is-member-requires c κs = all-top 64 _ _ (c .before .loop-test .taken) (c .before .before .loop .inv .1) .0
+is-member-requires c κs = all-behind 64 _ _ _ (c .loop-test .taken) (c .before .loop .inv .1) .0
 
 returns : tie.Need-returns Inv-loop μ-loop
 returns c =
     let member = c .before in
-    let turn = member .before .before in
+    let turn = member .before in
     let l = turn .before .loop in
-    members-stop _ _ _ (turn .loop-test .taken) (sym (member .is-member .ensures) ∙ not-true _ (c .if1 .taken)) ∙ l .inv .2
+    members-stop _ _ _ _ (turn .loop-test .taken) (sym (member .is-member .ensures) ∙ not-true _ (c .if1 .taken)) ∙ l .inv .2
+
+shared-slice-read-nonterminal : tie.Need-shared-slice-read-nonterminal Inv-loop μ-loop
+shared-slice-read-nonterminal c =
+    let turn = c .before .before .before in
+    omega (arith, turn .before .loop .inv .0, turn .loop-test .taken)
 
 loop-less : tie.Need-loop-less Inv-loop μ-loop
 loop-less c = omega (arith, c .before .before .before .loop-test .taken)
 
 loop-again : tie.Need-loop-again Inv-loop μ-loop
 loop-again c =
-    let member = c .before in
-    let turn = member .before .before in
+    let tested = c .before in
+    let member = tested .before in
+    let turn = member .before in
     let l = turn .before .loop in (
       omega (arith, l .inv .0),
-      all-top 64 _ _ (turn .loop-test .taken) (l .inv .1) .1,
-      members-pass _ _ _ (turn .loop-test .taken) (sym (member .is-member .ensures) ∙ not-false _ (c .if1 .left)) ∙ l .inv .2,
+      all-behind 64 _ _ _ (turn .loop-test .taken) (l .inv .1) .1,
+      members-pass _ _ _ _ (turn .loop-test .taken) (sym (member .is-member .ensures) ∙ not-false _ (tested .if1 .left)) ∙ l .inv .2,
     )
 
 returns-2 : tie.Need-returns-2 Inv-loop μ-loop
-returns-2 c = members-none _ _ _ (c .loop-test .left) ∙ c .before .loop .inv .2
+returns-2 c = members-none _ _ _ _ (c .loop-test .left) ∙ c .before .loop .inv .2
 
 pub all-nullable-spec : {M : Type 1} → statement M
 all-nullable-spec =
@@ -64,9 +67,9 @@ all-nullable-spec =
     μ-loop
     loop-holds
     sub-left
-    shared-slice-read-is-member
     is-member-requires
     returns
+    shared-slice-read-nonterminal
     loop-less
     loop-again
     returns-2)

@@ -4,7 +4,7 @@ use Prim.Native.Nat.{_+_, _<_}
 use native.Mathlib.Omega.{arith}
 use Rattle.stage4_lexer_scanner.specs.declared.Found.{Found}
 use Rattle.stage6_machine_turn.specs.Steps.{step-after-take, MatchFits}
-use Rattle.stage6_machine_turn.specs.declared.Taken.the-variants.{Depth, NoTaker, TooDeep}
+use Rattle.stage6_machine_turn.specs.declared.Taken.the-variants.{Pending, NoTaker, TooDeep}
 use Rattle.stage6_machine_turn.proofs.Answers.{step-unmatched, step-skips, step-takes, step-answers}
 use borrow.Author.Needs.{needs}
 use Rattle.stage6_machine_turn.proofs.one_turn.Statement.{statement}
@@ -29,19 +29,19 @@ answer-requires : tie.Need-answer-requires
 answer-requires c κs = search needs
 
 returns : tie.Need-returns
-returns c = step-unmatched _ _ _ _ _ _ _ (c .before .enum-told .given .1) _ (c .answer .ensures)
+returns c = step-unmatched _ _ _ _ _ _ _ _ (c .before .enum-told .given .1) _ (c .answer .ensures)
 
 is-member-requires : tie.Need-is-member-requires
 is-member-requires c κs = let w = fits (c .before) in omega (arith, w .0)
 
-add-t14 : tie.Need-add-t14
-add-t14 c = let w = fits (c .before .before .before .before) in omega (arith, w .1)
+add-t16 : tie.Need-add-t16
+add-t16 c = let w = fits (c .before .before .before .before) in omega (arith, w .1)
 
 returns-2 : tie.Need-returns-2
 returns-2 c =
     let tested = c .before in
     let found = tested .before .before .before in
-    step-skips _ _ _ _ _ _ _ _ _ (found .found .given .1) (sym (tested .before .is-member .ensures) ∙ tested .if1 .taken)
+    step-skips _ _ _ _ _ _ _ _ _ _ (found .found .given .1) (sym (tested .before .is-member .ensures) ∙ tested .if1 .taken)
 
 take-rule-requires : tie.Need-take-rule-requires
 take-rule-requires c κs =
@@ -65,7 +65,7 @@ returns-3 c =
     let tested = take .before .before in
     let found = tested .before .before .before in
     let s = sym (tested .before .is-member .ensures) ∙ tested .if1 .left in
-    step-answers _ _ _ _ _ _ _ _ _ (found .found .given .1) s _ _ (take .take-rule .ensures) NoTaker (c .before .enum-told2 .given .1) _ _
+    step-answers _ _ _ _ _ _ _ _ _ _ (found .found .given .1) s _ _ (take .take-rule .ensures) NoTaker (c .before .enum-told2 .given .1) _ _
     (c .answer2 .ensures) refl
 
 enum-told-3 : tie.Need-enum-told-3
@@ -84,19 +84,19 @@ returns-4 c =
     let tested = take .before .before in
     let found = tested .before .before .before in
     let s = sym (tested .before .is-member .ensures) ∙ tested .if1 .left in
-    step-answers _ _ _ _ _ _ _ _ _ (found .found .given .1) s _ _ (take .take-rule .ensures) TooDeep (c .before .enum-told3 .given .1) _ _
+    step-answers _ _ _ _ _ _ _ _ _ _ (found .found .given .1) s _ _ (take .take-rule .ensures) TooDeep (c .before .enum-told3 .given .1) _ _
     (c .answer3 .ensures) refl
 
 enum-known-taken : tie.Need-enum-known-taken
 enum-known-taken c = search needs
 
-add-t20 : tie.Need-add-t20
-add-t20 c =
+add-t22 : tie.Need-add-t22
+add-t22 c =
     let w = fits (c .before .before .before .before .before .before .before .before .before .before .before) in
     omega (arith, w .1)
 
-add-t21 : tie.Need-add-t21
-add-t21 c =
+add-t23 : tie.Need-add-t23
+add-t23 c =
     let w = fits (c .before .before .before .before .before .before .before .before .before .before .before .before) in
     omega (arith, w .1, w .2)
 
@@ -111,7 +111,8 @@ returns-5 c =
     let found = tested .before .before .before in
     let s = sym (tested .before .is-member .ensures) ∙ tested .if1 .left in
     let known = c .before .before .before in
-    step-takes _ _ _ _ _ _ _ _ _ (found .found .given .1) s _ _ (take .take-rule .ensures) (Depth (known .taken .given .0 .0)) (known .taken .given .1)
+    step-takes _ _ _ _ _ _ _ _ _ _ (found .found .given .1) s _ _ (take .take-rule .ensures)
+    (Pending (known .taken .given .0 .0) (known .taken .given .0 .1 .0)) (known .taken .given .1)
 
 pub one-turn-spec : {M : Type 1} → statement M
 one-turn-spec =
@@ -122,7 +123,7 @@ one-turn-spec =
     answer-requires
     returns
     is-member-requires
-    add-t14
+    add-t16
     returns-2
     take-rule-requires
     enum-told-2
@@ -134,7 +135,7 @@ one-turn-spec =
     same-length-2
     returns-4
     enum-known-taken
-    add-t20
-    add-t21
+    add-t22
+    add-t23
     same-length-3
     returns-5)

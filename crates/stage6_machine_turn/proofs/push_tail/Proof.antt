@@ -5,8 +5,8 @@ use Prim.Native.Nat.{ℕ, _+_, _-_, _≤_}
 use native.Mathlib.Omega.{arith}
 use lib.ListN.{length, set, getD}
 use denote.Ref.{now}
+use Rattle.stage5_image_reader.specs.Tables.{part}
 use Rattle.stage6_machine_turn.specs.Stack.{pushed}
-use Rattle.stage6_machine_turn.specs.Steps.{part}
 use Rattle.stage6_machine_turn.specs.StackLaws.{length-pushed}
 use Rattle.stage6_machine_turn.proofs.Pushing.{push-start, push-more, push-end}
 use Rattle.stage6_machine_turn.proofs.push_tail.Statement.{statement}
