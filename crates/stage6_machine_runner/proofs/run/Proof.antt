@@ -1,11 +1,12 @@
 -- `run` meets its contract: one law for each answer.
-use mathlib.Core.Path.{sym, ap, _∙_}
+use mathlib.Core.Path.{refl, sym, ap, _∙_}
 use Prim.Native.Nat.{ℕ}
 use native.Mathlib.Omega.{arith}
 use lib.ListN.{length, replicate}
 use denote.Ref.{now}
 use Rattle.stage0_buffers.specs.Cleared.{cleared-all}
 use Rattle.stage5_image.specs.ReadableImages.{read-in-range}
+use Rattle.stage5_image_reader.proofs.Whole.{room-whole}
 use Rattle.stage6_machine_turn.specs.Steps.{answer-held}
 use Rattle.stage6_machine.specs.RunsLaws.{run-long, run-stop, run-got}
 use Rattle.stage6_machine_runner.proofs.Ending.{stack-kept-12, stack-kept-13}
@@ -24,7 +25,7 @@ returns c =
     (e ∙ sym (run-long _ _ _ (c .before .if1 .taken)), stack-kept-12 _ _ e)
 
 read-image-requires : tie.Need-read-image-requires
-read-image-requires c κs = search needs
+read-image-requires c κs = (refl, refl, refl, refl, refl, room-whole)
 
 enum-known-outcome : tie.Need-enum-known-outcome
 enum-known-outcome c = search needs
@@ -39,14 +40,14 @@ returns-2 c =
     let read = known .before .before in
     let e = ap answer-held (c .answer2 .ensures) in
     let refused = read .read-image .ensures .refusal (known .outcome .given .1) in
-    (e ∙ sym (run-stop _ _ _ (read .before .if1 .left) 13 _ (refused .0)), stack-kept-13 _ _ _ e)
+    (e ∙ sym (run-stop _ _ _ (read .before .before .before .before .before .before .before .if1 .left) 13 _ refused), stack-kept-13 _ _ _ e)
 
 enum-told : tie.Need-enum-told
 enum-told c = search needs
 
 run-image-requires : tie.Need-run-image-requires
 run-image-requires c κs =
-    let told = c .before .before .before .before in
+    let told = c .before .before .before .before .before .before .before in
     let read = told .before .before in
     let readable = read .read-image .ensures .readable (told .enum-told .given .1) in
     (readable .0, readable .2, read-in-range _ _ _ (readable .1) .0)
@@ -61,16 +62,16 @@ returns-3 : tie.Need-returns-3
 returns-3 c =
     let cleared = c .before .before in
     let ran = cleared .before .before .before .before in
-    let told = ran .before .before .before .before .before in
+    let told = ran .before .before .before .before .before .before .before .before in
     let read = told .before .before in
-    let start = read .before .before .before .before .before in
+    let start = read .before .before .before .before .before .before .before .before .before .before .before in
     let readable = read .read-image .ensures .readable (told .enum-told .given .1) in
     let answers = ran .run-image .ensures (readable .0) (readable .2) in
-    let left = ran .run-image .last .1 .1 .1 .1 .1 .1 .1 .1 .0 in (
-      answers ∙ sym (run-got _ _ _ (read .before .if1 .left) (readable .0) _ (readable .1)),
+    let left = ran .run-image .last .1 .1 .1 .1 .1 .1 .1 .1 .1 .0 in (
+      answers ∙ sym (run-got _ _ _ (read .before .before .before .before .before .before .before .if1 .left) (readable .0) _ (readable .1)),
       cleared .clear-front .ensures
           ∙ cleared-all (length left) left (omega arith)
-          ∙ ap (λ (k : ℕ). replicate k 0) (ran .run-image .kept .1 .1 .1 .1 .1 .1 .1 .1 .0)
+          ∙ ap (λ (k : ℕ). replicate k 0) (ran .run-image .kept .1 .1 .1 .1 .1 .1 .1 .1 .1 .0)
           ∙ stack-cleared (readable .0) _ _ _ (now (start .args .stack)) answers,
     )
 

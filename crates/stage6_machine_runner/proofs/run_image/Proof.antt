@@ -3,13 +3,11 @@ use borrow.Author.Needs.{needs}
 use mathlib.Core.Path.{_≡_, refl, sym, ap, _∙_}
 use Prim.Native.Nat.{_-_, _<_}
 use native.Mathlib.Omega.{arith}
-use lib.ListN.{length, set, length-set}
-use lib.Seq.{getD-set-same}
+use lib.ListN.{length}
 use denote.Ref.{now}
 use Rattle.stage4_lexer_scanner.specs.Meaning.{match-of}
 use Rattle.stage5_image.specs.Image.{Image}
-use Rattle.stage5_image_reader.specs.Decoded.{Decoded, tables-from}
-use Rattle.stage5_image_reader.specs.declared.ImageTables.{ImageTables}
+use Rattle.stage5_image_reader.specs.Decoded.{ImageTables, Decoded, tables-of}
 use Rattle.stage6_machine.specs.Run.{match-at, run-from, first-state}
 use Rattle.stage6_machine_turn.specs.Steps.{answer-held, turn-step, MatchFits}
 use Rattle.stage6_machine_turn.specs.declared.Turn.the-variants.{Next, Done}
@@ -21,29 +19,30 @@ use Rattle.stage6_machine_runner.proofs.run_image.Statement.{statement}
 use Rattle.stage6_machine_runner.proofs.run_image.Tie as tie
 
 abbrev Inv-loop : tie.InvT-loop
-Inv-loop image rules skips nonterminals empty productions text stack₀ positions classes state₀ stack state =
+Inv-loop image read low high rule follow starts productions text stack₀ classes state₀ stack state =
     (length stack ≡ length stack₀)
-    × ((i : Image) → Decoded image (tables-from rules skips positions nonterminals empty productions) i
-    → Going i image (tables-from rules skips positions nonterminals empty productions) text stack state
+    × ((i : Image) → Decoded image (tables-of read low high rule follow starts productions) i
+    → Going i image (tables-of read low high rule follow starts productions) text stack state
     (run-from i (length stack₀) text (length text) first-state))
 
 abbrev μ-loop : tie.MeasureT-loop
-μ-loop image rules skips nonterminals empty productions text stack₀ positions classes state₀ stack state = length text - state .place
+μ-loop image read low high rule follow starts productions text stack₀ classes state₀ stack state = length text - state .place
 
 -- The start, from the head of the loop.
 abbrev start-of : tie.At-loop Inv-loop μ-loop → tie.Start Inv-loop μ-loop
-start-of head = head .before .before .before .before .before .before .before .before .before .before
+start-of head = head .before .before .before .before .before .before .before
 
 abbrev scan-head : tie.After-longest-match Inv-loop μ-loop → tie.At-loop Inv-loop μ-loop
-scan-head c = c .before .before .before .before .before .before .before .before .before .before
+scan-head c = c .before .before .before .before .before
 
--- The machine's tables, from their parts, and that they hold an image.
-abbrev tables-of : tie.Start Inv-loop μ-loop → ImageTables
-tables-of s =
-    let a = s .args in tables-from (a .rules) (a .skips) (a .t4) (a .nonterminals) (a .empty) (now (a .productions))
+-- The machine's tables, and that they hold an image.
+abbrev tables-here : tie.Start Inv-loop μ-loop → ImageTables
+tables-here s =
+    let a = s .args in
+    tables-of (a .read) (now (a .low)) (now (a .high)) (now (a .rule)) (now (a .follow)) (now (a .starts)) (now (a .productions))
 
 abbrev Held : tie.Start Inv-loop μ-loop → Image → Type 0
-Held s i = Decoded (now (s .args .image)) (tables-of s) i
+Held s i = Decoded (now (s .args .image)) (tables-here s) i
 
 -- ---- what is known within a turn, for any image that the tables hold
 
@@ -53,11 +52,11 @@ found-here : (c : tie.After-longest-match Inv-loop μ-loop) (i : Image) → Held
 found-here c i w =
     let head = scan-head c in
     let start = start-of head in
-    scanned i (now (start .args .image)) (tables-of start) w (now (start .args .text)) (head .loop .state .place) (c .longest-match .result)
+    scanned i (now (start .args .image)) (tables-here start) w (now (start .args .text)) (head .loop .state .place) (c .longest-match .result)
     (c .longest-match .ensures)
 
 more-here : (c : tie.After-longest-match Inv-loop μ-loop) → scan-head c .loop .state .place < length (now (start-of (scan-head c) .args .text))
-more-here c = c .before .before .before .before .before .before .before .before .if2 .taken
+more-here c = c .before .before .before .if2 .taken
 
 small : (c : tie.After-shared-slice-known2 Inv-loop μ-loop) → length (now (c .before .before .args .text)) < 18446744073709551616
 small c = omega arith
@@ -69,8 +68,8 @@ fits-here c i w =
     let head = scan-head c in
     let l = head .loop in
     let a = start-of head .args in
-    going-fits i (now (a .image)) (tables-of (start-of head)) w (now (a .text)) (l .stack) (l .state) _ (l .inv .1 i w) (more-here c)
-    (c .longest-match .result) (found-here c i w) (small (head .before .before .before .before .before .before .before .before))
+    going-fits i (now (a .image)) (tables-here (start-of head)) w (now (a .text)) (l .stack) (l .state) _ (l .inv .1 i w) (more-here c)
+    (c .longest-match .result) (found-here c i w) (small (head .before .before .before .before .before))
 
 -- From what a turn leaves to the match and the head of the loop.
 abbrev turn-scan : tie.After-one-turn Inv-loop μ-loop → tie.After-longest-match Inv-loop μ-loop
@@ -85,8 +84,8 @@ next-here : (c : tie.After-after2 Inv-loop μ-loop) (i : Image)
     let head = scan-head (turn-scan turn) in
     let a = start-of head .args in
     Held (start-of head) i
-    → Going i (now (a .image)) (tables-of (start-of head)) (now (a .text)) (turn .one-turn .last .1 .1 .1 .1 .0) (c .after2 .given .0 .0)
-    (run-from i (length (set (now (a .stack)) 0 0)) (now (a .text)) (length (now (a .text))) first-state)
+    → Going i (now (a .image)) (tables-here (start-of head)) (now (a .text)) (turn .one-turn .last .1 .1 .1 .1 .1 .0) (c .after2 .given .0 .0)
+    (run-from i (length (now (a .stack))) (now (a .text)) (length (now (a .text))) first-state)
     × (head .loop .state .place < c .after2 .given .0 .0 .place)
 next-here c i w =
     let turn = next-turn c in
@@ -94,12 +93,12 @@ next-here c i w =
     let head = scan-head scan in
     let l = head .loop in
     let a = start-of head .args in
-    let t = tables-of (start-of head) in
-    let e : turn-step (now (a .image)) (t .productions) (t .empty) (t .skips) (l .stack) (scan .longest-match .result) (l .state) .outcome
+    let t = tables-here (start-of head) in
+    let e : turn-step (now (a .image)) (t .starts) (t .productions) (t .empty) (t .skips) (l .stack) (scan .longest-match .result) (l .state) .outcome
     ≡ Next (c .after2 .given .0 .0) = sym (turn .one-turn .ensures .0) ∙ c .after2 .given .1 in
     going-next i (now (a .image)) t w (now (a .text)) (l .stack) (l .state) _ (l .inv .1 i w) (more-here scan)
     (scan .longest-match .result) (found-here scan i w) (fits-here scan i w) _ (c .after2 .given .0 .0)
-    (turn .one-turn .kept .1 .1 .1 .1 .0) (turn .one-turn .ensures .1) e
+    (turn .one-turn .kept .1 .1 .1 .1 .1 .0) (turn .one-turn .ensures .1) e
 
 answer-requires : tie.Need-answer-requires Inv-loop μ-loop
 answer-requires c κs = tt
@@ -110,12 +109,9 @@ returns c =
     let start = c .before .before .before .before .before in
     λ i w. ap answer-held (c .answer .ensures) ∙ run-no-entry i _ (now (start .args .text)) (c .before .if1 .taken)
 
-slice-write-stack : tie.Need-slice-write-stack Inv-loop μ-loop
-slice-write-stack c = search needs
-
 class-table-requires : tie.Need-class-table-requires Inv-loop μ-loop
 class-table-requires c κs =
-    let w = c .before .before .before .before .before .before .before .pre in
+    let w = c .before .before .before .before .pre in
     (w .1 .most-positions, low-high _ _ _ (w .1) (w .2))
 
 first-state-requires : tie.Need-first-state-requires Inv-loop μ-loop
@@ -123,13 +119,8 @@ first-state-requires c κs = tt
 
 loop-holds : tie.Need-loop-holds Inv-loop μ-loop
 loop-holds c =
-    let start = c .before .before .before .before .before .before .before .before .before in
-    let entry = now (start .args .stack) in
-    let room : 0 < length entry = omega (arith, c .before .before .before .before .before .if1 .left) in (
-      refl,
-      λ i w. going-first i _ _ w _ (set entry 0 0) (c .first-state .ensures) (getD-set-same entry 0 0 0 room)
-          (omega (arith, room, length-set entry 0 0)),
-    )
+    let room = c .before .before .if1 .left in
+    (refl, λ i w. going-first i _ _ w _ _ (c .first-state .ensures) room)
 
 sub-longest-match : tie.Need-sub-longest-match Inv-loop μ-loop
 sub-longest-match c = search needs
@@ -142,7 +133,7 @@ part-longest-match-end c = search needs
 
 longest-match-requires : tie.Need-longest-match-requires Inv-loop μ-loop
 longest-match-requires c κs =
-    let head = c .before .before .before .before .before .before .before .before .before in
+    let head = c .before .before .before .before in
     let w = start-of head .pre in
     (w .1 .most-positions, prepared _ _ _ (w .1) (w .2) _ (head .before .before .class-table .ensures _ _ _))
 
@@ -158,10 +149,10 @@ enum-known-after c = search needs
 
 -- The stack keeps its length.
 kept-here : (turn : tie.After-one-turn Inv-loop μ-loop)
-    → length (turn .one-turn .last .1 .1 .1 .1 .0) ≡ length (now (start-of (scan-head (turn-scan turn)) .args .stack))
+    → length (turn .one-turn .last .1 .1 .1 .1 .1 .0) ≡ length (now (start-of (scan-head (turn-scan turn)) .args .stack))
 kept-here turn =
     let head = scan-head (turn-scan turn) in
-    turn .one-turn .kept .1 .1 .1 .1 .0 ∙ head .loop .inv .0 ∙ length-set (now (start-of head .args .stack)) 0 0
+    turn .one-turn .kept .1 .1 .1 .1 .1 .0 ∙ head .loop .inv .0
 
 same-length : tie.Need-same-length Inv-loop μ-loop
 same-length c = kept-here (c .before .before .before .before .before)
@@ -173,14 +164,14 @@ returns-2 c =
     let head = scan-head scan in
     let l = head .loop in
     let a = start-of head .args in
-    let t = tables-of (start-of head) in
+    let t = tables-here (start-of head) in
     let done = c .before .after .given .0 .0 in
-    let e : turn-step (now (a .image)) (t .productions) (t .empty) (t .skips) (l .stack) (scan .longest-match .result) (l .state) .outcome ≡ Done done =
+    let e : turn-step (now (a .image)) (t .starts) (t .productions) (t .empty) (t .skips) (l .stack) (scan .longest-match .result) (l .state) .outcome ≡ Done done =
     sym (turn .one-turn .ensures .0) ∙ c .before .after .given .1 in
     λ i w.
     let g = going-done i (now (a .image)) t w (now (a .text)) (l .stack) (l .state) _ (l .inv .1 i w) (more-here scan)
     (scan .longest-match .result) (found-here scan i w) (fits-here scan i w) done e in
-    run-some-entry i _ _ _ (length-set (now (a .stack)) 0 0) (head .before .before .before .before .before .before .if1 .left) _ g
+    run-some-entry i _ _ (head .before .before .before .if1 .left) _ g
 
 enum-known-after-2 : tie.Need-enum-known-after-2 Inv-loop μ-loop
 enum-known-after-2 c = search needs
@@ -194,7 +185,7 @@ loop-less c =
 loop-again : tie.Need-loop-again Inv-loop μ-loop
 loop-again c =
     let turn = next-turn (c .before) in
-    (turn .one-turn .kept .1 .1 .1 .1 .0 ∙ scan-head (turn-scan turn) .loop .inv .0, λ i w. next-here (c .before) i w .0)
+    (turn .one-turn .kept .1 .1 .1 .1 .1 .0 ∙ scan-head (turn-scan turn) .loop .inv .0, λ i w. next-here (c .before) i w .0)
 
 at-end-requires : tie.Need-at-end-requires Inv-loop μ-loop
 at-end-requires c κs =
@@ -205,7 +196,7 @@ at-end-requires c κs =
 same-length-2 : tie.Need-same-length-2 Inv-loop μ-loop
 same-length-2 c =
     let head = c .before .before .before .before in
-    head .loop .inv .0 ∙ length-set (now (start-of head .args .stack)) 0 0
+    head .loop .inv .0
 
 returns-3 : tie.Need-returns-3 Inv-loop μ-loop
 returns-3 c =
@@ -213,8 +204,8 @@ returns-3 c =
     let l = head .loop in
     let a = start-of head .args in
     λ i w.
-    let g = going-ends i (now (a .image)) (tables-of (start-of head)) w (now (a .text)) (l .stack) (l .state) _ (l .inv .1 i w) (c .before .before .if2 .left) in
-    run-some-entry i _ _ _ (length-set (now (a .stack)) 0 0) (head .before .before .before .before .before .before .if1 .left) _ (ap answer-held (c .at-end .ensures) ∙ g)
+    let g = going-ends i (now (a .image)) (tables-here (start-of head)) w (now (a .text)) (l .stack) (l .state) _ (l .inv .1 i w) (c .before .before .if2 .left) in
+    run-some-entry i _ _ (head .before .before .before .if1 .left) _ (ap answer-held (c .at-end .ensures) ∙ g)
 
 pub run-image-spec : {M : Type 1} → statement M
 run-image-spec =
@@ -224,7 +215,6 @@ run-image-spec =
     μ-loop
     answer-requires
     returns
-    slice-write-stack
     class-table-requires
     first-state-requires
     loop-holds
