@@ -1,4 +1,4 @@
--- What a run with a table promises, by how it begins: turned promised-away, or with the table built.
+-- What a run with a table promises, by how it begins: turned away, or with the table built.
 use mathlib.Core.Path.{_≡_, sym, ap, subst, _∙_}
 use mathlib.Core.Bool.{Bool, true, false, true≢false, not, cond}
 use mathlib.Core.List.{List}
@@ -8,15 +8,7 @@ use lib.ListN.{length, replicate}
 use borrow.Author.Tests.{leb-true, leb-false}
 use Rattle.stage4_lexer.specs.Positions.{Position}
 use Rattle.stage4_lexer.specs.Table.{most-rows, table-rows, table-entries, table-winners, written-over}
-use Rattle.stage4_lexer_classes.specs.ClassTable.{ClassTable}
-use Rattle.stage4_lexer_columns.specs.Held.{held-from}
-use Rattle.stage4_lexer_columns.specs.declared.PositionColumns.{PositionColumns}
-use Rattle.stage4_lexer_scanner.specs.Meaning.{Prepared}
 use Rattle.stage5_image.specs.Image.{Image}
-use Rattle.stage5_image.specs.ImageRanges.{InRange}
-use Rattle.stage5_image_reader.specs.Decoded.{Decoded}
-use Rattle.stage5_image_reader.specs.declared.ImageTables.{ImageTables}
-use Rattle.stage6_machine_runner.proofs.Prepared.{prepared}
 use Rattle.stage6_machine.specs.Answer.{Answer, answer}
 use Rattle.stage6_machine.specs.Run.{run-image}
 use Rattle.stage6_machine.specs.TableRun.{lent-entries, rows-of, entries-of, winners-of, Beginning, turned-away, table-built, beginning, answer-after, run-table}
@@ -53,15 +45,6 @@ module _ (image text table winners stack : List ℕ) where
     w ∙ sym (ap (λ (b : Beginning). winners-after b winners) e),
     s ∙ sym (ap (λ (b : Beginning). table-stack-after b stack) e),
   )
-
--- With the class table of an image's columns, the scanner's step may be taken.
-pub columns-prepared : (bytes : List ℕ) (t : ImageTables) (i : Image) → Decoded bytes t i → InRange i → (c : PositionColumns) → t .positions ≡ c
-    → (classes : List ℕ) → ClassTable (held-from (c .low) (c .high) (c .rule) (c .follow) (c .last) 0 (c .count)) classes
-    → Prepared (held-from (c .low) (c .high) (c .rule) (c .follow) (c .last) 0 (c .count)) classes
-columns-prepared bytes t i d range c e classes =
-    subst (λ (c : PositionColumns).
-    ClassTable (held-from (c .low) (c .high) (c .rule) (c .follow) (c .last) 0 (c .count)) classes
-    → Prepared (held-from (c .low) (c .high) (c .rule) (c .follow) (c .last) 0 (c .count)) classes) e (prepared bytes t i d range classes)
 
 -- What is built of some positions, of equal ones.
 abbrev pub BuiltFrom : List Position → ℕ → Bool → List ℕ → List ℕ → List ℕ → List ℕ → Type 0

@@ -2,16 +2,14 @@
 -- answer.
 use borrow.Author.Needs.{needs}
 use mathlib.Core.Path.{_≡_, refl, sym, ap, _∙_}
-use Prim.Native.Nat.{_-_, _<_}
+use mathlib.Core.List.{List}
+use Prim.Native.Nat.{ℕ, _-_, _<_}
 use native.Mathlib.Omega.{arith}
-use lib.ListN.{length, set, length-set}
-use lib.Seq.{getD-set-same}
+use lib.ListN.{length}
 use denote.Ref.{now}
 use Rattle.stage4_lexer_scanner.specs.Meaning.{match-of}
-use Rattle.stage4_lexer_columns.specs.declared.PositionColumns.{PositionColumns}
 use Rattle.stage5_image.specs.Image.{Image}
-use Rattle.stage5_image_reader.specs.Decoded.{tables-from}
-use Rattle.stage5_image_reader.specs.declared.ImageTables.{ImageTables}
+use Rattle.stage5_image_reader.specs.Decoded.{ImageTables, tables-of}
 use Rattle.stage6_machine.specs.Run.{match-at, run-from, first-state}
 use Rattle.stage6_machine_turn.specs.Steps.{answer-held, turn-step, MatchFits}
 use Rattle.stage6_machine_turn.specs.declared.Turn.the-variants.{Next, Done}
@@ -24,14 +22,15 @@ use Rattle.stage6_machine_table.proofs.run_rows.Statement.{statement}
 use Rattle.stage6_machine_table.proofs.run_rows.Tie as tie
 
 abbrev Inv-loop : tie.InvT-loop
-Inv-loop image rules skips nonterminals empty productions text table winners stack₀ state₀ stack state =
+Inv-loop image read starts productions text table winners stack₀ state₀ stack state =
     (length stack ≡ length stack₀)
-    × ((p : PositionColumns) (i : Image) → WithTable image (tables-from rules skips p nonterminals empty productions) table winners i
-    → Going i image (tables-from rules skips p nonterminals empty productions) text stack state
+    × ((low high rule follow : List ℕ) (i : Image)
+    → WithTable image (tables-of read low high rule follow starts productions) table winners i
+    → Going i image (tables-of read low high rule follow starts productions) text stack state
     (run-from i (length stack₀) text (length text) first-state))
 
 abbrev μ-loop : tie.MeasureT-loop
-μ-loop image rules skips nonterminals empty productions text table winners stack₀ state₀ stack state = length text - state .place
+μ-loop image read starts productions text table winners stack₀ state₀ stack state = length text - state .place
 
 -- The start, from the head of the loop.
 abbrev start-of : tie.At-loop Inv-loop μ-loop → tie.Start Inv-loop μ-loop
@@ -40,20 +39,21 @@ start-of head = head .before .before .before .before .before .before .before .be
 abbrev scan-head : tie.After-match-by-rows Inv-loop μ-loop → tie.At-loop Inv-loop μ-loop
 scan-head c = c .before .before .before .before
 
--- The machine's tables, from their parts, and what a run by rows relies on.
-abbrev tables-of : tie.Start Inv-loop μ-loop → PositionColumns → ImageTables
-tables-of s p =
-    let a = s .args in tables-from (a .rules) (a .skips) p (a .nonterminals) (a .empty) (now (a .productions))
+-- The machine's tables with any columns, and what a run by rows relies on.
+abbrev tables-here : tie.Start Inv-loop μ-loop → List ℕ → List ℕ → List ℕ → List ℕ → ImageTables
+tables-here s low high rule follow =
+    let a = s .args in tables-of (a .read) low high rule follow (now (a .starts)) (now (a .productions))
 
-abbrev With : tie.Start Inv-loop μ-loop → PositionColumns → Image → Type 0
-With s p i = WithTable (now (s .args .image)) (tables-of s p) (now (s .args .table)) (now (s .args .winners)) i
+abbrev With : tie.Start Inv-loop μ-loop → List ℕ → List ℕ → List ℕ → List ℕ → Image → Type 0
+With s low high rule follow i =
+    WithTable (now (s .args .image)) (tables-here s low high rule follow) (now (s .args .table)) (now (s .args .winners)) i
 
 -- ---- what is known within a turn, for any image that the tables hold
 
 -- What was found is the image's longest match.
-found-here : (c : tie.After-match-by-rows Inv-loop μ-loop) (p : PositionColumns) (i : Image) → With (start-of (scan-head c)) p i
+found-here : (c : tie.After-match-by-rows Inv-loop μ-loop) (low high rule follow : List ℕ) (i : Image) → With (start-of (scan-head c)) low high rule follow i
     → match-of (c .match-by-rows .result) ≡ match-at i (now (start-of (scan-head c) .args .text)) (scan-head c .loop .state .place)
-found-here c p i w =
+found-here c low high rule follow i w =
     let head = scan-head c in
     let a = start-of head .args in
     let known = head .before .before .before .before .before .before in
@@ -67,14 +67,14 @@ small : (c : tie.After-shared-slice-known2 Inv-loop μ-loop) → length (now (c 
 small c = omega arith
 
 -- It fits the state.
-fits-here : (c : tie.After-match-by-rows Inv-loop μ-loop) (p : PositionColumns) (i : Image) → With (start-of (scan-head c)) p i
+fits-here : (c : tie.After-match-by-rows Inv-loop μ-loop) (low high rule follow : List ℕ) (i : Image) → With (start-of (scan-head c)) low high rule follow i
     → MatchFits (c .match-by-rows .result) (scan-head c .loop .state)
-fits-here c p i w =
+fits-here c low high rule follow i w =
     let head = scan-head c in
     let l = head .loop in
     let a = start-of head .args in
-    going-fits i (now (a .image)) (tables-of (start-of head) p) (w .decoded) (now (a .text)) (l .stack) (l .state) _ (l .inv .1 p i w) (more-here c)
-    (c .match-by-rows .result) (found-here c p i w) (small (head .before .before .before .before .before .before))
+    going-fits i (now (a .image)) (tables-here (start-of head) low high rule follow) (w .decoded) (now (a .text)) (l .stack) (l .state) _ (l .inv .1 low high rule follow i w) (more-here c)
+    (c .match-by-rows .result) (found-here c low high rule follow i w) (small (head .before .before .before .before .before .before))
 
 -- From what a turn leaves to the match and the head of the loop.
 abbrev turn-scan : tie.After-one-turn Inv-loop μ-loop → tie.After-match-by-rows Inv-loop μ-loop
@@ -84,26 +84,26 @@ abbrev next-turn : tie.After-after2 Inv-loop μ-loop → tie.After-one-turn Inv-
 next-turn c = c .before .before .before .before
 
 -- The state after the turn.
-next-here : (c : tie.After-after2 Inv-loop μ-loop) (p : PositionColumns) (i : Image)
+next-here : (c : tie.After-after2 Inv-loop μ-loop) (low high rule follow : List ℕ) (i : Image)
     → let turn = next-turn c in
     let head = scan-head (turn-scan turn) in
     let a = start-of head .args in
-    With (start-of head) p i
-    → Going i (now (a .image)) (tables-of (start-of head) p) (now (a .text)) (turn .one-turn .last .1 .1 .1 .1 .0) (c .after2 .given .0 .0)
-    (run-from i (length (set (now (a .stack)) 0 0)) (now (a .text)) (length (now (a .text))) first-state)
+    With (start-of head) low high rule follow i
+    → Going i (now (a .image)) (tables-here (start-of head) low high rule follow) (now (a .text)) (turn .one-turn .last .1 .1 .1 .1 .1 .0) (c .after2 .given .0 .0)
+    (run-from i (length (now (a .stack))) (now (a .text)) (length (now (a .text))) first-state)
     × (head .loop .state .place < c .after2 .given .0 .0 .place)
-next-here c p i w =
+next-here c low high rule follow i w =
     let turn = next-turn c in
     let scan = turn-scan turn in
     let head = scan-head scan in
     let l = head .loop in
     let a = start-of head .args in
-    let t = tables-of (start-of head) p in
-    let e : turn-step (now (a .image)) (t .productions) (t .empty) (t .skips) (l .stack) (scan .match-by-rows .result) (l .state) .outcome
+    let t = tables-here (start-of head) low high rule follow in
+    let e : turn-step (now (a .image)) (t .starts) (t .productions) (t .empty) (t .skips) (l .stack) (scan .match-by-rows .result) (l .state) .outcome
     ≡ Next (c .after2 .given .0 .0) = sym (turn .one-turn .ensures .0) ∙ c .after2 .given .1 in
-    going-next i (now (a .image)) t (w .decoded) (now (a .text)) (l .stack) (l .state) _ (l .inv .1 p i w) (more-here scan)
-    (scan .match-by-rows .result) (found-here scan p i w) (fits-here scan p i w) _ (c .after2 .given .0 .0)
-    (turn .one-turn .kept .1 .1 .1 .1 .0) (turn .one-turn .ensures .1) e
+    going-next i (now (a .image)) t (w .decoded) (now (a .text)) (l .stack) (l .state) _ (l .inv .1 low high rule follow i w) (more-here scan)
+    (scan .match-by-rows .result) (found-here scan low high rule follow i w) (fits-here scan low high rule follow i w) _ (c .after2 .given .0 .0)
+    (turn .one-turn .kept .1 .1 .1 .1 .1 .0) (turn .one-turn .ensures .1) e
 
 answer-requires : tie.Need-answer-requires Inv-loop μ-loop
 answer-requires c κs = tt
@@ -112,23 +112,15 @@ returns : tie.Need-returns Inv-loop μ-loop
 unfolding answer-held
 returns c =
     let start = c .before .before .before .before .before .before .before in
-    λ p i w. ap answer-held (c .answer .ensures) ∙ run-no-entry i _ (now (start .args .text)) (c .before .if1 .taken)
-
-slice-write-stack : tie.Need-slice-write-stack Inv-loop μ-loop
-slice-write-stack c = search needs
+    λ low high rule follow i w. ap answer-held (c .answer .ensures) ∙ run-no-entry i _ (now (start .args .text)) (c .before .if1 .taken)
 
 first-state-requires : tie.Need-first-state-requires Inv-loop μ-loop
 first-state-requires c κs = tt
 
 loop-holds : tie.Need-loop-holds Inv-loop μ-loop
 loop-holds c =
-    let start = c .before .before .before .before .before .before .before in
-    let entry = now (start .args .stack) in
-    let room : 0 < length entry = omega (arith, c .before .if1 .left) in (
-      refl,
-      λ p i w. going-first i _ _ (w .decoded) _ (set entry 0 0) (c .first-state .ensures) (getD-set-same entry 0 0 0 room)
-          (omega (arith, room, length-set entry 0 0)),
-    )
+    let room = c .before .if1 .left in
+    (refl, λ low high rule follow i w. going-first i _ _ (w .decoded) _ _ (c .first-state .ensures) room)
 
 sub-match-by-rows : tie.Need-sub-match-by-rows Inv-loop μ-loop
 sub-match-by-rows c = search needs
@@ -142,43 +134,43 @@ part-match-by-rows-end c = search needs
 match-by-rows-requires : tie.Need-match-by-rows-requires Inv-loop μ-loop
 match-by-rows-requires c κs =
     let w = start-of (c .before .before .before) .pre in
-    rows-in (w .1) (w .2 .in-range) _ _ (w .2 .built)
+    rows-in (w .4) (w .5 .in-range) _ _ (w .5 .built)
 
 one-turn-requires : tie.Need-one-turn-requires Inv-loop μ-loop
 one-turn-requires c κs =
     let scan = c .before in
     let head = scan-head scan in
     let w = start-of head .pre in
-    (fits-here scan (w .0) (w .1) (w .2), (_, _, head .loop .inv .1 (w .0) (w .1) (w .2) .ready))
+    (fits-here scan (w .0) (w .1) (w .2) (w .3) (w .4) (w .5), (_, _, head .loop .inv .1 (w .0) (w .1) (w .2) (w .3) (w .4) (w .5) .ready))
 
 enum-known-after : tie.Need-enum-known-after Inv-loop μ-loop
 enum-known-after c = search needs
 
 -- The stack keeps its length.
 kept-here : (turn : tie.After-one-turn Inv-loop μ-loop)
-    → length (turn .one-turn .last .1 .1 .1 .1 .0) ≡ length (now (start-of (scan-head (turn-scan turn)) .args .stack))
+    → length (turn .one-turn .last .1 .1 .1 .1 .1 .0) ≡ length (now (start-of (scan-head (turn-scan turn)) .args .stack))
 kept-here turn =
     let head = scan-head (turn-scan turn) in
-    turn .one-turn .kept .1 .1 .1 .1 .0 ∙ head .loop .inv .0 ∙ length-set (now (start-of head .args .stack)) 0 0
+    turn .one-turn .kept .1 .1 .1 .1 .1 .0 ∙ head .loop .inv .0
 
 same-length : tie.Need-same-length Inv-loop μ-loop
 same-length c = kept-here (c .before .before .before .before .before)
 
 returns-2 : tie.Need-returns-2 Inv-loop μ-loop
 returns-2 c =
-    λ p i w.
+    λ low high rule follow i w.
     let turn = c .before .before .before .before .before in
     let scan = turn-scan turn in
     let head = scan-head scan in
     let l = head .loop in
     let a = start-of head .args in
-    let t = tables-of (start-of head) p in
+    let t = tables-here (start-of head) low high rule follow in
     let done = c .before .after .given .0 .0 in
-    let e : turn-step (now (a .image)) (t .productions) (t .empty) (t .skips) (l .stack) (scan .match-by-rows .result) (l .state) .outcome ≡ Done done =
+    let e : turn-step (now (a .image)) (t .starts) (t .productions) (t .empty) (t .skips) (l .stack) (scan .match-by-rows .result) (l .state) .outcome ≡ Done done =
     sym (turn .one-turn .ensures .0) ∙ c .before .after .given .1 in
-    let g = going-done i (now (a .image)) t (w .decoded) (now (a .text)) (l .stack) (l .state) _ (l .inv .1 p i w) (more-here scan)
-    (scan .match-by-rows .result) (found-here scan p i w) (fits-here scan p i w) done e in
-    run-some-entry i _ _ _ (length-set (now (a .stack)) 0 0) (head .before .before .if1 .left) _ g
+    let g = going-done i (now (a .image)) t (w .decoded) (now (a .text)) (l .stack) (l .state) _ (l .inv .1 low high rule follow i w) (more-here scan)
+    (scan .match-by-rows .result) (found-here scan low high rule follow i w) (fits-here scan low high rule follow i w) done e in
+    run-some-entry i _ _ (head .before .before .if1 .left) _ g
 
 enum-known-after-2 : tie.Need-enum-known-after-2 Inv-loop μ-loop
 enum-known-after-2 c = search needs
@@ -186,33 +178,33 @@ enum-known-after-2 c = search needs
 loop-less : tie.Need-loop-less Inv-loop μ-loop
 loop-less c =
     let w = start-of (scan-head (turn-scan (next-turn (c .before)))) .pre in
-    let t = next-here (c .before) (w .0) (w .1) (w .2) in
+    let t = next-here (c .before) (w .0) (w .1) (w .2) (w .3) (w .4) (w .5) in
     omega (arith, t .0 .within, t .1)
 
 loop-again : tie.Need-loop-again Inv-loop μ-loop
 loop-again c =
     let turn = next-turn (c .before) in
-    (turn .one-turn .kept .1 .1 .1 .1 .0 ∙ scan-head (turn-scan turn) .loop .inv .0, λ p i w. next-here (c .before) p i w .0)
+    (turn .one-turn .kept .1 .1 .1 .1 .1 .0 ∙ scan-head (turn-scan turn) .loop .inv .0, λ low high rule follow i w. next-here (c .before) low high rule follow i w .0)
 
 at-end-requires : tie.Need-at-end-requires Inv-loop μ-loop
 at-end-requires c κs =
     let head = c .before .before .before in
     let w = start-of head .pre in
-    ready-entries (head .loop .inv .1 (w .0) (w .1) (w .2) .ready)
+    ready-entries (head .loop .inv .1 (w .0) (w .1) (w .2) (w .3) (w .4) (w .5) .ready)
 
 same-length-2 : tie.Need-same-length-2 Inv-loop μ-loop
 same-length-2 c =
     let head = c .before .before .before .before in
-    head .loop .inv .0 ∙ length-set (now (start-of head .args .stack)) 0 0
+    head .loop .inv .0
 
 returns-3 : tie.Need-returns-3 Inv-loop μ-loop
 returns-3 c =
     let head = c .before .before .before .before in
     let l = head .loop in
     let a = start-of head .args in
-    λ p i w.
-    let g = going-ends i (now (a .image)) (tables-of (start-of head) p) (w .decoded) (now (a .text)) (l .stack) (l .state) _ (l .inv .1 p i w) (c .before .before .if2 .left) in
-    run-some-entry i _ _ _ (length-set (now (a .stack)) 0 0) (head .before .before .if1 .left) _ (ap answer-held (c .at-end .ensures) ∙ g)
+    λ low high rule follow i w.
+    let g = going-ends i (now (a .image)) (tables-here (start-of head) low high rule follow) (w .decoded) (now (a .text)) (l .stack) (l .state) _ (l .inv .1 low high rule follow i w) (c .before .before .if2 .left) in
+    run-some-entry i _ _ (head .before .before .if1 .left) _ (ap answer-held (c .at-end .ensures) ∙ g)
 
 pub run-rows-spec : {M : Type 1} → statement M
 run-rows-spec =
@@ -222,7 +214,6 @@ run-rows-spec =
     μ-loop
     answer-requires
     returns
-    slice-write-stack
     first-state-requires
     loop-holds
     sub-match-by-rows
