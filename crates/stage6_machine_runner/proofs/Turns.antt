@@ -5,10 +5,8 @@ use Prim.Native.Nat.{ℕ, suc, _+_, _-_, _≤_, _<_}
 use native.Mathlib.Omega.{arith}
 use lib.ListN.{length, drop, take, length-drop}
 use lib.Seq.{take-all}
-use Rattle.stage4_lexer.specs.Positions.{Position}
 use Rattle.stage4_lexer.specs.Walk.{longest-match}
 use Rattle.stage4_lexer.specs.LongestMatchLaws.{match-within, match-rule-below}
-use Rattle.stage4_lexer_columns.specs.Held.{held-from, held-positions}
 use Rattle.stage4_lexer_scanner.specs.Meaning.{match-of}
 use Rattle.stage4_lexer_scanner.specs.declared.Found.{Found}
 use Rattle.stage4_lexer_scanner.specs.declared.Found.the-variants as found
@@ -38,19 +36,10 @@ pub record Going (i : Image) (bytes : List ℕ) (t : ImageTables) (text stack : 
 pub rest-of : (text : List ℕ) (p : ℕ) → take (length text - p) (drop p text) ≡ drop p text
 rest-of text p = take-all (length text - p) (drop p text) (simp length-drop (omega arith))
 
--- What it finds over the tables is the image's longest match.
-pub scanned : (i : Image) (bytes : List ℕ) (t : ImageTables) → Decoded bytes t i → (text : List ℕ) (p : ℕ) (f : Found)
-    → let c = t .positions in
-    match-of f ≡ longest-match (held-from (c .low) (c .high) (c .rule) (c .follow) (c .last) 0 (c .count)) (c .first)
-    (take (length text - p) (drop p text))
-    → match-of f ≡ match-at i text p
-unfolding held-positions
-scanned i bytes t decoded text p f e =
-    let part = take (length text - p) (drop p text) in
-    e
-    ∙ ap (λ (ps : List Position). longest-match ps (t .positions .first) part) (decoded .positions)
-    ∙ ap (λ (k : ℕ). longest-match (i .positions) k part) (decoded .first)
-    ∙ ap (λ (l : List ℕ). longest-match (i .positions) (i .first) l) (rest-of text p)
+-- What it finds there is the image's longest match at the place.
+pub scanned : (i : Image) (text : List ℕ) (p : ℕ) (f : Found)
+    → match-of f ≡ longest-match (i .positions) (i .first) (take (length text - p) (drop p text)) → match-of f ≡ match-at i text p
+scanned i text p f e = e ∙ ap (λ (l : List ℕ). longest-match (i .positions) (i .first) l) (rest-of text p)
 
 -- At the start: 0 alone is pending.
 going-start : (i : Image) (bytes : List ℕ) (t : ImageTables) → Decoded bytes t i → (text stack : List ℕ) → 1 ≤ length stack

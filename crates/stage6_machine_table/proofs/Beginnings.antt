@@ -13,7 +13,7 @@ use Rattle.stage6_machine.specs.Answer.{Answer, answer}
 use Rattle.stage6_machine.specs.Run.{run-image}
 use Rattle.stage6_machine.specs.TableRun.{lent-entries, rows-of, entries-of, winners-of, Beginning, turned-away, table-built, beginning, answer-after, run-table}
 use Rattle.stage6_machine.specs.TableRun.{table-after, winners-after, table-stack-after}
-use Rattle.stage6_machine_table.specs.Built.{Built}
+use Rattle.stage6_machine_runner.specs.Built.{Built}
 
 module _ (image text table winners stack : List ℕ) where
   abbrev begun : Beginning
@@ -26,13 +26,13 @@ module _ (image text table winners stack : List ℕ) where
       × (winners' ≡ winners-after begun winners) × (stack' ≡ table-stack-after begun stack)
 
   pub promised-away : (question place : ℕ) → begun ≡ turned-away question place → (a : Answer) → a ≡ answer question place 0
-      → (table' winners' : List ℕ) → table' ≡ table → winners' ≡ winners → Promised a table' winners' stack
+      → (table' winners' stack' : List ℕ) → table' ≡ table → winners' ≡ winners → stack' ≡ stack → Promised a table' winners' stack'
   unfolding run-table answer-after table-after winners-after table-stack-after
-  promised-away question place e a f table' winners' t w = (
+  promised-away question place e a f table' winners' stack' t w s = (
     f ∙ sym (ap (λ (b : Beginning). answer-after b (length stack) text) e),
     t ∙ sym (ap (λ (b : Beginning). table-after b table) e),
     w ∙ sym (ap (λ (b : Beginning). winners-after b winners) e),
-    sym (ap (λ (b : Beginning). table-stack-after b stack) e),
+    s ∙ sym (ap (λ (b : Beginning). table-stack-after b stack) e),
   )
 
   pub promised-built : (i : Image) → begun ≡ table-built i → (a : Answer) → a ≡ run-image i (length stack) text → (table' winners' stack' : List ℕ)

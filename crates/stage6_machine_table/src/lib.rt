@@ -1,101 +1,47 @@
 // The machine with a table: builds an image's table into lent buffers and runs the image over a text by its rows. Questions 18, 12 and 19
 // are answered here, question 13 by the image reader, the others by the turns.
 ghost use mathlib.Core.Path.{_≡_};
-ghost use mathlib.Core.Bool.{cond};
-ghost use mathlib.Core.List.{List};
-ghost use lib.Dec.{leb};
-ghost use Prim.Native.Nat.{ℕ, _≤_};
+ghost use Prim.Native.Nat.{_≤_};
 ghost use lib.ListN.{length};
-ghost use Rattle.stage4_lexer.specs.Table.{written-over, most-rows};
 ghost use Rattle.stage5_image.specs.Image.{Image};
 ghost use Rattle.stage5_image.specs.ImageRanges.{InRange};
 ghost use Rattle.stage5_image_reader.specs.Decoded.{Decoded, tables-of};
-ghost use Rattle.stage6_machine.specs.Run.{run-image};
-ghost use Rattle.stage6_machine.specs.TableRun.{rows-of, entries-of, winners-of};
 ghost use Rattle.stage6_machine.specs.TableRun.{beginning, run-table, table-after, winners-after, table-stack-after};
 ghost use Rattle.stage6_machine_turn.specs.Steps.{answer-held};
-ghost use Rattle.stage6_machine_table.specs.Built.{WithTable};
+ghost use Rattle.stage6_machine_table.specs.Building.{BuiltAndRan};
 use stage4_lexer_classes::class_table;
 use stage5_image_reader::ImageRead;
 use stage5_image_reader::Outcome;
 use stage6_machine_turn::RunAnswer;
-use stage6_machine_turn::Turn;
 
-// Runs a readable image, given by its bytes and what it reads of its tables, by the rows of its scanner's table. What is left on the stack
-// is not promised.
-fn run_rows<'a>(
+// Builds the table of a readable image, unless it has more than 256 rows, and runs the image by its rows.
+fn build_and_run<'a>(
     image: &[u8],
-    read: ImageRead,
-    starts: &[usize; 64],
-    productions: &[u16; 2048],
-    text: &'a [u8],
-    table: &'a [u16],
-    winners: &'a [u16],
-    stack: &mut [u8],
-) -> RunAnswer
-    requires { ⌜ ((low high rule follow : List ℕ) × (i : Image) × WithTable
-        (now image)
-        (tables-of read low high rule follow (now starts) (now productions))
-        (now table)
-        (now winners)
-        i) ⌝ }
-    ensures { λ r. ⌜ ((low high rule follow : List ℕ) (i : Image)
-        → WithTable
-        (now (image .entry))
-        (tables-of read low high rule follow (now (starts .entry)) (now (productions .entry)))
-        (now (table .entry))
-        (now (winners .entry))
-        i
-        → answer-held r ≡ run-image i (length (now (stack .entry))) (now (text .entry))) ⌝ }
-{
-    if stack.len() < 1 {
-        return stage6_machine_turn::answer(17, 0, 0);
-    }
-    let mut state = stage6_machine_turn::first_state();
-    while state.place < text.len() {
-        let p = state.place;
-        let found = stage4_lexer_rows::match_by_rows(&text[p..], table, winners);
-        let after = stage6_machine_turn::one_turn(
-            image,
-            starts,
-            productions,
-            read.empty,
-            read.skips,
-            stack,
-            found,
-            state,
-        );
-        match after {
-            Turn::Done(done) => return done,
-            Turn::Next(next) => state = next,
-        }
-    }
-    stage6_machine_turn::at_end(read.empty, stack, state)
-}
-
-// Builds the table of an image, given by the columns of its positions, and tells whether it has no more than 256 rows. Otherwise nothing is
-// written.
-fn build_of<'a>(
     read: ImageRead,
     low: &'a [u8; 64],
     high: &'a [u8; 64],
     rule: &'a [u8; 64],
     follow: &'a [u64; 64],
+    starts: &[usize; 64],
+    productions: &[u16; 2048],
     table: &mut [u16],
     winners: &mut [u16],
-) -> bool
-    requires { ⌜ ((bytes starts productions : List ℕ) × (i : Image)
-        × Decoded bytes (tables-of read (now low) (now high) (now rule) (now follow) starts productions) i × InRange i
-        × (65536 ≤ length (now table)) × (256 ≤ length (now winners))) ⌝ }
-    ensures { λ r. ⌜ ((bytes starts productions : List ℕ) (i : Image)
-        → Decoded bytes
-        (tables-of read (now (low .entry)) (now (high .entry)) (now (rule .entry)) (now (follow .entry)) starts productions) i
-        → (r ≡ leb (length (rows-of i)) most-rows)
-        × (now (table .exit) ≡ cond r (written-over (entries-of i) (now (table .entry))) (now (table .entry)))
-        × (now (winners .exit) ≡ cond r (written-over (winners-of i) (now (winners .entry))) (now (winners .entry)))) ⌝ }
+    text: &'a [u8],
+    stack: &mut [u8],
+) -> RunAnswer
+    requires { ⌜ ((i : Image)
+        × Decoded (now image) (tables-of read (now low) (now high) (now rule) (now follow) (now starts) (now productions)) i
+        × InRange i × (65536 ≤ length (now table)) × (256 ≤ length (now winners))) ⌝ }
+    ensures { λ r. ⌜ ((i : Image)
+        → Decoded (now (image .entry))
+        (tables-of read (now (low .entry)) (now (high .entry)) (now (rule .entry)) (now (follow .entry)) (now (starts .entry))
+        (now (productions .entry))) i
+        → InRange i
+        → BuiltAndRan i (now (text .entry)) (now (table .entry)) (now (winners .entry)) (now (stack .entry)) (answer-held r)
+        (now (table .exit)) (now (winners .exit)) (now (stack .exit))) ⌝ }
 {
     let classes = class_table(read.count, low, high);
-    stage4_lexer_table::build_table(
+    let built = stage4_lexer_table::build_table(
         table,
         winners,
         read.count,
@@ -106,6 +52,89 @@ fn build_of<'a>(
         read.last,
         read.first,
         &classes,
+    );
+    if !built {
+        return stage6_machine_turn::answer(19, 0, 0);
+    }
+    let ran = stage6_machine_runner::run_image(
+        image,
+        read,
+        low,
+        high,
+        rule,
+        follow,
+        starts,
+        productions,
+        &classes,
+        table,
+        winners,
+        true,
+        text,
+        stack,
+    );
+    let entries = stack.len();
+    stage0_buffers::clear_front(stack, entries);
+    ran
+}
+
+// Reads an image, builds its table and runs it over a text, once the buffers are long enough and the text is short enough.
+fn read_and_build(
+    image: &[u8],
+    text: &[u8],
+    table: &mut [u16],
+    winners: &mut [u16],
+    stack: &mut [u8],
+) -> RunAnswer
+    requires { ⌜ (65536 ≤ length (now table)) × (256 ≤ length (now winners)) × (length (now text) ≤ 1048576) ⌝ }
+    ensures { λ r.
+        ⌜ (answer-held r ≡ run-table
+        (now (image .entry))
+        (now (text .entry))
+        (length (now (table .entry)))
+        (length (now (winners .entry)))
+        (length (now (stack .entry))))
+        × (now (table .exit) ≡ table-after
+        (beginning (now (image .entry)) (now (text .entry)) (length (now (table .entry))) (length (now (winners .entry))))
+        (now (table .entry)))
+        × (now (winners .exit) ≡ winners-after
+        (beginning (now (image .entry)) (now (text .entry)) (length (now (table .entry))) (length (now (winners .entry))))
+        (now (winners .entry)))
+        × (now (stack .exit) ≡ table-stack-after
+        (beginning (now (image .entry)) (now (text .entry)) (length (now (table .entry))) (length (now (winners .entry))))
+        (now (stack .entry))) ⌝ }
+{
+    let mut low = [0u8; 64];
+    let mut high = [0u8; 64];
+    let mut rule = [0u8; 64];
+    let mut follow = [0u64; 64];
+    let mut starts = [0usize; 64];
+    let mut productions = [0u16; 2048];
+    let read = stage5_image_reader::read_image(
+        image,
+        &mut low,
+        &mut high,
+        &mut rule,
+        &mut follow,
+        &mut starts,
+        &mut productions,
+    );
+    let outcome = read.outcome;
+    if let Outcome::Refused(place) = outcome {
+        return stage6_machine_turn::answer(13, place, 0);
+    }
+    build_and_run(
+        image,
+        read,
+        &low,
+        &high,
+        &rule,
+        &follow,
+        &starts,
+        &productions,
+        table,
+        winners,
+        text,
+        stack,
     )
 }
 
@@ -143,39 +172,5 @@ pub fn run_table(
     if 1048576 < text.len() {
         return stage6_machine_turn::answer(12, 0, 0);
     }
-    let mut low = [0u8; 64];
-    let mut high = [0u8; 64];
-    let mut rule = [0u8; 64];
-    let mut follow = [0u64; 64];
-    let mut starts = [0usize; 64];
-    let mut productions = [0u16; 2048];
-    let read = stage5_image_reader::read_image(
-        image,
-        &mut low,
-        &mut high,
-        &mut rule,
-        &mut follow,
-        &mut starts,
-        &mut productions,
-    );
-    let outcome = read.outcome;
-    if let Outcome::Refused(place) = outcome {
-        return stage6_machine_turn::answer(13, place, 0);
-    }
-    if !build_of(read, &low, &high, &rule, &follow, table, winners) {
-        return stage6_machine_turn::answer(19, 0, 0);
-    }
-    let ran = run_rows(
-        image,
-        read,
-        &starts,
-        &productions,
-        text,
-        table,
-        winners,
-        stack,
-    );
-    let entries = stack.len();
-    stage0_buffers::clear_front(stack, entries);
-    ran
+    read_and_build(image, text, table, winners, stack)
 }

@@ -9,7 +9,8 @@ use Rattle.stage4_lexer_scanner.specs.declared.Found.{Found}
 use Rattle.stage4_lexer_scanner.specs.declared.Found.the-variants as found
 use Rattle.stage5_image_reader.specs.Tables.{entry-tail}
 use Rattle.stage6_machine_turn.specs.Steps.{taker, TakeStep, replaced, replace-taker, take-step}
-use Rattle.stage6_machine_turn.specs.Steps.{run-answer, state-at, all-members, end-answer, step-after-take, turn-by, TurnStep, turn-step}
+use Rattle.stage6_machine_turn.specs.Steps.{run-answer, state-at, all-members, end-answer}
+use Rattle.stage6_machine_turn.specs.Steps.{step-after-take, turn-by, TurnStep, turn-step}
 use Rattle.stage6_machine_turn.specs.declared.RunAnswer.{RunAnswer}
 use Rattle.stage6_machine_turn.specs.declared.Taker.the-variants.{Nothing, At}
 use Rattle.stage6_machine_turn.specs.declared.Taken.{Taken}

@@ -7,7 +7,7 @@ use native.Mathlib.Omega.{arith}
 use lib.ListN.{getD}
 use borrow.Author.Tests.{eq-eqb, ne-eqb}
 use Rattle.stage0_laws.specs.Bits.{bit}
-use Rattle.stage6_machine_turn.specs.Stack.{stacked, pending}
+use Rattle.stage6_machine_turn.specs.Stack.{pending}
 use Rattle.stage6_machine_turn.specs.StackLaws.{pending-stacked}
 use Rattle.stage6_machine_turn.specs.Steps.{taker, all-members}
 use Rattle.stage6_machine_turn.specs.declared.Taker.{Taker}
@@ -33,7 +33,8 @@ module _ (productions : List ℕ) (empty : ℕ) (stack : List ℕ) (rule : ℕ) 
   unfolding taker
   passes-first below n e f t g = rw (eq-eqb (entry-of n) 0 e, f) g
 
-  before-first : (depth n : ℕ) → 0 < depth → taker productions empty stack (suc (depth - 1)) n rule ≡ taker productions empty stack depth n rule
+  before-first : (depth n : ℕ) → 0 < depth
+      → taker productions empty stack (suc (depth - 1)) n rule ≡ taker productions empty stack depth n rule
   before-first depth n k = let e : suc (depth - 1) ≡ depth = omega arith in ap (λ (d : ℕ). taker productions empty stack d n rule) e
 
   pub taker-found : (depth n : ℕ) → 0 < depth → (entry-of n ≡ 0 → ⊥)

@@ -39,8 +39,8 @@ abbrev pub turn-held : List ℕ → Turn → machine.Turn
 turn-held stack (Next s) = machine.goes-on (state-held stack s)
 turn-held stack (Done a) = machine.ends (answer-held a)
 
--- The first pending nonterminal that takes a rule, where those before it are nullable: how many are pending behind it, itself, and its entry
--- in the table of productions.
+-- The first pending nonterminal that takes a rule, where those before it are nullable: how many are pending behind it, itself, and its
+-- entry in the table of productions.
 unfoldable pub taker : List ℕ → ℕ → List ℕ → ℕ → ℕ → ℕ → Taker
 taker productions empty stack zero first rule = Nothing
 taker productions empty stack (suc below) first rule =

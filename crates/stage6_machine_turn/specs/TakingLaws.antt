@@ -3,7 +3,7 @@ use mathlib.Core.Path.{_≡_, refl, sym, ap, subst, _∙_}
 use mathlib.Core.Bool.{Bool, true, false, cond}
 use mathlib.Core.List.{List, [], _∷_, _++_}
 use mathlib.Core.Option.{Option, none, some}
-use Prim.Native.Nat.{ℕ, zero, suc, _+_, _*_, _≤_, _<_}
+use Prim.Native.Nat.{ℕ, zero, suc, _+_, _*_, _<_}
 use native.Mathlib.Omega.{arith}
 use lib.Dec.{ltb, eqb}
 use lib.ListN.{length, getD, length-append}
@@ -11,7 +11,7 @@ use borrow.Author.Tests.{ltb-true, ltb-false, eqb-true, eqb-false}
 use Rattle.stage0_laws.specs.Bits.{bit}
 use Rattle.stage0_laws.specs.Lists.{All}
 use Rattle.stage3_normal_form.specs.Productions.{Production, Row, row-of, production-of}
-use Rattle.stage5_image_reader.specs.Tables.{entry-tail, EntryTail, RowsHeld}
+use Rattle.stage5_image_reader.specs.Tables.{EntryTail, RowsHeld}
 use Rattle.stage5_image_reader.specs.TableLaws.{entry-none, entry-some}
 use Rattle.stage6_machine.specs.Turn.{take-rule}
 use Rattle.stage6_machine_turn.specs.Stack.{stacked, pending, pushed, Ready}
@@ -97,7 +97,8 @@ module _ (bytes starts productions : List ℕ) (empty : ℕ) (rows : List Row) (
         take-stops rows m (stacked stack below) rule o (sym (held .empty m) ∙ f)
     at-first below m h b true true e f t r =
         let o = entry-none bytes (getD starts m 0) n _ _ (held .entries m h rule small) (eqb-true _ 0 e) in
-        let passed = take-passes rows m (stacked stack below) rule o (sym (held .empty m) ∙ f) (take-rule rows (stacked stack below) rule) refl in
+        let l = stacked stack below in
+        let passed = take-passes rows m l rule o (sym (held .empty m) ∙ f) (take-rule rows l rule) refl in
         further below m t (ap (λ (l : List ℕ). take-rule rows l rule) (pending-stacked stack below) ∙ sym passed) r
 
     pub taker-takes : (depth first : ℕ) → All (λ k. k < n) (pending stack depth first)

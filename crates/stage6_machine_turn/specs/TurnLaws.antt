@@ -29,7 +29,8 @@ use Rattle.stage6_machine_turn.specs.declared.Turn.the-variants.{Next, D
 module _ (i : Image) (bytes : List ℕ) (t : ImageTables) (decoded : Decoded bytes t i) (stack : List ℕ) (s : State)
     (ready : Ready bytes (t .starts) (t .productions) (t .empty) (i .rows) (t .nonterminals) stack (s .depth) (s .first)) where
   abbrev ReadyAfter : List ℕ → Turn → Type 0
-  ReadyAfter stack' (Next s') = Ready bytes (t .starts) (t .productions) (t .empty) (i .rows) (t .nonterminals) stack' (s' .depth) (s' .first)
+  ReadyAfter stack' (Next s') =
+      Ready bytes (t .starts) (t .productions) (t .empty) (i .rows) (t .nonterminals) stack' (s' .depth) (s' .first)
   ReadyAfter stack' (Done a) = Unit
 
   -- What a turn leaves is what the machine's turn leads to, and the stack is ready for the next.
@@ -89,7 +90,8 @@ module _ (i : Image) (bytes : List ℕ) (t : ImageTables) (decoded : Decoded byt
   members-are [] = refl
   members-are (n ∷ l) = ap₂ _&&_ (decoded .rows .empty n) (members-are l)
 
-  pub end-is : answer-held (end-answer (t .empty) (pending stack (s .depth) (s .first)) (s .place) (s .count)) ≡ at-text-end (i .rows) (state-held stack s)
+  pub end-is : answer-held (end-answer (t .empty) (pending stack (s .depth) (s .first)) (s .place) (s .count))
+      ≡ at-text-end (i .rows) (state-held stack s)
   unfolding end-answer at-text-end answer-held
   end-is = by-test (all-members (t .empty) (pending stack (s .depth) (s .first))) (members-are (pending stack (s .depth) (s .first)))
     where

@@ -163,7 +163,8 @@ fn replace_taker(image: &[u8], start: usize, entry: u16, stack: &mut [u8], below
         return Taken::TooDeep;
     }
     let top = below + 1;
-    stack[top] = (entry / 64 % 64) as u8;
+    let second = (entry / 64 % 64) as u8;
+    stack[top] = second;
     Taken::Pending(below + 2, first)
 }
 

@@ -1,17 +1,9 @@
--- `run` meets its contract: one law for each answer.
-use mathlib.Core.Path.{refl, sym, ap, _∙_}
-use Prim.Native.Nat.{ℕ}
-use native.Mathlib.Omega.{arith}
-use lib.ListN.{length, replicate}
-use denote.Ref.{now}
-use Rattle.stage0_buffers.specs.Cleared.{cleared-all}
-use Rattle.stage5_image.specs.ReadableImages.{read-in-range}
-use Rattle.stage5_image_reader.proofs.Whole.{room-whole}
-use Rattle.stage6_machine_turn.specs.Steps.{answer-held}
-use Rattle.stage6_machine.specs.RunsLaws.{run-long, run-stop, run-got}
-use Rattle.stage6_machine_runner.proofs.Ending.{stack-kept-12, stack-kept-13}
-use Rattle.stage6_machine.specs.StackLaws.{stack-cleared}
+-- `run` meets its contract: 12, or what reading and running give.
 use borrow.Author.Needs.{needs}
+use mathlib.Core.Path.{sym, ap, _∙_}
+use Rattle.stage6_machine_turn.specs.Steps.{answer-held}
+use Rattle.stage6_machine.specs.RunsLaws.{run-long}
+use Rattle.stage6_machine_runner.proofs.Ending.{stack-kept-12}
 use Rattle.stage6_machine_runner.proofs.run.Statement.{statement}
 use Rattle.stage6_machine_runner.proofs.run.Tie as tie
 
@@ -24,69 +16,14 @@ returns c =
     let e = ap answer-held (c .answer .ensures) in
     (e ∙ sym (run-long _ _ _ (c .before .if1 .taken)), stack-kept-12 _ _ e)
 
-read-image-requires : tie.Need-read-image-requires
-read-image-requires c κs = (refl, refl, refl, refl, refl, room-whole)
-
-enum-known-outcome : tie.Need-enum-known-outcome
-enum-known-outcome c = search needs
-
-answer-requires-2 : tie.Need-answer-requires-2
-answer-requires-2 c κs = search needs
-
-returns-2 : tie.Need-returns-2
-unfolding answer-held
-returns-2 c =
-    let known = c .before .before in
-    let read = known .before .before in
-    let e = ap answer-held (c .answer2 .ensures) in
-    let refused = read .read-image .ensures .refusal (known .outcome .given .1) in
-    (e ∙ sym (run-stop _ _ _ (read .before .before .before .before .before .before .before .if1 .left) 13 _ refused), stack-kept-13 _ _ _ e)
-
-enum-told : tie.Need-enum-told
-enum-told c = search needs
-
-run-image-requires : tie.Need-run-image-requires
-run-image-requires c κs =
-    let told = c .before .before .before .before .before .before .before in
-    let read = told .before .before in
-    let readable = read .read-image .ensures .readable (told .enum-told .given .1) in
-    (readable .0, readable .2, read-in-range _ _ _ (readable .1) .0)
-
-clear-front-requires : tie.Need-clear-front-requires
-clear-front-requires c κs = search needs
+read-and-run-requires : tie.Need-read-and-run-requires
+read-and-run-requires c κs = search needs
 
 same-length : tie.Need-same-length
 same-length c = search needs
 
-returns-3 : tie.Need-returns-3
-returns-3 c =
-    let cleared = c .before .before in
-    let ran = cleared .before .before .before .before in
-    let told = ran .before .before .before .before .before .before .before .before in
-    let read = told .before .before in
-    let start = read .before .before .before .before .before .before .before .before .before .before .before in
-    let readable = read .read-image .ensures .readable (told .enum-told .given .1) in
-    let answers = ran .run-image .ensures (readable .0) (readable .2) in
-    let left = ran .run-image .last .1 .1 .1 .1 .1 .1 .1 .1 .1 .0 in (
-      answers ∙ sym (run-got _ _ _ (read .before .before .before .before .before .before .before .if1 .left) (readable .0) _ (readable .1)),
-      cleared .clear-front .ensures
-          ∙ cleared-all (length left) left (omega arith)
-          ∙ ap (λ (k : ℕ). replicate k 0) (ran .run-image .kept .1 .1 .1 .1 .1 .1 .1 .1 .1 .0)
-          ∙ stack-cleared (readable .0) _ _ _ (now (start .args .stack)) answers,
-    )
+returns-2 : tie.Need-returns-2
+returns-2 c = search needs
 
 pub run-spec : {M : Type 1} → statement M
-run-spec =
-    tie.close
-    (tie.spec
-    answer-requires
-    returns
-    read-image-requires
-    enum-known-outcome
-    answer-requires-2
-    returns-2
-    enum-told
-    run-image-requires
-    clear-front-requires
-    same-length
-    returns-3)
+run-spec = tie.close (tie.spec answer-requires returns read-and-run-requires same-length returns-2)

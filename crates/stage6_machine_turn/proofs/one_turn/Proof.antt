@@ -1,5 +1,5 @@
 -- `one_turn` meets its contract: one law of `Answers` for each answer.
-use mathlib.Core.Path.{_≡_, refl, sym, subst, _∙_}
+use mathlib.Core.Path.{refl, sym, subst, _∙_}
 use Prim.Native.Nat.{_+_, _<_}
 use native.Mathlib.Omega.{arith}
 use Rattle.stage4_lexer_scanner.specs.declared.Found.{Found}

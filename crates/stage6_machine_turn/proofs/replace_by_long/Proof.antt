@@ -48,8 +48,8 @@ returns-2 c =
     let pushing = c .before .before .before in
     let tested = pushing .before .before in
     let start = tested .before .before .before .before in
-    long-fits (now (start .args .image)) (now (start .args .stack)) _ _ (start .pre .1) (start .pre .2) (start .pre .0) (tested .if1 .left) _
-    (pushing .push-tail .ensures)
+    long-fits (now (start .args .image)) (now (start .args .stack)) _ _ (start .pre .1) (start .pre .2) (start .pre .0)
+    (tested .if1 .left) _ (pushing .push-tail .ensures)
 
 pub replace-by-long-spec : {M : Type 1} → statement M
 replace-by-long-spec =

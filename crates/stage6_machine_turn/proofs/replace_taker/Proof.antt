@@ -14,8 +14,8 @@ two-members c =
     let start = c .before .before .before .before .before in
     omega (arith, start .fits .entry, c .before .before .if1 .left, c .before .if2 .left, c .if3 .left)
 
-slice-read-t11 : tie.Need-slice-read-t11
-slice-read-t11 c = search needs
+slice-read-t12 : tie.Need-slice-read-t12
+slice-read-t12 c = search needs
 
 returns : tie.Need-returns
 returns c =
@@ -53,8 +53,8 @@ returns-2 c =
 cast-first : tie.Need-cast-first
 cast-first c = search needs
 
-add-t18 : tie.Need-add-t18
-add-t18 c = search needs
+add-t19 : tie.Need-add-t19
+add-t19 c = search needs
 
 returns-3 : tie.Need-returns-3
 returns-3 c =
@@ -72,14 +72,14 @@ returns-4 c =
 add-top : tie.Need-add-top
 add-top c = search needs
 
-cast-stack : tie.Need-cast-stack
-cast-stack c = search needs
+cast-second : tie.Need-cast-second
+cast-second c = search needs
 
 slice-write-stack : tie.Need-slice-write-stack
 slice-write-stack c = search needs
 
-add-t19 : tie.Need-add-t19
-add-t19 c = search needs
+add-t20 : tie.Need-add-t20
+add-t20 c = search needs
 
 same-length-2 : tie.Need-same-length-2
 same-length-2 c = search needs
@@ -87,13 +87,14 @@ same-length-2 c = search needs
 returns-5 : tie.Need-returns-5
 returns-5 c =
     let start = c .before .before .before .before .before .before in
-    entry-of-two (now (start .args .image)) _ _ (now (start .args .stack)) _ (start .pre .0) (two-members (c .before)) (c .if4 .left)
+    entry-of-two (now (start .args .image)) (start .args .start) _ (now (start .args .stack)) _ (start .pre .0) (two-members (c .before))
+    (c .if4 .left)
 
 pub replace-taker-spec : {M : Type 1} → statement M
 replace-taker-spec =
     tie.close
     (tie.spec
-    slice-read-t11
+    slice-read-t12
     returns
     cast-replace-by-long
     add-replace-by-long
@@ -101,13 +102,13 @@ replace-taker-spec =
     same-length
     returns-2
     cast-first
-    add-t18
+    add-t19
     returns-3
     sub-if4
     returns-4
     add-top
-    cast-stack
+    cast-second
     slice-write-stack
-    add-t19
+    add-t20
     same-length-2
     returns-5)

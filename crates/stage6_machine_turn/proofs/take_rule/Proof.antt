@@ -28,7 +28,8 @@ known : (c : tie.After-found)
     → let start = c .before .before .before .before .before .before in
     let t = c .found .given .0 in
     (t .0 < length (now (start .args .stack))) × (t .1 .0 < 64)
-    × ((tail : List ℕ) × EntryTail (now (start .args .image)) (getD (now (start .args .starts)) (t .1 .0) 0) (start .pre .1 .1) (t .1 .1 .0) tail)
+    × ((tail : List ℕ)
+    × EntryTail (now (start .args .image)) (getD (now (start .args .starts)) (t .1 .0) 0) (start .pre .1 .1) (t .1 .1 .0) tail)
 known c =
     let start = c .before .before .before .before .before .before in
     let image = now (start .args .image) in
