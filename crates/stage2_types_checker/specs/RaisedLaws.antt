@@ -1,146 +1,190 @@
--- Rounds in place lead to the least types. They go by other types than rounds that apply all equations at once, but lie between
--- what these give and the least types. Columns and code are not spoken of.
-use mathlib.Core.Path.{_≡_, refl, sym, ap, subst, _∙_}
-use mathlib.Core.Bool.{Bool, true, false}
-use mathlib.Core.List.{List}
+-- Raising nodes one after another, in any order, leads to the least types, if a node is raised again once a type that it goes by has
+-- changed. Columns and code are not spoken of.
+use mathlib.Core.Path.{_≡_, refl, sym, ap, ap₂, subst, _∙_}
+use mathlib.Core.Bool.{Bool, true, false, not, Bool·beq, true≢false}
+use mathlib.Core.List.{List, [], _∷_}
 use mathlib.Core.Logic.{_⊎_, inl, inr, ⊎-elim}
-use Prim.Native.Nat.{ℕ, zero, suc, _≤_, _<_}
+use Prim.Native.Nat.{ℕ, _+_, _-_, _*_, _≤_, _<_}
 use native.Mathlib.Omega.{arith}
-use lib.ListN.{length, replicate, set, length-set, length-replicate, List·getD-eq-default}
+use native.Mathlib.Nat.{mul-le-mul-left}
+use lib.ListN.{getD, length, replicate, set, length-set, length-replicate, List·getD-eq-default}
 use lib.Seq.{getD-set-same, getD-set-other, set-out, ext-getD}
-use Rattle.stage0_laws.specs.Lists.{settle}
+use borrow.Author.Tests.{eq-eqb, not-true, not-false}
+use Rattle.stage0_laws.specs.Lists.{sum}
 use Rattle.stage0_laws.specs.Order.{compare-cases, lt-or-le}
-use Rattle.stage2_types.specs.Types.{LanguageType, bottom-type, alternative-type}
-use Rattle.stage2_types.specs.Nodes.{Node, bottom-node, node-at}
-use Rattle.stage2_types.specs.LeastTypes.{type-of, node-type, next-types, same-types, type-rounds, types-of}
-use Rattle.stage2_types.specs.LeastSolution.{_⊑_, AllBelow, Solves}
-use Rattle.stage2_types.specs.TypeLaws.{⊑-refl, ⊑-trans, ⊑-antisym, bottom-least, above-left, above-right, above-least}
-use Rattle.stage2_types.specs.LeastTypeLaws.{type-of-next, node-type-rises, next-rises, bottoms-below, types-long, step-below, types-unique, same-types-equal}
-use Rattle.stage2_types_checker.specs.Raised.{raised-at, raised-below, raised}
+use Rattle.stage1_sheet.specs.Limits.{most-tokens}
+use Rattle.stage2_types.specs.Types.{LanguageType, bottom-type, sequence-type, alternative-type, repetition-type}
+use Rattle.stage2_types.specs.Nodes.{Node, epsilon-node, bottom-node, token-node, sequence-node, alternative-node, fixed-point-node, variable-node, repetition-node, node-at}
+use Rattle.stage2_types.specs.NodeRanges.{NodeInRange}
+use Rattle.stage2_types.specs.LeastTypes.{type-of, node-type, same-type, same-types, type-height, types-of}
+use Rattle.stage2_types.specs.LeastSolution.{_⊑_, AllBelow}
+use Rattle.stage2_types.specs.TypeWeight.{Fits, weight, weights-most, weights-full}
+use Rattle.stage2_types.specs.TypeLaws.{⊑-refl, ⊑-trans, bottom-least, above-left, above-right, above-least}
+use Rattle.stage2_types.specs.LeastTypeLaws.{type-of-next, bottoms-below, step-below, types-unique, types-fit, types-solve, same-types-equal}
+use Rattle.stage2_types_checker.specs.Dependents.{GoesBy}
+use Rattle.stage2_types_checker.specs.Raised.{grown, raised-at}
 
--- What holds of every type of a list, and of one that is stored, holds of every type afterwards.
-set-type : (P : ℕ → LanguageType → Type 0) (types : List LanguageType) (k : ℕ) (x : LanguageType) → ((n : ℕ) → P n (type-of types n)) → P k x
-    → (n : ℕ) → P n (type-of (set types k x) n)
-set-type P types k x f h n = go (compare-cases n k)
+-- What holds of every entry of a list, and of one that is stored, holds of every entry afterwards.
+pub set-entry : {A : Type 0} (d : A) (P : ℕ → A → Type 0) (xs : List A) (k : ℕ) (x : A) → ((n : ℕ) → P n (getD xs n d)) → P k x
+    → (n : ℕ) → P n (getD (set xs k x) n d)
+set-entry d P xs k x f h n = go (compare-cases n k)
   where
-    here : P k (type-of (set types k x) k)
-    here = ⊎-elim (λ l. rw (getD-set-same types k x bottom-type l) h) (λ l. rw (set-out types k x l) (f k)) (lt-or-le k (length types))
+    here : P k (getD (set xs k x) k d)
+    here = ⊎-elim (λ l. rw (getD-set-same xs k x d l) h) (λ l. rw (set-out xs k x l) (f k)) (lt-or-le k (length xs))
 
-    go : (n < k) ⊎ ((n ≡ k) ⊎ (k < n)) → P n (type-of (set types k x) n)
-    go (inl l) = rw (getD-set-other types k n x bottom-type (λ e. omega arith)) (f n)
+    go : (n < k) ⊎ ((n ≡ k) ⊎ (k < n)) → P n (getD (set xs k x) n d)
+    go (inl l) = rw (getD-set-other xs k n x d (λ e. omega arith)) (f n)
     go (inr (inl e)) = rw e here
-    go (inr (inr l)) = rw (getD-set-other types k n x bottom-type (λ e. omega arith)) (f n)
+    go (inr (inr l)) = rw (getD-set-other xs k n x d (λ e. omega arith)) (f n)
 
--- ---- a round
+-- ---- equal types
 
-module _ (ns : List Node) where
-  at-rises : (k : ℕ) (types : List LanguageType) → AllBelow types (raised-at ns k types)
+same-type-equal : (a b : LanguageType) → same-type a b ≡ true → a ≡ b
+unfolding same-types
+same-type-equal a b e =
+    ap (λ (l : List LanguageType). type-of l 0) (same-types-equal (a ∷ []) (b ∷ []) (rw e))
+
+same-type-self : (a : LanguageType) → same-type a a ≡ true
+unfolding same-type
+same-type-self a = rw (beq-self (a .null), eq-eqb (a .first) (a .first) refl, eq-eqb (a .flast) (a .flast) refl)
+  where
+    beq-self : (x : Bool) → Bool·beq x x ≡ true
+    beq-self true = refl
+    beq-self false = refl
+
+-- ---- one node is raised
+
+-- An equation that does not go by node k has the same side after its type is stored.
+node-type-away : (types : List LanguageType) (k : ℕ) (t : LanguageType) (x : Node) → (GoesBy x k → ⊥)
+    → node-type (set types k t) x ≡ node-type types x
+unfolding node-type GoesBy
+node-type-away types k t epsilon-node gone = refl
+node-type-away types k t bottom-node gone = refl
+node-type-away types k t (token-node a) gone = refl
+node-type-away types k t (sequence-node l r) gone = ap₂ sequence-type
+    (getD-set-other types k l t bottom-type (λ e. gone (inl (sym e)))) (getD-set-other types k r t bottom-type (λ e. gone (inr (sym e))))
+node-type-away types k t (alternative-node l r) gone = ap₂ alternative-type
+    (getD-set-other types k l t bottom-type (λ e. gone (inl (sym e)))) (getD-set-other types k r t bottom-type (λ e. gone (inr (sym e))))
+node-type-away types k t (fixed-point-node b) gone = getD-set-other types k b t bottom-type (λ e. gone (sym e))
+node-type-away types k t (variable-node v guarded) gone = getD-set-other types k v t bottom-type (λ e. gone (sym e))
+node-type-away types k t (repetition-node b self) gone = ap₂ repetition-type
+    (getD-set-other types k b t bottom-type (λ e. gone (inl (sym e)))) (getD-set-other types k self t bottom-type (λ e. gone (inr (sym e))))
+
+module _ (ns : List Node) (k : ℕ) (types : List LanguageType) where
+  at-long : length (raised-at ns k types) ≡ length types
   unfolding raised-at
-  at-rises k types = set-type (λ n t. type-of types n ⊑ t) types k _ (λ n. ⊑-refl (type-of types n)) (above-left _ _)
+  at-long = length-set types k _
 
-  below-rises : (k : ℕ) (types : List LanguageType) → AllBelow types (raised-below ns k types)
-  unfolding raised-below
-  below-rises zero types n = ⊑-refl (type-of types n)
-  below-rises (suc k) types n = ⊑-trans (at-rises k types n) (below-rises k (raised-at ns k types) n)
-
-  -- A solution that was above stays above.
-  below-solution : (k : ℕ) (types solution : List LanguageType) → Solves ns solution → AllBelow types solution
-      → AllBelow (raised-below ns k types) solution
-  unfolding raised-below raised-at
-  below-solution zero types solution s h = h
-  below-solution (suc k) types solution s h = below-solution k (raised-at ns k types) solution s
-      (set-type (λ n t. t ⊑ type-of solution n) types k _ h (above-least (h k) (step-below ns types solution s h k)))
-
-  at-long : (k : ℕ) (types : List LanguageType) → length (raised-at ns k types) ≡ length types
+  at-rises : AllBelow types (raised-at ns k types)
   unfolding raised-at
-  at-long k types = length-set types k _
+  at-rises = set-entry bottom-type (λ n t. type-of types n ⊑ t) types k _ (λ n. ⊑-refl (type-of types n)) (above-left _ _)
 
-  below-long : (k : ℕ) (types : List LanguageType) → length (raised-below ns k types) ≡ length types
-  unfolding raised-below
-  below-long zero types = refl
-  below-long (suc k) types = below-long k (raised-at ns k types) ∙ at-long k types
-
-  at-next : (k : ℕ) (types : List LanguageType) → k < length types → node-type types (node-at ns k) ⊑ type-of (raised-at ns k types) k
+  at-grown : k < length types → type-of (raised-at ns k types) k ≡ grown ns k types
   unfolding raised-at
-  at-next k types l =
-      rw (getD-set-same types k (alternative-type (type-of types k) (node-type types (node-at ns k))) bottom-type l) (above-right _ _)
+  at-grown l = getD-set-same types k (grown ns k types) bottom-type l
 
-  -- Each node has at least what its equation gives by the types before the round: those that it goes by only rose since.
-  below-next : (k : ℕ) (types : List LanguageType) (n : ℕ) → n < k → k ≤ length types
-      → node-type types (node-at ns n) ⊑ type-of (raised-below ns k types) n
-  unfolding raised-below
-  below-next zero types n l m = absurd (omega arith)
-  below-next (suc k) types n l m = go (λ i. below-next k (raised-at ns k types) n i (omega (arith, at-long k types))) (compare-cases n k)
-    where
-      go : (n < k → node-type (raised-at ns k types) (node-at ns n) ⊑ type-of (raised-below ns k (raised-at ns k types)) n)
-          → (n < k) ⊎ ((n ≡ k) ⊎ (k < n)) → node-type types (node-at ns n) ⊑ type-of (raised-below ns k (raised-at ns k types)) n
-      go later (inl i) = ⊑-trans (node-type-rises types (raised-at ns k types) (at-rises k types) (node-at ns n)) (later i)
-      go later (inr (inl e)) = rw e (⊑-trans (at-next k types m) (below-rises k (raised-at ns k types) k))
-      go later (inr (inr i)) = absurd (omega arith)
+  at-next : k < length types → node-type types (node-at ns k) ⊑ type-of (raised-at ns k types) k
+  at-next l = rw (at-grown l) (above-right _ _)
 
-  above-next : (types : List LanguageType) → length types ≡ length ns → AllBelow (next-types ns types) (raised ns types)
-  unfolding raised node-type
-  above-next types long n = rw (type-of-next ns types n) (⊎-elim (λ l. below-next (length ns) types n l (omega arith))
-      (λ l. rw (List·getD-eq-default ns bottom-node {n = n} l) (bottom-least (type-of (raised ns types) n))) (lt-or-le n (length ns)))
+  at-same : same-type (type-of types k) (grown ns k types) ≡ true → raised-at ns k types ≡ types
+  unfolding raised-at
+  at-same e = ext-getD bottom-type (raised-at ns k types) types (length-set types k (grown ns k types))
+      (λ n l. set-entry bottom-type (λ m t. t ≡ type-of types m) types k (grown ns k types) (λ m. refl)
+      (sym (same-type-equal (type-of types k) (grown ns k types) e)) n)
 
--- ---- the rounds
+-- ---- nodes in a row
 
--- A step that is taken once more, and one time less from there, leads to the same.
-module _ {A : Type 0} (same : A → A → Bool) (step : A → A) (equal : (a b : A) → same a b ≡ true → a ≡ b) where
-  settle-fixed : (k : ℕ) (a : A) → a ≡ step a → settle same step k a ≡ a
-  unfolding settle
-  settle-fixed zero a e = refl
-  settle-fixed (suc k) a e = go (same a (step a)) (subst (λ b. settle same step k b ≡ a) e (settle-fixed k a e))
-    where
-      go : (b : Bool) → settle same step k (step a) ≡ a → elim b [ true ↦ a | false ↦ settle same step k (step a) ] ≡ a
-      go true h = refl
-      go false h = h
-
-  settle-step : (k : ℕ) (a : A) → settle same step k (step a) ≡ settle same step (suc k) a
-  unfolding settle
-  settle-step k a = go (same a (step a)) refl
-    where
-      go : (b : Bool) → same a (step a) ≡ b → settle same step k (step a) ≡ elim b [ true ↦ a | false ↦ settle same step k (step a) ]
-      go true h = let e = equal a (step a) h in ap (settle same step k) (sym e) ∙ settle-fixed k a e
-      go false h = refl
-
--- Types with so many rounds left: between what rounds of all equations at once have by then, and the least types.
-pub record Between (ns : List Node) (left : ℕ) (types : List LanguageType) : Type 0 where
+-- Types on the way to the least ones: no equation but those of the nodes that are left gives more than its node has.
+pub record Settling (ns : List Node) (Left : ℕ → Type 0) (types : List LanguageType) : Type 0 where
   pub as-many : length types ≡ length ns
   pub below : AllBelow types (types-of ns)
-  pub at-once : List LanguageType
-  pub above : AllBelow at-once types
-  pub leads : settle same-types (next-types ns) left at-once ≡ types-of ns
+  pub settled : (n : ℕ) → n < length ns → (Left n → ⊥) → node-type types (node-at ns n) ⊑ type-of types n
+
+-- A number that falls with each node that is raised. Where its type changes, the types can grow less from then on; where it does not, the
+-- set of the nodes that are left is a smaller number. That number stays below the limit.
+pub steps-left : List Node → List LanguageType → ℕ → ℕ → ℕ
+steps-left ns types limit left = limit * (type-height * length ns - sum weight types) + left
 
 module _ (ns : List Node) where
-  pub between-first : Between ns (type-rounds ns) (replicate (length ns) bottom-type)
-  unfolding types-of
-  between-first = record {
+  pub settling-first : (Left : ℕ → Type 0) → ((n : ℕ) → n < length ns → Left n) → Settling ns Left (replicate (length ns) bottom-type)
+  settling-first Left all = record {
     as-many = length-replicate (length ns) bottom-type;
     below = bottoms-below (length ns) (types-of ns);
-    at-once = replicate (length ns) bottom-type;
-    above = λ n. ⊑-refl (type-of (replicate (length ns) bottom-type) n);
-    leads = refl;
+    settled = λ n l gone. absurd (gone (all n l));
   }
 
-  pub between-next : (left : ℕ) (types : List LanguageType) → Solves ns (types-of ns) → Between ns (suc left) types
-      → Between ns left (raised ns types)
-  unfolding raised
-  between-next left types solves b = record {
-    as-many = below-long ns (length ns) types ∙ b .as-many;
-    below = below-solution ns (length ns) types (types-of ns) solves (b .below);
-    at-once = next-types ns (b .at-once);
-    above = λ n. ⊑-trans (next-rises ns (b .at-once) types (b .above) n) (above-next ns types (b .as-many) n);
-    leads = settle-step same-types (next-types ns) same-types-equal left (b .at-once) ∙ b .leads;
-  }
+  pub settling-done : (Left : ℕ → Type 0) (types : List LanguageType) → ((n : ℕ) → Left n → ⊥) → Settling ns Left types → types ≡ types-of ns
+  unfolding node-type
+  settling-done Left types none s = types-unique ns types (s .as-many) (s .below)
+      (λ n. rw (type-of-next ns types n) (⊎-elim (λ l. s .settled n l (none n))
+      (λ l. rw (List·getD-eq-default ns bottom-node {n = n} l) (bottom-least (type-of types n))) (lt-or-le n (length ns))))
 
-  -- A round that changes nothing: the equations add nothing to the types.
-  pub between-same : (left : ℕ) (types : List LanguageType) → Between ns left types → raised ns types ≡ types → types ≡ types-of ns
-  between-same left types b e =
-      types-unique ns types (b .as-many) (b .below) (subst (AllBelow (next-types ns types)) e (above-next ns types (b .as-many)))
+  module _ (count : ℕ) (in-range : (n : ℕ) → NodeInRange most-tokens count (node-at ns n)) (Left : ℕ → Type 0) (types : List LanguageType)
+      (s : Settling ns Left types) (k : ℕ) (inside : k < length ns) (changed : Bool)
+      (told : changed ≡ not (same-type (type-of types k) (grown ns k types))) where
+    abbrev next : List LanguageType
+    next = raised-at ns k types
 
-  -- No round is left.
-  pub between-over : (types : List LanguageType) → Between ns 0 types → types ≡ types-of ns
-  unfolding settle
-  between-over types b = ext-getD bottom-type types (types-of ns) (b .as-many ∙ sym (types-long ns))
-      (λ n l. ⊑-antisym (b .below n) (subst (λ xs. type-of xs n ⊑ type-of types n) (b .leads) (b .above n)))
+    there : k < length types
+    there = omega (arith, s .as-many)
+
+    same : changed ≡ false → next ≡ types
+    same e = at-same ns k types (not-false _ (sym told ∙ e))
+
+    other : changed ≡ true → next ≡ types → ⊥
+    other e q =
+        let here : type-of types k ≡ grown ns k types = ap (λ (l : List LanguageType). type-of l k) (sym q) ∙ at-grown ns k types there in
+        true≢false (sym (same-type-self (type-of types k)) ∙ ap (same-type (type-of types k)) here ∙ not-true _ (sym told ∙ e))
+
+    next-below : AllBelow next (types-of ns)
+    unfolding raised-at
+    next-below = set-entry bottom-type (λ n t. t ⊑ type-of (types-of ns) n) types k _ (s .below)
+        (above-least (s .below k) (step-below ns types (types-of ns) (types-solve ns count in-range) (s .below) k))
+
+    -- What is left afterwards: what was left but for this node, and those that go by it if its type changed.
+    module _ (Later : ℕ → Type 0) (kept : (n : ℕ) → Left n → (n ≡ k → ⊥) → Later n)
+        (joined : changed ≡ true → (n : ℕ) → n < length ns → GoesBy (node-at ns n) k → Later n) where
+      unmoved : (n : ℕ) → n < length ns → (Later n → ⊥) → (b : Bool) → changed ≡ b
+          → node-type next (node-at ns n) ≡ node-type types (node-at ns n)
+      unfolding raised-at
+      unmoved n l gone true e = node-type-away types k (grown ns k types) (node-at ns n) (λ g. gone (joined e n l g))
+      unmoved n l gone false e = ap (λ (xs : List LanguageType). node-type xs (node-at ns n)) (same e)
+
+      pub settling-next : Settling ns Later next
+      settling-next = record {
+        as-many = at-long ns k types ∙ s .as-many;
+        below = next-below;
+        settled = λ n l gone. rw (unmoved n l gone changed refl) (holds n l gone (compare-cases n k));
+      }
+        where
+          away : (n : ℕ) → n < length ns → (Later n → ⊥) → (n ≡ k → ⊥) → node-type types (node-at ns n) ⊑ type-of next n
+          away n l gone ne = ⊑-trans (s .settled n l (λ h. gone (kept n h ne))) (at-rises ns k types n)
+
+          holds : (n : ℕ) → n < length ns → (Later n → ⊥) → (n < k) ⊎ ((n ≡ k) ⊎ (k < n)) → node-type types (node-at ns n) ⊑ type-of next n
+          holds n l gone (inl i) = away n l gone (λ e. omega arith)
+          holds n l gone (inr (inl e)) = rw e (at-next ns k types there)
+          holds n l gone (inr (inr i)) = away n l gone (λ e. omega arith)
+
+    fits : (n : ℕ) → Fits (type-of next n)
+    fits n = record {
+      first-fits = λ i h. types-fit ns count in-range n .first-fits i (next-below n .first-rises i h);
+      flast-fits = λ i h. types-fit ns count in-range n .flast-fits i (next-below n .flast-rises i h);
+    }
+
+    heavier : changed ≡ true → sum weight types < sum weight next
+    heavier e = ⊎-elim (λ l. l)
+        (λ l. absurd (other e (sym (weights-full types next (sym (at-long ns k types)) (at-rises ns k types) fits l))))
+        (lt-or-le (sum weight types) (sum weight next))
+
+    pub settling-falls : (limit left later : ℕ) → later < limit → (changed ≡ false → later < left)
+        → steps-left ns next limit later < steps-left ns types limit left
+    unfolding steps-left
+    settling-falls limit left later most less = go changed refl
+      where
+        go : (b : Bool) → changed ≡ b → steps-left ns next limit later < steps-left ns types limit left
+        go true e =
+            let room : sum weight next ≤ type-height * length ns =
+            subst (λ (n : ℕ). sum weight next ≤ type-height * n) (at-long ns k types ∙ s .as-many) (weights-most next) in
+            let fewer : 1 + (type-height * length ns - sum weight next) ≤ type-height * length ns - sum weight types = omega (arith, heavier e) in
+            omega (arith, most, mul-le-mul-left limit fewer)
+        go false e = rw (same e) (omega (arith, less e))

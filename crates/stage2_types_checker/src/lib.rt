@@ -1,15 +1,15 @@
-// Least types of all nodes of an expression, and questions 8 to 10: Figure 2's equations over columns, applied to all nodes
-// until nothing changes, and then the first node whose question fails. What a type means is not the code's to know.
+// Least types of all nodes of an expression, and questions 8 to 10: Figure 2's equations over columns, each applied again once a
+// type has changed that it goes by, and then the first node whose question fails. What a type means is not the code's to know.
 use stage1_sheet_columns::NodeColumns;
 use stage2_types_columns::NodeLinks;
 use stage2_types_columns::TypeColumns;
 use stage2_types_linker::link_nodes;
 ghost use mathlib.Core.Path.{_≡_};
 ghost use mathlib.Core.Bool.{Bool, cond, not};
-ghost use Prim.Native.Nat.{_^_, _<_};
+ghost use Prim.Native.Nat.{suc, _-_, _^_, _<_, _≤_};
 ghost use Rattle.stage0_laws.specs.Bits.{bit};
 ghost use Rattle.stage2_types.specs.Types.{if-null, sequence-type, alternative-type, repetition-type};
-ghost use Rattle.stage2_types.specs.LeastTypes.{same-type, same-types, types-of};
+ghost use Rattle.stage2_types.specs.LeastTypes.{same-type, types-of};
 ghost use Rattle.stage2_types.specs.Questions.{separable, apart, first-fault};
 ghost use Rattle.stage2_types_columns.specs.Held.{node-of, held-nodes, held-type, held-types};
 ghost use Rattle.stage2_types_columns.specs.Linked.{SheetExpression};
@@ -17,14 +17,9 @@ ghost use Rattle.stage1_sheet.specs.Limits.{most-tokens};
 ghost use Rattle.stage2_types.specs.NodeRanges.{NodeInRange};
 ghost use Rattle.stage2_types_columns.specs.Within.{LinksFit};
 ghost use Rattle.stage2_types_checker.specs.TypeBy.{type-by, fault-by};
-ghost use Rattle.stage2_types_checker.specs.Raised.{raised};
+ghost use Rattle.stage2_types_checker.specs.Dependents.{DependentsBelow};
 ghost use Rattle.stage2_types_checker.specs.Found.{language-type, fault-of, asked};
 ghost use Rattle.stage2_types_checker.specs.Checking.{CheckedOf};
-
-const MOST_TOKENS: usize = 24;
-
-// How often a node's type can grow: once to nullable, and by each token in each of two sets.
-const TYPE_HEIGHT: usize = 1 + 2 * MOST_TOKENS;
 
 // The type of one node.
 pub struct NodeType {
@@ -33,9 +28,9 @@ pub struct NodeType {
     pub flast: u32,
 }
 
-// The types after a round, and whether it changed any.
-struct Raised {
-    types: TypeColumns,
+// What a node's equation adds to its type: the type then, and whether it is another one.
+struct Grown {
+    now: NodeType,
     changed: bool,
 }
 
@@ -213,59 +208,115 @@ fn node_type<'a>(
     without_flast(false, 0)
 }
 
-// One round: every node's equation once, each type stored at once. A node's parts stand behind it, so from the last node to the
-// first only variables and repetitions go by types of the round before. A node keeps what it had: types only grow, so no flag is
-// ever taken back.
-fn raise(links: NodeLinks, types: TypeColumns) -> Raised
-    requires { ⌜ LinksFit links ⌝ }
+// Node i has what it had, and what its equation gives it: types only grow, so no flag is ever taken back.
+fn grown_type<'a>(
+    null: u64,
+    first: &'a [u32; 64],
+    flast: &'a [u32; 64],
+    tag: u8,
+    link: u8,
+    i: usize,
+) -> Grown
+    requires { ⌜ i < 64 ⌝ }
+    requires { ⌜ ((guarded : Bool) → NodeInRange most-tokens 64 (node-of tag link guarded i)) ⌝ }
     ensures { λ r. ⌜
-        (held-types (links .count) (r .types) ≡ raised (held-nodes links) (held-types (links .count) types))
-        × (r .changed ≡ not (same-types (held-types (links .count) types) (held-types (links .count) (r .types))))
+        (
+        (guarded : Bool)
+        → language-type (r .now)
+        ≡ alternative-type
+        (held-type null (now (first .entry)) (now (flast .entry)) i)
+        (type-by (held-type null (now (first .entry)) (now (flast .entry))) (node-of tag link guarded i))
+        )
+        ⌝ }
+    ensures { λ r. ⌜
+        r .changed ≡ not (same-type (held-type null (now (first .entry)) (now (flast .entry)) i) (language-type (r .now)))
         ⌝ }
 {
-    let mut out = types;
-    let mut changed = false;
-    let mut i = links.count;
-    while 0 < i {
-        i -= 1;
-        let tag = links.tag[i];
-        let link = links.link[i];
-        let own = type_at(out.null, &out.first, &out.flast, i);
-        let step = node_type(out.null, &out.first, &out.flast, tag, link, i);
-        let t = alternative_type(own, step);
-        let same = same_type(own, t);
-        changed = changed | !same;
-        let one = one_if(t.null, i);
-        out.null = out.null | one;
-        out.first[i] = t.first;
-        out.flast[i] = t.flast;
-    }
-    Raised {
-        types: out,
-        changed,
+    let own = type_at(null, first, flast, i);
+    let step = node_type(null, first, flast, tag, link, i);
+    let now = alternative_type(own, step);
+    let same = same_type(own, now);
+    Grown {
+        now,
+        changed: !same,
     }
 }
 
-// The least types that solve the equations: all nodes start with the type of ⊥.
+// For each node the set of those whose equations go by its type: its parent, and the variables of a fixed point or a repetition
+// itself. The remainders keep every index in range; one that counts is smaller than 64 anyway.
+fn dependents(links: NodeLinks) -> [u64; 64]
+    requires { ⌜ LinksFit links ⌝ }
+    ensures { λ r. ⌜ DependentsBelow links (links .count) r ⌝ }
+{
+    let mut sets = [0u64; 64];
+    let mut i = 0;
+    while i < links.count {
+        let tag = links.tag[i];
+        let next = (i + 1) % 64;
+        let to = (links.link[i] % 64) as usize;
+        let part = one_if((tag == 3) | (tag == 4) | (tag == 5) | (tag == 7), i);
+        let other = one_if((tag == 3) | (tag == 4) | (tag == 6) | (tag == 7), i);
+        sets[next] = sets[next] | part;
+        sets[to] = sets[to] | other;
+        i += 1;
+    }
+    sets
+}
+
+// The first so many nodes, as a set.
+fn all_nodes(count: usize) -> u64
+    requires { ⌜ count ≤ 64 ⌝ }
+    ensures { λ r. ⌜ r ≡ 2 ^ count - 1 ⌝ }
+{
+    if 63 < count {
+        return u64::MAX;
+    }
+    (1u64 << count) - 1
+}
+
+// The last member of a set that is not empty.
+fn last_member(s: u64) -> usize
+    requires { ⌜ 0 < s ⌝ }
+    ensures { λ r. ⌜ (r < 64) × (2 ^ r ≤ s) × (s < 2 ^ suc r) ⌝ }
+{
+    63 - u64::leading_zeros(s) as usize
+}
+
+// The set, or none of it.
+fn members_if(member: bool, s: u64) -> u64
+    ensures { λ r. ⌜ r ≡ cond member s 0 ⌝ }
+{
+    if member {
+        return s;
+    }
+    0
+}
+
+// The least types that solve the equations. All nodes start with the type of ⊥, and all are left to be raised. The last that is
+// left goes first, since a node's parts stand behind it: so a change goes up to the first node before a variable goes by it.
 pub fn least_types(links: NodeLinks) -> TypeColumns
     requires { ⌜ LinksFit links ⌝ }
     ensures { λ r. ⌜ held-types (links .count) r ≡ types-of (held-nodes links) ⌝ }
 {
-    let count = links.count;
+    let sets = dependents(links);
     let mut types = TypeColumns {
         null: 0,
         first: [0; 64],
         flast: [0; 64],
     };
-    let mut rounds = TYPE_HEIGHT * count;
-    while 0 < rounds {
-        let round = raise(links, types);
-        if !round.changed {
-            return types;
-        }
-        let next = round.types;
-        types = next;
-        rounds -= 1;
+    let mut left = all_nodes(links.count);
+    while 0 < left {
+        let i = last_member(left);
+        let tag = links.tag[i];
+        let link = links.link[i];
+        let t = grown_type(types.null, &types.first, &types.flast, tag, link, i);
+        let own = one_if(true, i);
+        let again = members_if(t.changed, sets[i]);
+        left = (left - own) | again;
+        let one = one_if(t.now.null, i);
+        types.null = types.null | one;
+        types.first[i] = t.now.first;
+        types.flast[i] = t.now.flast;
     }
     types
 }

@@ -7,7 +7,7 @@ use Rattle.stage2_types.specs.Questions.{first-fault}
 use Rattle.stage2_types_columns.specs.Held.{held-nodes, held-types}
 use Rattle.stage2_types_checker.specs.TypeBy.{fault-by}
 use Rattle.stage2_types_checker.specs.Found.{asked}
-use Rattle.stage2_types_checker.proofs.Rounds.{type-in, linked-node, node-fits, fault-read, faults-from, faults-first, fault-here, fault-later, fault-none}
+use Rattle.stage2_types_checker.proofs.Loops.{type-in, linked-node, node-fits, fault-read, faults-from, faults-first, fault-here, fault-later, fault-none}
 use Rattle.stage2_types_checker.proofs.first_fault.Statement.{statement}
 use Rattle.stage2_types_checker.proofs.first_fault.Tie as tie
 

@@ -1,27 +1,27 @@
--- The loops of the type check over columns: a round over all nodes in place, the rounds, and the first question that fails. That such
--- rounds lead to the least types is not shown here but over lists (`RaisedLaws`).
+-- The loops of the type check over columns: nodes that are raised until none is left, and the first question that fails. That this
+-- leads to the least types is not shown here but over lists (`RaisedLaws`).
 use mathlib.Core.Path.{_≡_, refl, sym, ap, ap₂, subst, _∙_}
-use mathlib.Core.Bool.{Bool, true, false, not, _&&_, _||_, cond, or-false}
-use mathlib.Core.List.{_∷_}
+use mathlib.Core.Bool.{Bool, true, false, not, _||_, cond, or-false}
+use mathlib.Core.List.{List, _∷_}
 use mathlib.Core.Logic.{_⊎_, inl, inr, ⊎-elim}
 use mathlib.Core.Option.{Option}
-use Prim.Native.Nat.{ℕ, zero, suc, _+_, _-_, _*_, _^_, _≤_, _<_}
+use Prim.Native.Nat.{ℕ, zero, suc, _+_, _-_, _^_, _≤_, _<_}
 use native.Mathlib.Numerals.{add-one}
 use native.Mathlib.Omega.{arith}
 use native.Mathlib.Nat.{sub-zero}
-use lib.Bits.{bitOr}
+use lib.Bits.{bitOr, or-zero-r}
 use lib.Dec.{eqb}
-use lib.ListN.{getD, set, length, replicate, length-set, getD-replicate, List·getD-eq-default}
+use lib.ListN.{getD, set, length, replicate, length-set, length-replicate, getD-replicate, List·getD-eq-default}
+use lib.Pow.{pow-pos, pow-mono}
 use lib.Seq.{getD-set-same, getD-set-other, ext-getD}
-use borrow.Author.Tests.{eq-eqb, ne-eqb, not-false}
-use Rattle.stage0_laws.specs.Bits.{bit}
-use Rattle.stage0_laws.specs.BitLaws.{bit-or, bit-one, bit-zero}
+use borrow.Author.Tests.{eq-eqb, ne-eqb}
+use Rattle.stage0_laws.specs.Bits.{bit, _∈_}
+use Rattle.stage0_laws.specs.BitLaws.{bit-or, bit-one, bit-zero, bit-below, lt-pow-self, ∈-cases, ∈-left, ∈-right, ∈-zero, ∈-cond, ∈-when}
 use Rattle.stage0_laws.specs.Lists.{or-else}
 use Rattle.stage0_laws.specs.Order.{compare-cases, lt-or-le}
 use Rattle.stage2_types.specs.Types.{LanguageType, bottom-type, alternative-type}
 use Rattle.stage2_types.specs.Nodes.{Node, epsilon-node, bottom-node, token-node, sequence-node, alternative-node, fixed-point-node, variable-node, repetition-node, node-at}
-use Rattle.stage2_types.specs.LeastTypes.{type-of, node-type, same-type, same-types, type-rounds, types-of, type-height}
-use Rattle.stage2_types.specs.LeastTypeLaws.{same-types-equal, types-solve}
+use Rattle.stage2_types.specs.LeastTypes.{type-of, node-type, same-type, types-of}
 use Rattle.stage2_types.specs.Questions as questions
 use Rattle.stage2_types.specs.Questions.{first-fault}
 use Rattle.stage2_types_columns.specs.Tabulate.{tabulate, tabulate-length, tabulate-next, tabulate-end}
@@ -34,11 +34,13 @@ use Rattle.stage2_types_columns.specs.Within.{LinksFit}
 use Rattle.stage2_types_columns.specs.declared.NodeLinks.{NodeLinks}
 use Rattle.stage2_types_columns.specs.declared.TypeColumns.{TypeColumns}
 use Rattle.stage2_types_checker.specs.TypeBy.{type-by, fault-by, type-of-listed, node-type-by, node-fault-by}
-use Rattle.stage2_types_checker.specs.Raised.{raised-at, raised-below, raised}
-use Rattle.stage2_types_checker.specs.RaisedLaws.{Between, between-first, between-next, between-same, between-over}
+use Rattle.stage2_types_checker.specs.Dependents.{GoesBy, DependentsBelow}
+use Rattle.stage2_types_checker.specs.Raised.{grown, raised-at}
+use Rattle.stage2_types_checker.specs.RaisedLaws.{Settling, steps-left, settling-first, settling-next, settling-falls, settling-done}
 use Rattle.stage2_types_checker.specs.Found.{language-type, fault-of, asked}
 use Rattle.stage2_types_checker.specs.declared.NodeType.{NodeType}
 use Rattle.stage2_types_checker.specs.declared.Fault.the-variants.{Nothing, At}
+use Rattle.stage2_types_checker.proofs.Sets.{all-in, no-more-in, last-in, was-in, still-in}
 
 abbrev pub linked-node : NodeLinks → ℕ → Node
 linked-node links = held-node (links .tag) (links .link) (links .guarded)
@@ -136,17 +138,7 @@ module _ (c : TypeColumns) (i : ℕ) (t : NodeType) (one : ℕ) (one-is : one �
       had true b d e = sym e
       had false b d e = refl
 
--- ---- a round in place
-
--- Both lists from node k on.
-abbrev same-from : (ℕ → LanguageType) → (ℕ → LanguageType) → ℕ → ℕ → Bool
-same-from f g n k = same-types (tabulate f k (n - k)) (tabulate g k (n - k))
-
--- Functions that agree from i on give the same list from there.
-tabulate-later : {A : Type 0} (f g : ℕ → A) (i n : ℕ) → ((k : ℕ) → i ≤ k → f k ≡ g k) → tabulate f i n ≡ tabulate g i n
-unfolding tabulate
-tabulate-later f g i zero h = refl
-tabulate-later f g i (suc n) h = ap₂ _∷_ (h i (omega arith)) (tabulate-later f g (suc i) n (λ k l. h k (omega arith)))
+-- ---- one node is raised
 
 -- One entry of a list made anew.
 tabulate-set : (f g : ℕ → LanguageType) (n i : ℕ) (x : LanguageType) → i < n → g i ≡ x → ((q : ℕ) → (q ≡ i → ⊥) → g q ≡ f q)
@@ -164,97 +156,25 @@ tabulate-set f g n i x l here other = ext-getD bottom-type (tabulate g 0 n) (set
         rw e (type-of-listed g n i l ∙ here ∙ sym (getD-set-same (tabulate f 0 n) i x bottom-type (omega (arith, tabulate-length f 0 n))))
     go q m (inr (inr a)) = away q m (λ e. omega arith)
 
--- The nodes from i on are done: what is left of the round leads from the present types to the round's.
-pub record Raising (links : NodeLinks) (types out : TypeColumns) (changed : Bool) (i : ℕ) : Type 0 where
-  pub at-most : i ≤ links .count
-  pub long : Long out
-  pub leads : raised-below (held-nodes links) i (held-types (links .count) out) ≡ raised (held-nodes links) (held-types (links .count) types)
-  pub untouched : (q : ℕ) → q < i → type-in out q ≡ type-in types q
-  pub told : changed ≡ not (same-from (type-in types) (type-in out) (links .count) i)
+-- Node i is raised, as the code does it.
+module _ (links : NodeLinks) (fit : LinksFit links) (out : TypeColumns) (long : Long out) (i : ℕ) (more : i < links .count) (t : NodeType)
+    (one : ℕ) (t-is : language-type t ≡ alternative-type (type-in out i) (type-by (type-in out) (linked-node links i)))
+    (one-is : one ≡ cond (t .null) (2 ^ i) 0) where
+  one-here : type-in (stored out i t one) i ≡ language-type t
+  one-here = stored-here out i t one one-is (type-by (type-in out) (linked-node links i)) (omega (arith, fit .count-fits)) long t-is
 
-module _ (links : NodeLinks) (types : TypeColumns) where
-  abbrev n : ℕ
-  n = links .count
+  one-grown : grown (held-nodes links) i (held-types (links .count) out) ≡ language-type t
+  unfolding held-types
+  one-grown = ap₂ alternative-type (type-of-listed (type-in out) (links .count) i more)
+      (ap (node-type (tabulate (type-in out) 0 (links .count))) (sym (node-held links (held-nodes links) refl i more))
+      ∙ node-type-by (type-in out) (links .count) (linked-node links i) (fit .all-within i more)) ∙ sym t-is
 
-  pub raising-first : Long types → Raising links types types false (links .count)
-  unfolding raised held-nodes same-types
-  raising-first h = record {
-    at-most = omega arith;
-    long = h;
-    leads = ap (λ (k : ℕ). raised-below (held-nodes links) k (held-types n types)) (sym (tabulate-length (linked-node links) 0 n));
-    untouched = λ q l. refl;
-    told = rw (tabulate-end (type-in types) n n (omega arith));
-  }
+  one-raised : held-types (links .count) (stored out i t one) ≡ raised-at (held-nodes links) i (held-types (links .count) out)
+  unfolding raised-at held-types
+  one-raised = tabulate-set (type-in out) (type-in (stored out i t one)) (links .count) i _ more (one-here ∙ sym one-grown)
+      (stored-other out i t one one-is)
 
-  pub raising-done : (out : TypeColumns) (changed : Bool) (i : ℕ) → Raising links types out changed i → i ≡ 0
-      → (held-types n out ≡ raised (held-nodes links) (held-types n types)) × (changed ≡ not (same-types (held-types n types) (held-types n out)))
-  unfolding raised-below held-types
-  raising-done out changed i h e = (
-    ap (λ (k : ℕ). raised-below (held-nodes links) k (held-types n out)) (sym e) ∙ h .leads,
-    h .told ∙ rw (e, sub-zero),
-  )
-
-  module _ (out : TypeColumns) (changed : Bool) (i : ℕ) (fit : LinksFit links) (more : i < n) (h : Raising links types out changed (suc i))
-      (t : NodeType) (one : ℕ) (t-is : language-type t ≡ alternative-type (type-in out i) (type-by (type-in out) (linked-node links i)))
-      (one-is : one ≡ cond (t .null) (2 ^ i) 0) where
-    abbrev next : TypeColumns
-    next = stored out i t one
-
-    here : type-in next i ≡ language-type t
-    here = stored-here out i t one one-is (type-by (type-in out) (linked-node links i)) (omega (arith, fit .count-fits)) (h .long) t-is
-
-    one-raised : held-types n next ≡ raised-at (held-nodes links) i (held-types n out)
-    unfolding raised-at held-types
-    one-raised = tabulate-set (type-in out) (type-in next) n i _ more
-        (here ∙ t-is ∙ sym (ap₂ alternative-type (type-of-listed (type-in out) n i more)
-        (ap (node-type (tabulate (type-in out) 0 n)) (sym (node-held links (held-nodes links) refl i more))
-        ∙ node-type-by (type-in out) n (linked-node links i) (fit .all-within i more))))
-        (stored-other out i t one one-is)
-
-    one-told : (changed || not (same-type (type-in out i) (language-type t))) ≡ not (same-from (type-in types) (type-in next) n i)
-    unfolding same-types
-    one-told =
-        ap (λ (b : Bool). b || not (same-type (type-in out i) (language-type t))) (h .told)
-        ∙ both (same-type (type-in out i) (language-type t)) (same-from (type-in types) (type-in out) n (suc i))
-        ∙ rw (
-          tabulate-next (type-in types) n i more,
-          tabulate-next (type-in next) n i more,
-          add-one i,
-          here,
-          h .untouched i (omega arith),
-          tabulate-later (type-in next) (type-in out) (suc i) (n - suc i) (λ k l. stored-other out i t one one-is k (λ e. omega arith)),
-        )
-      where
-        both : (a b : Bool) → (not b || not a) ≡ not (a && b)
-        both true true = refl
-        both true false = refl
-        both false true = refl
-        both false false = refl
-
-    one-next : Raising links types next (changed || not (same-type (type-in out i) (language-type t))) i
-    unfolding raised-below
-    one-next = record {
-      at-most = omega arith;
-      long = stored-long out i t one one-is (h .long);
-      leads = ap (raised-below (held-nodes links) i) one-raised ∙ h .leads;
-      untouched = λ q l. stored-other out i t one one-is q (λ e. omega arith) ∙ h .untouched q (omega arith);
-      told = one-told;
-    }
-
-  -- A turn, as the code has it.
-  pub raising-next : (out : TypeColumns) (changed : Bool) (i : ℕ) → LinksFit links → 0 < i → Raising links types out changed i
-      → (own step t : NodeType) (same : Bool) (one : ℕ) → language-type own ≡ type-in out (i - 1)
-      → language-type step ≡ type-by (type-in out) (linked-node links (i - 1))
-      → language-type t ≡ alternative-type (language-type own) (language-type step) → same ≡ same-type (language-type own) (language-type t)
-      → one ≡ cond (t .null) (2 ^ (i - 1)) 0 → Raising links types (stored out (i - 1) t one) (changed || not same) (i - 1)
-  raising-next out changed i fit more h own step t same one own-is step-is t-is same-is one-is =
-      let inside : i - 1 < n = omega (arith, h .at-most) in
-      let last : i ≡ suc (i - 1) = omega arith in
-      subst (λ (b : Bool). Raising links types (stored out (i - 1) t one) (changed || not b) (i - 1))
-      (sym (same-is ∙ ap (λ (a : LanguageType). same-type a (language-type t)) own-is))
-      (one-next out changed (i - 1) fit inside (subst (Raising links types out changed) last h) t one (t-is ∙ ap₂ alternative-type own-is step-is) one-is)
-
--- ---- the rounds
+-- ---- all nodes
 
 -- Columns of zeros.
 abbrev no-types : TypeColumns
@@ -265,40 +185,113 @@ unfolding tabulate
 bottoms zero i f h = refl
 bottoms (suc n) i f h = ap₂ _∷_ (h i (omega arith)) (bottoms n (suc i) f (λ k l. h k (omega arith)))
 
+-- The present types, and the nodes that are left.
+pub record Pending (links : NodeLinks) (types : TypeColumns) (left : ℕ) : Type 0 where
+  pub long : Long types
+  pub within : (n : ℕ) → n ∈ left → n < links .count
+  pub settling : Settling (held-nodes links) (λ n. n ∈ left) (held-types (links .count) types)
+
+-- What falls with each node that is raised.
+abbrev pub pending-steps : NodeLinks → TypeColumns → ℕ → ℕ
+pending-steps links types left = steps-left (held-nodes links) (held-types (links .count) types) (2 ^ 64) left
+
+pub last-inside : (links : NodeLinks) (types : TypeColumns) (left i : ℕ) → Pending links types left → 2 ^ i ≤ left → left < 2 ^ suc i
+    → i < links .count
+last-inside links types left i h low high = h .within i (last-in left i low high)
+
+-- What a turn of the code goes by: the last node that is left, its type afterwards and whether that is another one, and the sets.
+pub record Turn (links : NodeLinks) (sets : List ℕ) (types : TypeColumns) (left i : ℕ) (t : NodeType) (changed : Bool) (one own again : ℕ) : Type 0 where
+  pub deps : DependentsBelow links (links .count) sets
+  pub pending : Pending links types left
+  pub low : 2 ^ i ≤ left
+  pub high : left < 2 ^ suc i
+  pub t-is : language-type t ≡ alternative-type (type-in types i) (type-by (type-in types) (linked-node links i))
+  pub changed-is : changed ≡ not (same-type (type-in types i) (language-type t))
+  pub one-is : one ≡ cond (t .null) (2 ^ i) 0
+  pub own-is : own ≡ 2 ^ i
+  pub again-is : again ≡ cond changed (getD sets i 0) 0
+
 module _ (links : NodeLinks) (fit : LinksFit links) where
-  nodes-within : (q : ℕ) → NodeInRange most-tokens (links .count) (node-at (held-nodes links) q)
+  abbrev ns : List Node
+  ns = held-nodes links
+
+  counted : length ns ≡ links .count
+  counted = nodes-counted links ns refl
+
+  nodes-within : (q : ℕ) → NodeInRange most-tokens (links .count) (node-at ns q)
   nodes-within q = ⊎-elim
-      (λ l. subst (NodeInRange most-tokens (links .count)) (node-held links (held-nodes links) refl q l) (fit .all-within q l))
-      (λ l. rw (List·getD-eq-default (held-nodes links) bottom-node {n = q} (omega (arith, nodes-counted links (held-nodes links) refl))) tt)
+      (λ l. subst (NodeInRange most-tokens (links .count)) (node-held links ns refl q l) (fit .all-within q l))
+      (λ l. rw (List·getD-eq-default ns bottom-node {n = q} (omega (arith, counted))) tt)
       (lt-or-le q (links .count))
 
-  pub rounds-first : Between (held-nodes links) (type-height * links .count) (held-types (links .count) no-types)
-  unfolding type-rounds held-types held-type bottom-type
-  rounds-first =
-      let counted = nodes-counted links (held-nodes links) refl in
-      let zeros = bottoms (links .count) 0 (held-type 0 (replicate 64 0) (replicate 64 0))
-      (λ k l. rw (bit-zero k, getD-replicate {A = ℕ} 64 k 0 0 (omega (arith, fit .count-fits)))) in
-      subst (Between (held-nodes links) (type-height * links .count)) (sym zeros)
-      (subst (λ (k : ℕ). Between (held-nodes links) (type-height * k) (replicate k bottom-type)) counted (between-first (held-nodes links)))
+  pub pending-first : (left : ℕ) → left ≡ 2 ^ links .count - 1 → Pending links no-types left
+  unfolding held-types held-type bottom-type
+  pending-first left e = record {
+    long = record { first-long = length-replicate {A = ℕ} 64 0; flast-long = length-replicate {A = ℕ} 64 0 };
+    within = λ n h. no-more-in (links .count) n (subst (λ (s : ℕ). n ∈ s) e h);
+    settling = subst (Settling ns (λ n. n ∈ left)) (ap (λ (k : ℕ). replicate k bottom-type) counted ∙ sym zeros)
+        (settling-first ns (λ n. n ∈ left) (λ n l. rw e (all-in (links .count) n (omega (arith, counted)))));
+  }
+    where
+      zeros : tabulate (held-type 0 (replicate 64 0) (replicate 64 0)) 0 (links .count) ≡ replicate (links .count) bottom-type
+      zeros = bottoms (links .count) 0 (held-type 0 (replicate 64 0) (replicate 64 0))
+          (λ k l. rw (bit-zero k, getD-replicate {A = ℕ} 64 k 0 0 (omega (arith, fit .count-fits))))
 
-  module _ (types next : TypeColumns) (left : ℕ) (between : Between (held-nodes links) left (held-types (links .count) types))
-      (next-is : held-types (links .count) next ≡ raised (held-nodes links) (held-types (links .count) types)) where
-    pub rounds-stop : (changed : Bool) → changed ≡ not (same-types (held-types (links .count) types) (held-types (links .count) next))
-        → changed ≡ false → held-types (links .count) types ≡ types-of (held-nodes links)
-    rounds-stop changed told e = between-same (held-nodes links) left (held-types (links .count) types) between
-        (sym (same-types-equal (held-types (links .count) types) (held-types (links .count) next) (not-false _ (sym told ∙ e)) ∙ next-is))
+  pub pending-done : (types : TypeColumns) (left : ℕ) → Pending links types left → left ≡ 0 → held-types (links .count) types ≡ types-of ns
+  pending-done types left h e =
+      settling-done ns (λ n. n ∈ left) (held-types (links .count) types) (λ n m. ∈-zero n (subst (λ (s : ℕ). n ∈ s) e m)) (h .settling)
 
-    pub rounds-on : 0 < left → Between (held-nodes links) (left - 1) (held-types (links .count) next)
-    rounds-on l =
-        let last : left ≡ suc (left - 1) = omega arith in
-        rw next-is (between-next (held-nodes links) (left - 1) (held-types (links .count) types)
-        (types-solve (held-nodes links) (links .count) nodes-within)
-        (subst (λ (k : ℕ). Between (held-nodes links) k (held-types (links .count) types)) last between))
+  -- A turn of the code.
+  module _ {sets : List ℕ} {types : TypeColumns} {left i : ℕ} {t : NodeType} {changed : Bool} {one own again : ℕ}
+      (w : Turn links sets types left i t changed one own again) where
+    inside : i < links .count
+    inside = last-inside links types left i (w .pending) (w .low) (w .high)
 
-pub rounds-over : (links : NodeLinks) (types : TypeColumns) (left : ℕ) → Between (held-nodes links) left (held-types (links .count) types) → left ≡ 0
-    → held-types (links .count) types ≡ types-of (held-nodes links)
-rounds-over links types left between e = between-over (held-nodes links) (held-types (links .count) types)
-    (subst (λ (k : ℕ). Between (held-nodes links) k (held-types (links .count) types)) e between)
+    abbrev later : ℕ
+    later = bitOr (left - own) again
+
+    raised-is : held-types (links .count) (stored types i t one) ≡ raised-at ns i (held-types (links .count) types)
+    raised-is = one-raised links fit types (w .pending .long) i inside t one (w .t-is) (w .one-is)
+
+    told : changed ≡ not (same-type (type-of (held-types (links .count) types) i) (grown ns i (held-types (links .count) types)))
+    unfolding held-types
+    told = (w .changed-is) ∙ sym (ap₂ (λ (a b : LanguageType). not (same-type a b)) (type-of-listed (type-in types) (links .count) i inside)
+        (one-grown links fit types (w .pending .long) i inside t one (w .t-is) (w .one-is)))
+
+    kept : (n : ℕ) → n ∈ left → (n ≡ i → ⊥) → n ∈ later
+    kept n m other = ∈-left (left - own) again n (rw (w .own-is) (still-in left i (w .low) (w .high) n m other))
+
+    joins : changed ≡ true → (n : ℕ) → n < length ns → GoesBy (node-at ns n) i → n ∈ later
+    joins e n l g = ∈-right (left - own) again n (rw (w .again-is) (∈-when changed (getD sets i 0) n e
+        (w .deps .all-in n i (omega (arith, counted)) (subst (λ (x : Node). GoesBy x i) (sym (node-held links ns refl n (omega (arith, counted)))) g))))
+
+    later-within : (n : ℕ) → n ∈ later → n < links .count
+    later-within n m = ⊎-elim (λ k. w .pending .within n (was-in left i (w .low) (w .high) n (subst (λ (x : ℕ). n ∈ left - x) (w .own-is) k)))
+        (λ k. w .deps .no-more n i (∈-cond changed (getD sets i 0) n (subst (λ (x : ℕ). n ∈ x) (w .again-is) k) .1)) (∈-cases (left - own) again n m)
+
+    pub pending-next : Pending links (stored types i t one) later
+    pending-next = record {
+      long = stored-long types i t one (w .one-is) (w .pending .long);
+      within = later-within;
+      settling = rw raised-is (settling-next ns (links .count) nodes-within (λ n. n ∈ left) (held-types (links .count) types) (w .pending .settling) i
+          (omega (arith, inside, counted)) changed told (λ n. n ∈ later) kept joins);
+    }
+
+    pub pending-falls : pending-steps links (stored types i t one) later < pending-steps links types left
+    pending-falls = rw raised-is (settling-falls ns (links .count) nodes-within (λ n. n ∈ left) (held-types (links .count) types) (w .pending .settling) i
+        (omega (arith, inside, counted)) changed told (2 ^ 64) left later most less)
+      where
+        most : later < 2 ^ 64
+        most = omega (
+          arith,
+          bit-below (links .count) later later (lt-pow-self later) later-within,
+          pow-mono {i = links .count} {j = 64} (fit .count-fits),
+        )
+
+        less : changed ≡ false → later < left
+        less e =
+            let none : again ≡ 0 = (w .again-is) ∙ ap (λ (b : Bool). cond b (getD sets i 0) 0) e in
+            rw (none, or-zero-r (left - own), (w .own-is)) (omega (arith, pow-pos i))
 
 -- ---- the first question that fails
 

@@ -1,0 +1,23 @@
+-- `stage2_types_checker::all_nodes` meets its contract: 64 ones, or one less than a power.
+use mathlib.Core.Path.{_≡_}
+use native.Mathlib.Omega.{arith}
+use lib.Pow.{pow-pos}
+use borrow.Author.Needs.{needs}
+use Rattle.stage0_laws.specs.BitLaws.{shl-one}
+use Rattle.stage2_types_checker.proofs.all_nodes.Statement.{statement}
+use Rattle.stage2_types_checker.proofs.all_nodes.Tie as tie
+
+returns : tie.Need-returns
+returns c = let e : c .before .args .count ≡ 64 = omega (arith, c .before .pre) in rw e
+
+shl-result : tie.Need-shl-result
+shl-result c = search needs
+
+sub-result : tie.Need-sub-result
+sub-result c = rw (shl-one (c .before .args .count) (omega arith)) (pow-pos (c .before .args .count))
+
+returns-2 : tie.Need-returns-2
+returns-2 c = rw (shl-one (c .before .args .count) (omega arith))
+
+pub all-nodes-spec : {M : Type 1} → statement M
+all-nodes-spec = tie.close (tie.spec returns shl-result sub-result returns-2)

@@ -1,0 +1,26 @@
+-- Which nodes a node's equation goes by, and for each node the set of those that go by it. In what order they are raised is not said here.
+use mathlib.Core.Path.{_≡_}
+use mathlib.Core.List.{List}
+use mathlib.Core.Logic.{_⊎_}
+use Prim.Native.Nat.{ℕ, _<_}
+use lib.ListN.{getD}
+use Rattle.stage0_laws.specs.Bits.{_∈_}
+use Rattle.stage2_types.specs.Nodes.{Node, epsilon-node, bottom-node, token-node, sequence-node, alternative-node, fixed-point-node, variable-node, repetition-node}
+use Rattle.stage2_types_columns.specs.Held.{held-node}
+use Rattle.stage2_types_columns.specs.declared.NodeLinks.{NodeLinks}
+
+-- The node's equation has the type of node k.
+unfoldable pub GoesBy : Node → ℕ → Type 0
+GoesBy epsilon-node k = ⊥
+GoesBy bottom-node k = ⊥
+GoesBy (token-node t) k = ⊥
+GoesBy (sequence-node l r) k = (k ≡ l) ⊎ (k ≡ r)
+GoesBy (alternative-node l r) k = (k ≡ l) ⊎ (k ≡ r)
+GoesBy (fixed-point-node b) k = k ≡ b
+GoesBy (variable-node v guarded) k = k ≡ v
+GoesBy (repetition-node b self) k = (k ≡ b) ⊎ (k ≡ self)
+
+-- A set for each node: of the first so many nodes, all that go by it.
+pub record DependentsBelow (links : NodeLinks) (count : ℕ) (sets : List ℕ) : Type 0 where
+  pub all-in : (n k : ℕ) → n < count → GoesBy (held-node (links .tag) (links .link) (links .guarded) n) k → n ∈ getD sets k 0
+  pub no-more : (n k : ℕ) → n ∈ getD sets k 0 → n < count
