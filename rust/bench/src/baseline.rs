@@ -232,18 +232,22 @@ impl Scanner {
 #[inline(never)]
 fn rare() {}
 
-/// A production's tail is one number of 16 bits, and so is its absence. From this bit on stands its kind.
+/// An entry says at once what a pending nonterminal does with a rule. It is one number of 16 bits. From this bit on
+/// stands its kind.
 const KIND: u32 = 12;
-/// No production; the other bits are 0.
-const NONE: u16 = 0;
+/// Takes the rule, with a tail of one member, which is the whole entry.
+const ONE: u16 = 0;
+/// Takes it, with an empty tail.
 const EMPTY: u16 = 1;
-/// One member, in the lowest six bits.
-const ONE: u16 = 2;
-/// Two members, the second in the next six bits.
-const TWO: u16 = 3;
-/// More members. The other bits say how far the first one is from the start of its nonterminal's
-/// productions, which is at most 31 × 34 + 2; the place in the image would not always fit.
-const MORE: u16 = 4;
+/// Takes it, with a tail of two members, the first in the lowest six bits and the second in the next six.
+const TWO: u16 = 2;
+/// Takes it, with a longer tail. The other bits say how far the first member is from the start of its
+/// nonterminal's productions, which is at most 31 × 34 + 2; the place in the image would not always fit.
+const MORE: u16 = 3;
+/// Has no production for it, and is dropped; the other bits are 0.
+const DROP: u16 = 4;
+/// Has none, and may not be dropped; the other bits are 0.
+const REFUSE: u16 = 5;
 
 /// An image as tables for `N` nonterminals, a power of two.
 struct Machine<'a, const N: usize> {
@@ -253,8 +257,8 @@ struct Machine<'a, const N: usize> {
     nullable: u64,
     /// For each nonterminal the place in the image where its productions start.
     rows: [u32; N],
-    /// For each nonterminal and rule the tail.
-    tails: [[u16; RULE_LIMIT as usize]; N],
+    /// For each nonterminal and rule what is done.
+    entries: [[u16; RULE_LIMIT as usize]; N],
 }
 
 impl<'a, const N: usize> Machine<'a, N> {
@@ -264,7 +268,7 @@ impl<'a, const N: usize> Machine<'a, N> {
             image,
             nullable: 0,
             rows: [0; N],
-            tails: [[NONE; RULE_LIMIT as usize]; N],
+            entries: [[REFUSE << KIND; RULE_LIMIT as usize]; N],
         }
     }
 
@@ -283,6 +287,9 @@ impl<'a, const N: usize> Machine<'a, N> {
         for nonterminal in 0..count {
             let nullable = reader.small(0, 1)?;
             self.nullable |= u64::from(nullable) << nonterminal;
+            if nullable == 1 {
+                self.entries[nonterminal as usize].fill(DROP << KIND);
+            }
             let productions = reader.small(0, PRODUCTION_LIMIT)?;
             self.rows[nonterminal as usize] = reader.place as u32;
             let mut lowest = 0;
@@ -313,7 +320,8 @@ impl<'a, const N: usize> Machine<'a, N> {
             reader.small(0, count - 1)?;
         }
         let offset = start as u32 - self.rows[nonterminal as usize];
-        self.tails[nonterminal as usize][rule as usize] = match reader.bytes[start..reader.place] {
+        self.entries[nonterminal as usize][rule as usize] = match reader.bytes[start..reader.place]
+        {
             [] => EMPTY << KIND,
             [one] => ONE << KIND | u16::from(one),
             [one, other] => TWO << KIND | u16::from(other) << 6 | u16::from(one),
@@ -362,11 +370,24 @@ impl<'a, const N: usize> Machine<'a, N> {
     #[inline(always)]
     fn take(&self, rule: u8, pending: &mut Pending) -> Result<(), usize> {
         while pending.count > 0 {
-            let tail = self.tails[pending.first & (N - 1)][rule as usize];
-            if tail != NONE {
-                return self.replace(tail, pending);
+            let entry = self.entries[pending.first & (N - 1)][rule as usize];
+            if entry < EMPTY << KIND {
+                pending.first = entry as usize;
+                return Ok(());
             }
-            if !self.is_nullable(pending.first) {
+            if entry < TWO << KIND {
+                pending.drop();
+                return Ok(());
+            }
+            if entry < MORE << KIND {
+                pending.push((entry >> 6) as u8 & 63)?;
+                pending.first = entry as usize & 63;
+                return Ok(());
+            }
+            if entry < DROP << KIND {
+                return self.copy_tail(entry, pending);
+            }
+            if entry != DROP << KIND {
                 return Err(15);
             }
             pending.drop();
@@ -374,26 +395,16 @@ impl<'a, const N: usize> Machine<'a, N> {
         Err(15)
     }
 
-    /// Replaces the first pending nonterminal by a tail, or gives 17.
+    /// Replaces the first pending nonterminal by a tail of more than two members, or gives 17.
     #[inline(always)]
-    fn replace(&self, tail: u16, pending: &mut Pending) -> Result<(), usize> {
-        match tail >> KIND {
-            EMPTY => pending.drop(),
-            ONE => pending.first = tail as usize & 63,
-            TWO => {
-                pending.push((tail >> 6) as u8 & 63)?;
-                pending.first = tail as usize & 63;
-            }
-            _ => {
-                let row = self.rows[pending.first & (N - 1)];
-                let start = row as usize + (tail & ((1 << KIND) - 1)) as usize;
-                let length = self.image[start - 1] as usize;
-                for &member in self.image[start + 1..start + length].iter().rev() {
-                    pending.push(member)?;
-                }
-                pending.first = self.image[start] as usize;
-            }
+    fn copy_tail(&self, entry: u16, pending: &mut Pending) -> Result<(), usize> {
+        let row = self.rows[pending.first & (N - 1)];
+        let start = row as usize + (entry & ((1 << KIND) - 1)) as usize;
+        let length = self.image[start - 1] as usize;
+        for &member in self.image[start + 1..start + length].iter().rev() {
+            pending.push(member)?;
         }
+        pending.first = self.image[start] as usize;
         Ok(())
     }
 

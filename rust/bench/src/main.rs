@@ -5,10 +5,10 @@
 //! and compared with [`baseline`]; [`running`] does this. It is also measured with rules that all skip, so
 //! that nothing but scanning is left. Running with a table is compared with [`baseline::table`], on the same
 //! texts, and on the empty text, so that nothing but building the table is left. Checking is compared with
-//! [`plain_check`], and writing with the reference implementation, which works on vectors. All buffers are
-//! lent and stay the same from round to round; both sides clear them as the contract says, and this time
-//! counts. Each figure is the median of several rounds, in which the two sides take turns; so do the two
-//! spellings of a grammar, with fixed points and with repetitions.
+//! [`plain_check`], and writing with [`plain_write`]; beside it stands the reference implementation, which
+//! works on vectors. All buffers are lent and stay the same from round to round; both sides clear them as the
+//! contract says, and this time counts. Each figure is the median of several rounds, in which the sides take
+//! turns; so do the two spellings of a grammar, with fixed points and with repetitions.
 
 mod baseline;
 #[cfg(test)]
@@ -16,6 +16,7 @@ mod baseline;
 mod common;
 mod grammars;
 mod plain_check;
+mod plain_write;
 mod running;
 mod sheets;
 
@@ -41,12 +42,16 @@ fn main() {
     running::tables();
 
     println!("\nChecking and writing, {ROUNDS} rounds, median:\n");
-    println!("| Grammar | Sheet bytes | Check: library, µs | Check: plain Rust, µs | Library time / plain time | Write: library, µs | Write: reference, µs | Library time / reference time |");
-    println!("|---|---|---|---|---|---|---|---|");
+    println!(
+        "| Grammar | Sheet bytes | Check: library, µs | Check: plain Rust, µs | Library time / plain time \
+        | Write: library, µs | Write: plain Rust, µs | Library time / plain time | Write: reference, µs |"
+    );
+    println!("|---|---|---|---|---|---|---|---|---|");
     let mut work = vec![0; WORK_BYTES];
     let mut image = vec![0; IMAGE_BYTES];
     for case in &sheets::all() {
         same_verdicts(case, &mut work);
+        same_images(case, &mut work, &mut image);
         sheet_row(case, &mut work, &mut image);
     }
 }
@@ -79,11 +84,29 @@ fn same_verdicts(case: &Case, work: &mut [u8]) {
     }
 }
 
-/// The times of checking by the library and in plain Rust, and of writing by the library and the
-/// reference; in each round they take turns.
-fn sheet_times(sheet: &[u8], work: &mut [u8], image: &mut [u8]) -> [Option<Duration>; 4] {
+/// All sides write the same image, or none.
+fn same_images(case: &Case, work: &mut [u8], image: &mut [u8]) {
+    let sheet = case.sheet.as_bytes();
+    let written = vinzagew_reference::write(sheet, work, image);
+    assert_eq!(written.number as usize, case.number, "{}", case.name);
+    let expected = image[..written.length].to_vec();
+    image.fill(0);
+    let found = plain_write::write(sheet, work, image);
+    let same = [written.number as usize, written.place, written.length];
+    assert_eq!(found, same, "{}", case.name);
+    assert!(image[..written.length] == expected, "{}", case.name);
+    if LIBRARY_LINKED {
+        image.fill(0);
+        let written = write_into(sheet, work, image);
+        assert_eq!(written.ok(), (case.number == 0).then_some(&expected[..]));
+    }
+}
+
+/// The times of checking by the library and in plain Rust, and of writing by the library, in plain Rust and by
+/// the reference; in each round they take turns.
+fn sheet_times(sheet: &[u8], work: &mut [u8], image: &mut [u8]) -> [Option<Duration>; 5] {
     const REPEATS: u32 = 200;
-    let mut times = [(); 4].map(|()| Vec::new());
+    let mut times = [(); 5].map(|()| Vec::new());
     for _ in 0..ROUNDS {
         if LIBRARY_LINKED {
             times[0].push(time(REPEATS, || {
@@ -99,6 +122,9 @@ fn sheet_times(sheet: &[u8], work: &mut [u8], image: &mut [u8]) -> [Option<Durat
             }));
         }
         times[3].push(time(REPEATS, || {
+            black_box(plain_write::write(black_box(sheet), work, image));
+        }));
+        times[4].push(time(REPEATS, || {
             black_box(vinzagew_reference::write(black_box(sheet), work, image));
         }));
     }
@@ -107,18 +133,19 @@ fn sheet_times(sheet: &[u8], work: &mut [u8], image: &mut [u8]) -> [Option<Durat
 
 fn sheet_row(case: &Case, work: &mut [u8], image: &mut [u8]) {
     let sheet = case.sheet.as_bytes();
-    let [check, plain, write, reference] = sheet_times(sheet, work, image);
+    let [check, plain_check, write, plain_write, reference] = sheet_times(sheet, work, image);
     let microseconds = |time: Option<Duration>| shown(time.map(|time| time.as_secs_f64() * 1e6));
     println!(
-        "| {} | {} | {} | {} | {} | {} | {} | {} |",
+        "| {} | {} | {} | {} | {} | {} | {} | {} | {} |",
         case.name,
         sheet.len(),
         microseconds(check),
-        microseconds(plain),
-        shown(ratio(check, plain)),
+        microseconds(plain_check),
+        shown(ratio(check, plain_check)),
         microseconds(write),
+        microseconds(plain_write),
+        shown(ratio(write, plain_write)),
         microseconds(reference),
-        shown(ratio(write, reference)),
     );
 }
 

@@ -2,7 +2,8 @@
 //!
 //! It asks questions 1 to 10 and is made to be fast. Whether a rule has the empty word and whether a
 //! variable is guarded is known once they are read. Types are found from the last node to the first, and
-//! after that only those are looked at again which a variable changes. All is in fixed arrays.
+//! after that only those are looked at again which a variable changes. All is in fixed arrays. It makes no
+//! image; `plain_write` does, which reads and types sheets by the code here.
 
 use vinzagew_reference::sheet::{
     CLASS_LIMIT, NODE_LIMIT, REGEX_NODE_LIMIT, RULE_LIMIT, TOKEN_LIMIT,
@@ -10,7 +11,7 @@ use vinzagew_reference::sheet::{
 use vinzagew_reference::{SHEET_LIMIT, WORK_BYTES};
 
 /// A number and a place: of the question that is answered with no, or both 0.
-type Verdict = [usize; 2];
+pub type Verdict = [usize; 2];
 
 /// Checks a sheet, and clears the work area as the contract says.
 pub fn check(sheet: &[u8], work: &mut [u8]) -> Verdict {
@@ -18,50 +19,71 @@ pub fn check(sheet: &[u8], work: &mut [u8]) -> Verdict {
         Some(front) => front.fill(0),
         None => return [1, 0],
     }
-    if sheet.len() > SHEET_LIMIT {
-        return [2, 0];
+    let mut reader = Reader::new(sheet, ());
+    match reader.read() {
+        None => reader.expression.verdict(&reader.expression.least_types()),
+        Some(refusal) => refusal,
     }
-    let mut reader = Reader::new(sheet);
-    if reader.sheet().is_none() {
-        return reader.refusal;
-    }
-    if let Some(place) = reader.empty_word {
-        return [7, place];
-    }
-    reader.expression.verdict()
 }
 
 /// The tags of expression nodes.
-const EPSILON: u8 = 0;
-const BOTTOM: u8 = 1;
-const TOKEN: u8 = 2;
-const SEQUENCE: u8 = 3;
-const ALTERNATIVE: u8 = 4;
-const FIX: u8 = 5;
-const VARIABLE: u8 = 6;
-const REPETITION: u8 = 7;
+pub const EPSILON: u8 = 0;
+pub const BOTTOM: u8 = 1;
+pub const TOKEN: u8 = 2;
+pub const SEQUENCE: u8 = 3;
+pub const ALTERNATIVE: u8 = 4;
+pub const FIX: u8 = 5;
+pub const VARIABLE: u8 = 6;
+pub const REPETITION: u8 = 7;
 /// A variable that is not guarded; no sheet has this tag.
 const UNGUARDED: u8 = 8;
 
 /// A node of the expression. Its first part, if it has one, is the next node.
 #[derive(Clone, Copy)]
-struct Node {
-    tag: u8,
+pub struct Node {
+    pub tag: u8,
     /// The right part, the token, or a variable's fixed point.
-    other: u8,
-    parent: u8,
+    pub other: u8,
+    pub parent: u8,
     place: u16,
 }
 
 /// The nodes of an expression, in sheet order.
-struct Expression {
-    count: usize,
-    nodes: [Node; NODE_LIMIT],
+pub struct Expression {
+    pub count: usize,
+    pub nodes: [Node; NODE_LIMIT],
     /// For each fixed point the set of its variables, node i being 2^i.
-    variables: [u64; NODE_LIMIT],
+    pub variables: [u64; NODE_LIMIT],
 }
 
-struct Reader<'a> {
+/// What is kept of the rules while they are read. Checking keeps nothing, and then a call does nothing. Regex nodes
+/// and classes are counted over all rules.
+pub trait Keep {
+    /// A rule begins, with the regex node and the class that come next.
+    #[inline(always)]
+    fn rule(&mut self, _action: u64, _node: usize, _class: usize) {}
+
+    /// A regex node begins.
+    #[inline(always)]
+    fn regex_node(&mut self, _node: usize, _tag: u64) {}
+
+    /// The last part of a regex node begins, with the node `_part`.
+    #[inline(always)]
+    fn last_part(&mut self, _node: usize, _part: usize) {}
+
+    /// The bytes of a class.
+    #[inline(always)]
+    fn class(&mut self, _class: usize, _low: u64, _high: u64) {}
+
+    /// The rules end, with so many regex nodes and classes.
+    #[inline(always)]
+    fn end(&mut self, _nodes: usize, _classes: usize) {}
+}
+
+impl Keep for () {}
+
+/// Reads a sheet.
+pub struct Reader<'a, K> {
     bytes: &'a [u8],
     place: usize,
     /// The refusal, once a function gave nothing.
@@ -73,11 +95,13 @@ struct Reader<'a> {
     regex_nodes: usize,
     /// The open fixed points, the innermost last.
     open: [u8; NODE_LIMIT],
-    expression: Expression,
+    pub expression: Expression,
+    /// What is kept of the rules.
+    pub kept: K,
 }
 
-impl<'a> Reader<'a> {
-    fn new(bytes: &'a [u8]) -> Self {
+impl<'a, K: Keep> Reader<'a, K> {
+    pub fn new(bytes: &'a [u8], kept: K) -> Self {
         let blank = Node {
             tag: BOTTOM,
             other: 0,
@@ -98,7 +122,20 @@ impl<'a> Reader<'a> {
                 nodes: [blank; NODE_LIMIT],
                 variables: [0; NODE_LIMIT],
             },
+            kept,
         }
+    }
+
+    /// Questions 2 to 7: reads the sheet, and gives the refusal, if there is one.
+    #[inline(always)]
+    pub fn read(&mut self) -> Option<Verdict> {
+        if self.bytes.len() > SHEET_LIMIT {
+            return Some([2, 0]);
+        }
+        if self.sheet().is_none() {
+            return Some(self.refusal);
+        }
+        self.empty_word.map(|place| [7, place])
     }
 
     #[cold]
@@ -148,12 +185,14 @@ impl<'a> Reader<'a> {
         self.number(1, 1)?;
         self.tokens = self.number(1, TOKEN_LIMIT)?;
         for _ in 0..self.number(1, RULE_LIMIT)? {
-            let action = self.place;
-            self.number(0, self.tokens)?;
+            let place = self.place;
+            let action = self.number(0, self.tokens)?;
+            self.kept.rule(action, self.regex_nodes, self.classes);
             if self.regex()? && self.empty_word.is_none() {
-                self.empty_word = Some(action);
+                self.empty_word = Some(place);
             }
         }
+        self.kept.end(self.regex_nodes, self.classes);
         self.node(0, 0, 0)?;
         if self.place < self.bytes.len() {
             return self.refuse(6, self.place);
@@ -169,16 +208,19 @@ impl<'a> Reader<'a> {
         loop {
             let place = self.place;
             let tag = self.number(0, 4)?;
+            let node = self.regex_nodes;
             self.regex_nodes += 1;
             self.classes += usize::from(tag == 1);
             if self.regex_nodes > REGEX_NODE_LIMIT || self.classes > CLASS_LIMIT {
                 return self.refuse(5, place);
             }
+            self.kept.regex_node(node, tag);
             match tag {
                 0 => return Some(always || with_rest),
                 1 => {
                     let low = self.number(0, 255)?;
-                    self.number(low, 255)?;
+                    let high = self.number(low, 255)?;
+                    self.kept.class(self.classes - 1, low, high);
                     return Some(always);
                 }
                 2 => with_rest &= self.regex()?,
@@ -188,6 +230,7 @@ impl<'a> Reader<'a> {
                     with_rest = false;
                 }
             }
+            self.kept.last_part(node, self.regex_nodes);
         }
     }
 
@@ -250,11 +293,11 @@ impl<'a> Reader<'a> {
 
 /// A type; a set of tokens has bit k for token k.
 #[derive(Clone, Copy, PartialEq, Eq)]
-struct Type {
+pub struct Type {
     first: u32,
     follow_last: u32,
     /// All bits, or none.
-    nullable: u32,
+    pub nullable: u32,
 }
 
 const LEAST: Type = Type {
@@ -275,11 +318,11 @@ impl Type {
 
 impl Expression {
     /// Questions 8 to 10.
-    fn verdict(&self) -> Verdict {
-        let types = self.least_types();
+    #[inline(always)]
+    pub fn verdict(&self, types: &[Type; NODE_LIMIT]) -> Verdict {
         for index in 0..self.count {
             let node = self.nodes[index];
-            let (one, other) = parts(&types, index, node);
+            let (one, other) = parts(types, index, node);
             let number = match node.tag {
                 UNGUARDED => 8,
                 SEQUENCE if !one.separable(other) => 9,
@@ -294,7 +337,8 @@ impl Expression {
 
     /// Parts come after their node, so that from the last node to the first all types are found, but for
     /// what comes by the variables. That goes up from them as far as it changes something.
-    fn least_types(&self) -> [Type; NODE_LIMIT] {
+    #[inline(always)]
+    pub fn least_types(&self) -> [Type; NODE_LIMIT] {
         let mut types = [LEAST; NODE_LIMIT];
         // The fixed points whose variables may have an older type.
         let mut stale = 0;

@@ -2,11 +2,11 @@
 //!
 //! A run clears its whole stack. A long enough one has 31 entries for each byte of the text, and clearing it
 //! takes a good part of the time. So each text is also run on a small stack, which has room for all of its
-//! pending nonterminals too.
+//! pending nonterminals too, and the difference of the two is held against clearing alone.
 
 use crate::baseline::table::Lent;
 use crate::grammars::{self, Grammar};
-use crate::{baseline, black_box, image_bytes, median, ratio, shown, time, ROUNDS};
+use crate::{baseline, black_box, image_bytes, median, ratio, sheets, shown, time, ROUNDS};
 use std::time::Duration;
 use vinzagew::library::{image_run, image_run_table};
 use vinzagew::{stack_length, LIBRARY_LINKED, TABLE_ENTRIES, TEXT_LIMIT, WINNER_ENTRIES};
@@ -62,14 +62,14 @@ impl<'a> Case<'a> {
         Case::new(grammar, text, stack_length(text.len()))
     }
 
-    /// The run over the empty text: with a table, that only builds the table.
-    fn only_building(name: &'static str, image: Vec<u8>) -> Self {
+    /// The run over the empty text: that only reads the image, and with a table also builds the table.
+    fn empty_text(name: &'static str, image: Vec<u8>) -> Self {
         Case {
             name,
             image,
             text: b"",
             room: 1,
-            with_table: true,
+            with_table: false,
         }
     }
 
@@ -205,10 +205,12 @@ pub fn tables() {
     let grammars = grammars::all();
     small_stack_table(&grammars, buffers);
     long_enough_stack_table(&grammars, buffers);
+    clearing_table(&grammars, buffers);
     with_table_table(&grammars, buffers);
     scanning_table(&grammars::scanning_alone(), buffers);
     short_table(&grammars, buffers);
     short_with_table_table(&grammars, buffers);
+    reading_table(buffers);
     building_table(&grammars, buffers);
     pair_table(&grammars::pairs(), buffers);
 }
@@ -249,6 +251,61 @@ fn long_enough_stack_table(grammars: &[Grammar], buffers: &mut Buffers) {
     }
 }
 
+/// Clears a stack, and nothing else.
+// Reached by a call, as a run is.
+#[inline(never)]
+fn clear(stack: &mut [u8]) {
+    stack.fill(0);
+}
+
+/// By how much a run on a long enough stack takes longer than one on the small stack, and how long clearing so much
+/// memory takes alone.
+fn clearing_table(grammars: &[Grammar], buffers: &mut Buffers) {
+    println!(
+        "\nClearing the stack alone: `slice::fill` over 1 + 31 × 1 MiB bytes, and by how much a run takes longer \
+        on a long enough stack than on {SMALL_STACK} entries, {ROUNDS} rounds, median:\n"
+    );
+    println!(
+        "| Grammar | `fill`, ms | `fill`, GiB/s | Library, ms | Library time / `fill` time | Baseline, ms \
+        | Baseline time / `fill` time |"
+    );
+    println!("|---|---|---|---|---|---|---|");
+    let gibibytes = buffers.stack.len() as f64 / (1 << 30) as f64;
+    for grammar in grammars {
+        let [fill, library, baseline] = clearing_times(grammar, buffers);
+        let milliseconds =
+            |time: Option<Duration>| shown(time.map(|time| time.as_secs_f64() * 1e3));
+        println!(
+            "| {} | {} | {} | {} | {} | {} | {} |",
+            grammar.name,
+            milliseconds(fill),
+            shown(fill.map(|time| gibibytes / time.as_secs_f64())),
+            milliseconds(library),
+            shown(ratio(library, fill)),
+            milliseconds(baseline),
+            shown(ratio(baseline, fill)),
+        );
+    }
+}
+
+/// The times of clearing alone, and of what the long enough stack costs the library and the baseline; they take
+/// turns. Each difference is that of one round.
+fn clearing_times(grammar: &Grammar, buffers: &mut Buffers) -> [Option<Duration>; 3] {
+    let small = Case::small_stack(grammar, &grammar.text);
+    let long = Case::long_enough_stack(grammar, &grammar.text);
+    let mut times = [(); 3].map(|()| Vec::new());
+    for _ in 0..ROUNDS {
+        times[0].push(time(1, || clear(&mut buffers.stack)));
+        let library = [&small, &long].map(|case| case.library_time(1, buffers));
+        if let [Some(small), Some(long)] = library {
+            times[1].push(long.saturating_sub(small));
+        }
+        let [small, long] = [&small, &long].map(|case| case.baseline_time(1, buffers));
+        times[2].push(long.saturating_sub(small));
+    }
+    times.map(|mut times| median(&mut times))
+}
+
 /// Building the table is part of each run.
 fn with_table_table(grammars: &[Grammar], buffers: &mut Buffers) {
     println!("\nRunning with a table, on a stack of {SMALL_STACK} entries and on a long enough one, {ROUNDS} rounds, median:\n");
@@ -277,6 +334,30 @@ fn shown_rows(case: &Case) -> String {
         .map_or("over 256".to_owned(), |rows| rows.to_string())
 }
 
+/// The images of all sheets that pass; a padded sheet has the image of its twin.
+fn reading_table(buffers: &mut Buffers) {
+    const REPEATS: u32 = 2_000;
+    println!("\nReading an image alone, by a run without a table over the empty text, {ROUNDS} rounds, median:\n");
+    println!("| Grammar | Image bytes | Positions | Library, ns | Baseline, ns | Library time / baseline time |");
+    println!("|---|---|---|---|---|---|");
+    let mut before = Vec::new();
+    for own in sheets::all().iter().filter(|own| own.number == 0) {
+        let case = Case::empty_text(own.name, image_bytes(&own.sheet));
+        if case.image == before {
+            continue;
+        }
+        let figures = measure_alone(&case, REPEATS, buffers);
+        println!(
+            "| {} | {} | {} | {} |",
+            case.name,
+            case.image.len(),
+            case.positions(),
+            figures.columns(|time| time.as_secs_f64() * 1e9),
+        );
+        before = case.image;
+    }
+}
+
 /// With over 256 rows nothing is built, and the answer is 19.
 fn building_table(grammars: &[Grammar], buffers: &mut Buffers) {
     const REPEATS: u32 = 20;
@@ -287,10 +368,10 @@ fn building_table(grammars: &[Grammar], buffers: &mut Buffers) {
     println!("|---|---|---|---|---|---|");
     let own = grammars
         .iter()
-        .map(|grammar| Case::only_building(grammar.name, image_bytes(&grammar.sheet)));
+        .map(|grammar| Case::empty_text(grammar.name, image_bytes(&grammar.sheet)));
     let of_rows = [("255 rows", 255), ("256 rows", 256), ("257 rows", 257)]
-        .map(|(name, rows)| Case::only_building(name, image_bytes(&grammars::of_rows(rows))));
-    for case in own.chain(of_rows) {
+        .map(|(name, rows)| Case::empty_text(name, image_bytes(&grammars::of_rows(rows))));
+    for case in own.chain(of_rows).map(Case::with_table) {
         let figures = measure_alone(&case, REPEATS, buffers);
         assert_eq!(figures.answer[0] == 19, case.rows().is_none());
         println!(
