@@ -322,7 +322,8 @@ fn tail_entry(bytes: &[u8], start: usize, place: usize) -> u16
     if size == 1 {
         return 16384 + first;
     }
-    32768 + bytes[place + 2] as u16 * 64 + first
+    let second = bytes[place + 2] as u16;
+    32768 + second * 64 + first
 }
 
 // So many productions of one nonterminal, whose row starts at `start` and whose entries start at `base`.

@@ -66,23 +66,23 @@ second-here c =
     let p = c .before .before .before .before .before .pre in
     second-at _ 0 _ _ (p .2 .1) (p .2 .2) (p .2 .3) (two-here c) (omega arith)
 
-add-result-3 : tie.Need-add-result-3
-add-result-3 c = omega (arith, second-here c .1)
+add-second : tie.Need-add-second
+add-second c = omega (arith, second-here c .1)
 
-shared-slice-read-result : tie.Need-shared-slice-read-result
-shared-slice-read-result c = second-here (c .before) .1
+shared-slice-read-second : tie.Need-shared-slice-read-second
+shared-slice-read-second c = second-here (c .before) .1
 
-cast-result-2 : tie.Need-cast-result-2
-cast-result-2 c = omega (arith, second-here (c .before) .0)
+cast-second : tie.Need-cast-second
+cast-second c = omega (arith, second-here (c .before) .0)
 
 mul-result : tie.Need-mul-result
-mul-result c = omega (arith, second-here (c .before) .0)
+mul-result c = omega (arith, second-here (c .before) .0, first-here (c .before .before .before) .0)
+
+add-result-3 : tie.Need-add-result-3
+add-result-3 c = omega (arith, second-here (c .before) .0, first-here (c .before .before .before) .0)
 
 add-result-4 : tie.Need-add-result-4
-add-result-4 c = omega (arith, second-here (c .before) .0)
-
-add-result-5 : tie.Need-add-result-5
-add-result-5 c = omega (arith, second-here (c .before) .0, first-here (c .before .before .before) .0)
+add-result-4 c = omega (arith, second-here (c .before) .0, first-here (c .before .before .before) .0)
 
 returns-4 : tie.Need-returns-4
 returns-4 c = λ n tail t few. entry-two _ _ _ _ tail t few (two-here (c .before)) _ _ refl refl
@@ -102,10 +102,10 @@ tail-entry-spec =
     cast-first
     add-result-2
     returns-3
-    add-result-3
-    shared-slice-read-result
-    cast-result-2
+    add-second
+    shared-slice-read-second
+    cast-second
     mul-result
+    add-result-3
     add-result-4
-    add-result-5
     returns-4)
