@@ -2,3 +2,4 @@
 pub mod Columns
 pub mod ColumnLaws
 pub mod ColumnWalk
+pub mod Raised

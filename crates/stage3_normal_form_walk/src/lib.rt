@@ -7,15 +7,17 @@ ghost use mathlib.Core.List.{List, []};
 ghost use mathlib.Core.Option.{some};
 ghost use Prim.Native.Nat.{ℕ, _≤_, _<_, _^_};
 ghost use lib.Bits.{bitOr};
-ghost use lib.ListN.{drop};
+ghost use lib.ListN.{length, drop};
 ghost use Rattle.stage0_laws.specs.Bits.{bit};
 ghost use Rattle.stage1_sheet.specs.Expression.{Expression, size};
 ghost use Rattle.stage2_types.specs.Nodes.{nodes};
+ghost use Rattle.stage2_types.specs.Types.{HasType};
 ghost use Rattle.stage2_types_columns.specs.Held.{node-of, held-nodes};
 ghost use Rattle.stage3_normal_form.specs.Productions.{row-of, production-of};
-ghost use Rattle.stage3_normal_form.specs.Derives.{derives, node-derives, next-derives};
+ghost use Rattle.stage3_normal_form.specs.Derives.{derives, node-derives};
 ghost use Rattle.stage3_normal_form.specs.NormalForm.{normal-form};
 ghost use Rattle.stage3_normal_form_walk.specs.Columns.{SetOf, ColumnsOf, TailCounted, tail-held, production-held};
+ghost use Rattle.stage3_normal_form_walk.specs.Raised.{Raised};
 ghost use Rattle.stage3_normal_form_walk.specs.ColumnWalk.{walked, column-first, next-node, column-walk};
 
 // Whether n is in a set. No number from 64 on is.
@@ -89,18 +91,18 @@ fn node_derives(tag: u8, link: u8, n: usize, set: u64) -> bool
     false
 }
 
-// One round: every node's equation, applied to the nodes that are known so far.
+// One round in place: every node's equation, from the last node to the first, applied to the nodes that are known by then. What stands
+// below a node comes after it, so that a round goes up through all of an expression but its variables.
 fn next_productive(links: NodeLinks, set: u64) -> u64
     requires { ⌜ links .count ≤ 64 ⌝ }
-    ensures { λ r. ⌜ ((flags : List Bool) → SetOf set flags → SetOf r (next-derives (held-nodes links) flags)) ⌝ }
+    ensures { λ r. ⌜ ((flags : List Bool) → SetOf set flags → length flags ≡ links .count → Raised links flags 0 r) ⌝ }
 {
-    let count = links.count;
-    let mut next: u64 = 0;
-    let mut n: usize = 0;
-    while n < count {
-        let member = node_derives(links.tag[n], links.link[n], n, set);
+    let mut next = set;
+    let mut n = links.count;
+    while 0 < n {
+        n -= 1;
+        let member = node_derives(links.tag[n], links.link[n], n, next);
         next = with(next, n, member);
-        n += 1;
     }
     next
 }
@@ -108,7 +110,7 @@ fn next_productive(links: NodeLinks, set: u64) -> u64
 // The nodes that derive a token sequence, as a set. Each round that changes something adds a node.
 pub fn derives(links: NodeLinks) -> u64
     requires { ⌜ ((e : Expression) × (held-nodes links ≡ nodes e) × (links .count ≤ 64)) ⌝ }
-    ensures { λ r. ⌜ ((e : Expression) → held-nodes links ≡ nodes e → SetOf r (derives e)) ⌝ }
+    ensures { λ r. ⌜ ((e : Expression) → HasType e → held-nodes links ≡ nodes e → SetOf r (derives e)) ⌝ }
 {
     let count = links.count;
     let mut set: u64 = 0;

@@ -20,10 +20,9 @@ use Rattle.stage4_lexer.specs.PositionBounds.{class-total, positions-length}
 use Rattle.stage4_lexer_columns.specs.declared.PositionColumns.{PositionColumns}
 use Rattle.stage4_lexer_columns.specs.Held.{held-from, held-positions}
 use Rattle.stage4_lexer_sets.specs.declared.Forest.{Forest}
-use Rattle.stage4_lexer_sets.specs.declared.RuleSets.{RuleSets}
 use Rattle.stage4_lexer_sets.specs.declared.EmptyRule.{EmptyRule}
 use Rattle.stage4_lexer_sets.specs.Stacks.{TagsHeld, Stacked, first-up}
-use Rattle.stage4_lexer_sets.specs.Forests.{all-first, RegexesHeld, ForestOf, RulesStacked, RuleSetsOf}
+use Rattle.stage4_lexer_sets.specs.Forests.{all-first, RegexesHeld, ForestOf}
 use Rattle.stage4_lexer_sets.specs.Answer.{empty-rule, PositionsOf}
 use Rattle.stage4_lexer_sets.proofs.Items.{classes-all}
 use Rattle.stage1_sheet_columns.specs.ColumnLaws.{Starts, low-one, entries}
@@ -65,7 +64,7 @@ module _ (c : RuleColumns) (rules : List Rule) (places : List ℕ) (held : Rules
     tags-held = held .tags-held ∙ ap (map regex-tag) (items-same rules);
   }
 
-  rules-counted : c .count ≡ length (regexes-of rules)
+  pub rules-counted : c .count ≡ length (regexes-of rules)
   rules-counted = held .rules ∙ length-map rules (λ r. r .action) ∙ sym (length-map rules (λ r. r .regex))
 
   -- Question 7, where the stack has the rules' flags.
@@ -81,41 +80,33 @@ module _ (c : RuleColumns) (rules : List Rule) (places : List ℕ) (held : Rules
     classes-fit = held .classes-fit;
   }
 
-  pub rules-stacked : (f : Forest) → ForestOf (regexes-of rules) f → RulesStacked (f .stack) (c .count) (regexes-of rules)
-  rules-stacked f h = record {
-    stacked = h .stacked;
-    rules = rules-counted;
-    classes-fit = omega (arith, regexes-held .classes-counted, held .classes-fit);
-  }
-
   -- What stands first in a column, with what comes after.
   starts : (g : RegexItem → List ℕ) (l : List ℕ) → take (c .classes) l ≡ flatMap g (items-of-rules rules)
       → Starts g l 0 (items-of-rules rules)
   starts g l e = (drop (c .classes) l, sym (take-append-drop (c .classes) l) ∙ ap (λ (x : List ℕ). x ++ drop (c .classes) l) e)
 
   -- The columns that are handed back.
-  abbrev pub answer : Forest → RuleSets → PositionColumns
-  answer f s = record {
+  abbrev pub answer : Forest → PositionColumns
+  answer f = record {
     count = c .classes;
     low = c .low;
     high = c .high;
-    rule = s .rule;
+    rule = f .sets .rule;
     follow = f .follow;
-    last = s .last;
-    first = s .first;
+    last = f .sets .last;
+    first = f .sets .first;
   }
 
-  pub answered : (f : Forest) (s : RuleSets) → ForestOf (regexes-of rules) f → RuleSetsOf (regexes-of rules) s
-      → PositionsOf rules (answer f s)
+  pub answered : (f : Forest) → ForestOf (regexes-of rules) f → PositionsOf rules (answer f)
   unfolding held-positions positions first-positions
-  answered f s h t = record {
+  answered f h = record {
     positions-held =
-        ap (held-from (c .low) (c .high) (s .rule) (f .follow) (s .last) 0) classes-are
-        ∙ rules-held (c .low) (c .high) (s .rule) (f .follow) (s .last) rules 0 0 (starts low-of (c .low) (held .lows-held))
+        ap (held-from (c .low) (c .high) (f .sets .rule) (f .follow) (f .sets .last) 0) classes-are
+        ∙ rules-held (c .low) (c .high) (f .sets .rule) (f .follow) (f .sets .last) rules 0 0 (starts low-of (c .low) (held .lows-held))
         (starts high-of (c .high) (held .highs-held))
         (λ j b l.
         let n = classes-same rules in
-        (t .owners j (omega arith), ap (λ (x : ℕ). bit x j) (t .lasts), h .follows j (omega (arith, classes-are, held .classes-fit))));
+        (h .gathered .owners j (omega arith), ap (λ (x : ℕ). bit x j) (h .gathered .lasts), h .follows j (omega (arith, classes-are, held .classes-fit))));
     count-held = classes-are ∙ sym (positions-length rules);
-    first-held = t .firsts ∙ first-same rules 0;
+    first-held = h .gathered .firsts ∙ first-same rules 0;
   }

@@ -12,10 +12,11 @@ use Rattle.stage1_sheet.specs.Items.{item-classes, regexes}
 use Rattle.stage1_sheet.specs.RegexItems.{regex-items-of, regex-tag}
 use Rattle.stage4_lexer_sets.specs.declared.Sets.{Sets}
 use Rattle.stage4_lexer_sets.specs.declared.Node.{Node}
+use Rattle.stage4_lexer_sets.specs.declared.RuleSets.{RuleSets}
 use Rattle.stage1_sheet_columns.specs.Tags.{parts-of}
 use Rattle.stage4_lexer_sets.specs.Stacks.{Stacked}
 use Rattle.stage4_lexer_sets.specs.Nodes.{node-of}
-use Rattle.stage4_lexer_sets.specs.Forests.{all-sets, all-follow, joined, unused, RegexesHeld, ForestOf}
+use Rattle.stage4_lexer_sets.specs.Forests.{all-sets, all-follow, joined, unused, RegexesHeld, RulesStacked, RuleSetsOf, ForestOf}
 use Rattle.stage4_lexer_sets.proofs.Items.{regexes-all, classes-all, item-before, Top, turn-top}
 use Rattle.stage4_lexer_sets.proofs.Stacks.{piled-none}
 use Rattle.stage4_lexer_sets.proofs.Sweeping.{Sweeping, After, sweep-height, swept-next}
@@ -113,14 +114,19 @@ module _ (tags : List ℕ) (items classes : ℕ) (rs : List Regex) (at : ℕ) (s
         classes-left = made-base (i .0) r s base ∙ omega (arith, i .1 .classes, w .classes-left);
       })
 
-pub swept-end : (rs : List Regex) (stack : List Sets) (flow : List ℕ) (top base : ℕ) → Swept rs 0 stack flow top base
-    → ForestOf rs (record { stack = stack; follow = flow })
-swept-end rs stack flow top base w =
-    let e = regexes-all rs in
-    let b : base ≡ 0 = w .classes-left in
-    record {
-      stacked = subst (λ (l : List Regex). Stacked unused stack (all-sets l 0)) e
-          (subst (λ (b : ℕ). Stacked unused stack (all-sets (regexes (flatMap regex-items-of rs)) b)) b (w .state .piled .stacked));
-      follows = λ p h. w .state .follows p h ∙ ap (λ (b : ℕ). all-follow (regexes (flatMap regex-items-of rs)) b p) b
-          ∙ ap (λ (l : List Regex). all-follow l 0 p) e;
-    }
+module _ (rs : List Regex) (stack : List Sets) (flow : List ℕ) (top base : ℕ) (w : Swept rs 0 stack flow top base) where
+  pub swept-stack : (tags : List ℕ) (items classes count : ℕ) → RegexesHeld tags items classes rs → count ≡ length rs
+      → RulesStacked stack count rs
+  swept-stack tags items classes count held counted = record {
+    stacked = subst (λ (l : List Regex). Stacked unused stack (all-sets l 0)) (regexes-all rs)
+        (subst (λ (b : ℕ). Stacked unused stack (all-sets (regexes (flatMap regex-items-of rs)) b)) (w .classes-left) (w .state .piled .stacked));
+    rules = counted;
+    classes-fit = omega (arith, held .classes-counted, held .classes-fit);
+  }
+
+  pub swept-end : (sets : RuleSets) → RuleSetsOf rs sets → ForestOf rs (record { sets = sets; follow = flow })
+  swept-end sets g = record {
+    gathered = g;
+    follows = λ p h. w .state .follows p h ∙ ap (λ (b : ℕ). all-follow (regexes (flatMap regex-items-of rs)) b p) (w .classes-left)
+        ∙ ap (λ (l : List Regex). all-follow l 0 p) (regexes-all rs);
+  }

@@ -66,10 +66,6 @@ pub record RegexesHeld (tags : List ℕ) (items classes : ℕ) (rs : List Regex)
   pub classes-counted : classes ≡ sum class-count rs
   pub classes-fit : classes ≤ 64
 
-pub record ForestOf (rs : List Regex) (f : Forest) : Type 0 where
-  pub stacked : Stacked unused (f .stack) (all-sets rs 0)
-  pub follows : (p : ℕ) → p < 64 → getD (f .follow) p 0 ≡ all-follow rs 0 p
-
 pub record RulesStacked (stack : List Sets) (count : ℕ) (rs : List Regex) : Type 0 where
   pub stacked : Stacked unused stack (all-sets rs 0)
   pub rules : count ≡ length rs
@@ -79,3 +75,7 @@ pub record RuleSetsOf (rs : List Regex) (r : RuleSets) : Type 0 where
   pub firsts : r .first ≡ all-first rs 0
   pub lasts : r .last ≡ all-last rs 0
   pub owners : (p : ℕ) → p < sum class-count rs → getD (r .rule) p 0 ≡ owner rs 0 0 p
+
+pub record ForestOf (rs : List Regex) (f : Forest) : Type 0 where
+  pub gathered : RuleSetsOf rs (f .sets)
+  pub follows : (p : ℕ) → p < 64 → getD (f .follow) p 0 ≡ all-follow rs 0 p

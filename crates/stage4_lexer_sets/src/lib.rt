@@ -6,9 +6,7 @@ ghost use mathlib.Core.Path.{_≡_};
 ghost use mathlib.Core.Bool.{Bool, false, cond};
 ghost use mathlib.Core.List.{List, map};
 ghost use Prim.Native.Nat.{ℕ, _+_, _≤_, _<_};
-ghost use lib.Bits.{bitOr};
 ghost use lib.ListN.{length};
-ghost use Rattle.stage0_laws.specs.Bits.{bit};
 ghost use Rattle.stage1_sheet.specs.Regex.{Regex};
 ghost use Rattle.stage1_sheet.specs.Sheet.{Rule};
 ghost use Rattle.stage1_sheet_columns.specs.Holds.{RulesOf};
@@ -35,18 +33,17 @@ struct Node {
     base: usize,
 }
 
-// Regexes one after the other, the first one on top of the stack, and the follow sets of their positions. The two lowest entries
-// are no regexes: they are there so that two entries can be read at any time.
-struct Forest {
-    stack: [Sets; 258],
-    follow: [u64; 64],
-}
-
 // The rule of each position, and where a match of any rule begins and ends.
 struct RuleSets {
     rule: [u8; 64],
     first: u64,
     last: u64,
+}
+
+// The sets of the rules together, and the follow sets of their positions.
+struct Forest {
+    sets: RuleSets,
+    follow: [u64; 64],
 }
 
 // Question 7: the first rule that matches the empty word, if there is one.
@@ -231,59 +228,18 @@ fn node_of(tag: u8, r: Sets, s: Sets, base: usize) -> Node
     star_node(r, base)
 }
 
-// A follow set of position i, with `next` joined to it if i is one of the positions `from`.
-fn with_next(follow: u64, from: u64, next: u64, i: usize) -> u64
-    requires { ⌜ i < 64 ⌝ }
-    ensures { λ r. ⌜ r ≡ bitOr follow (cond (bit from i) next 0) ⌝ }
-{
-    if from & (1u64 << i) != 0 {
-        return follow | next;
-    }
-    follow
-}
-
-// Lets the positions `next` follow each of the positions `from`.
+// Lets the positions `next` follow each of the positions `from`, from the lowest of these to the next, until none is left. The lowest
+// stands at the number of trailing zeros, and `left - 1` differs from the set there and below.
 fn join_follow(follow: &mut [u64; 64], from: u64, next: u64)
     requires { ⌜ length (now follow) ≡ 64 ⌝ }
     ensures { λ r. ⌜ now (follow .exit) ≡ joined from next (now (follow .entry)) ⌝ }
 {
-    if from == 0 {
-        return;
+    let mut left = from;
+    while left != 0 {
+        let i = u64::trailing_zeros(left) as usize;
+        follow[i] |= next;
+        left = left & (left - 1);
     }
-    let mut i: usize = 0;
-    while i < 64 {
-        follow[i] = with_next(follow[i], from, next, i);
-        i += 1;
-    }
-}
-
-// The sets of regexes that stand one after the other in prefix order. From the last item to the first, each one finds its parts on top
-// of the stack.
-fn sweep(tag: &[u8; 256], items: usize, classes: usize) -> Forest
-    requires { ⌜ ((rs : List Regex) × RegexesHeld (now tag) items classes rs) ⌝ }
-    ensures { λ f. ⌜ ((rs : List Regex) → RegexesHeld (now (tag .entry)) items classes rs → ForestOf rs f) ⌝ }
-{
-    let unused = Sets {
-        nullable: false,
-        first: 0,
-        last: 0,
-        end: 0,
-    };
-    let mut stack = [unused; 258];
-    let mut follow = [0u64; 64];
-    let mut top: usize = 1;
-    let mut base = classes;
-    let mut at = items;
-    while 0 < at {
-        at -= 1;
-        let node = node_of(tag[at], stack[top], stack[top - 1], base);
-        join_follow(&mut follow, node.from, node.next);
-        top = top + 1 - stage1_sheet_columns::parts_of(tag[at]);
-        let sets = node.sets;
-        stack[top] = sets;
-        base = node.base;
-    }
-    Forest { stack, follow }
 }
 
 // Writes a rule's number over the positions from `base` to `end`.
@@ -320,6 +276,36 @@ fn rule_sets(stack: [Sets; 258], count: u8) -> RuleSets
     RuleSets { rule, first, last }
 }
 
+// The sets of rules whose regexes stand one after the other in prefix order. From the last item to the first, each one finds its parts on
+// top of a stack. Its two lowest entries are no regexes: they are there so that two entries can be read at any time.
+fn sweep(tag: &[u8; 256], items: usize, classes: usize, count: u8) -> Forest
+    requires { ⌜ ((rs : List Regex) × RegexesHeld (now tag) items classes rs × (count ≡ length rs)) ⌝ }
+    ensures { λ f. ⌜ ((rs : List Regex) → RegexesHeld (now (tag .entry)) items classes rs → count ≡ length rs → ForestOf rs f) ⌝ }
+{
+    let unused = Sets {
+        nullable: false,
+        first: 0,
+        last: 0,
+        end: 0,
+    };
+    let mut stack = [unused; 258];
+    let mut follow = [0u64; 64];
+    let mut top: usize = 1;
+    let mut base = classes;
+    let mut at = items;
+    while 0 < at {
+        at -= 1;
+        let node = node_of(tag[at], stack[top], stack[top - 1], base);
+        join_follow(&mut follow, node.from, node.next);
+        top = top + 1 - stage1_sheet_columns::parts_of(tag[at]);
+        let sets = node.sets;
+        stack[top] = sets;
+        base = node.base;
+    }
+    let sets = rule_sets(stack, count);
+    Forest { sets, follow }
+}
+
 // The positions of a sheet's rules.
 pub fn positions_of(rules: RuleColumns) -> PositionColumns
     requires { ⌜ ((held : List Rule) × (places : List ℕ) × RulesOf rules held places) ⌝ }
@@ -327,9 +313,8 @@ pub fn positions_of(rules: RuleColumns) -> PositionColumns
 {
     let classes = rules.classes;
     let count = rules.count as u8;
-    let forest = sweep(&rules.tag, rules.items, classes);
-    let stack = forest.stack;
-    let sets = rule_sets(stack, count);
+    let forest = sweep(&rules.tag, rules.items, classes, count);
+    let sets = forest.sets;
     let low = rules.low;
     let high = rules.high;
     let rule = sets.rule;

@@ -10,7 +10,6 @@ use Rattle.stage1_sheet_columns.specs.Holds.{RulesOf}
 use Rattle.stage1_sheet_columns.specs.declared.RuleColumns.{RuleColumns}
 use Rattle.stage2_types.specs.Typing.{sheet-typed-iff}
 use Rattle.stage3_normal_form.specs.Derives.{derives}
-use Rattle.stage3_normal_form.specs.NormalForm.{normal-form}
 use Rattle.stage3_normal_form_walk.specs.Columns.{SetOf}
 use Rattle.stage4_lexer.specs.RuleOrder.{words-first, words-first-sheet}
 use Rattle.stage4_lexer.specs.OrderedMatches.{ordered-empty-match, ordered-limits}
@@ -20,18 +19,15 @@ use Rattle.stage4_lexer_sets.specs.Answer.{PositionsOf}
 use Rattle.stage5_image.specs.Check as check
 use Rattle.stage5_image.specs.Write as page
 use Rattle.stage5_image.specs.Write.{fitted, after-checking, write-answer, image-after}
-use Rattle.stage5_image.specs.Fusion.{fused}
 use Rattle.stage5_image.specs.Image.{plain-image, image-of, image-bytes}
 use Rattle.stage5_image.specs.ImageLength.{plain-fits}
-use Rattle.stage5_image.specs.Numbering.{reached}
 use Rattle.stage5_image_checker.specs.Answer as checker
 use Rattle.stage5_image_checker.specs.Steps.{PassedParts}
 use Rattle.stage5_image_checker.specs.declared.CheckedSheet.{CheckedSheet}
 use Rattle.stage5_image_checker.specs.declared.Verdict.the-variants.{Passed, Failed}
-use Rattle.stage5_image_numbering.specs.Grammar.{GrammarOf, Numbers}
+use Rattle.stage5_image_numbering.specs.Grammar.{GrammarOf}
 use Rattle.stage5_image_numbering.specs.GrammarLaws.{grammar-from, grammar-of}
 use Rattle.stage5_image_numbering.specs.declared.Grammar.{Grammar}
-use Rattle.stage5_image_numbering.specs.declared.Numbering.{Numbering}
 use Rattle.stage5_image_writer.specs.Parts.{PartsOf}
 use Rattle.stage5_image_compiler.specs.Answer.{answer-of, case-of, case-answer, Ends}
 use Rattle.stage5_image_compiler.specs.declared.Written.{Written}
@@ -69,9 +65,8 @@ module _ (s : Sheet) (k : CheckedSheet) (h : PassedParts s k) where
     pub positions-most : p .count ≤ 64
     positions-most = omega (arith, f .count-held, positions-in-range s (h .limits) (h .no-empty) .count-most)
 
-    pub parts-of : (g : Grammar) (n : Numbering) → GrammarOf g (s .rules) (s .expression)
-        → Numbers n (reached (fused (s .rules) (normal-form (s .expression)))) → PartsOf g p n s
-    parts-of g n a m = record { grammar = a; positions-held = f .positions-held; first-held = f .first-held; numbers = m }
+    pub parts-of : (g : Grammar) → GrammarOf g (s .rules) (s .expression) → PartsOf g p s
+    parts-of g a = record { grammar = a; positions-held = f .positions-held; first-held = f .first-held }
 
 -- ---- question 11
 

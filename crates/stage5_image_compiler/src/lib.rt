@@ -64,14 +64,13 @@ fn write_if_fits(checked: CheckedSheet, image: &mut [u8]) -> Written
     let rules = checked.rules;
     let positions = stage4_lexer_sets::positions_of(rules);
     let grammar = grammar_of(checked);
-    let numbering = stage5_image_numbering::number_nodes(grammar);
     if image.len() < ROOM_FOR_ANY {
-        let needed = stage5_image_writer::image_width(grammar, positions, numbering);
+        let needed = stage5_image_writer::image_width(grammar, positions);
         if image.len() < needed {
             return Written::TooLong(needed);
         }
     }
-    let written = stage5_image_writer::write_image(image, grammar, positions, numbering);
+    let written = stage5_image_writer::write_image(image, grammar, positions);
     Written::Done(written)
 }
 

@@ -1,7 +1,7 @@
--- The nodes that join those met: one, those of a tail, those of a row.
+-- The nodes that join those met, one, those of a tail, those of a row, and their numbers among all nodes reached.
 use mathlib.Core.Path.{_≡_, refl, sym, ap, subst, _∙_}
 use mathlib.Core.Bool.{Bool, true, false, not, _||_, cond}
-use mathlib.Core.List.{List, [], _∷_, _++_}
+use mathlib.Core.List.{List, [], _∷_, _++_, append-assoc, List·Memᴰ}
 use mathlib.Core.Option.{Option, none, some}
 use Prim.Native.Nat.{ℕ, zero, suc, _+_, _≤_, _<_}
 use native.Mathlib.Decide.{ℕ-discrete}
@@ -11,16 +11,16 @@ use lib.ListN.{getD, length, take, drop, set, length-append, take-append-drop}
 use lib.Seq.{getD-set-same, getD-set-other, getD-take, take-suc-set, take-suc, take-take, length-take-le}
 use borrow.Author.Tests.{eq-eqb, ne-eqb}
 use Rattle.stage0_laws.specs.Lists.{All}
-use Rattle.stage0_laws.specs.Truth.{true-holds}
-use Rattle.stage3_normal_form_walk.proofs.Walking.{not-true, not-false}
+use Rattle.stage0_laws.specs.Truth.{true-holds, holds-true}
 use Rattle.stage3_normal_form_walk.specs.Columns.{tail-held}
 use Rattle.stage3_normal_form_walk.specs.declared.Tail.{Tail}
-use Rattle.stage0_laws.specs.Members.{all-at}
+use Rattle.stage0_laws.specs.Members.{all-at, member-at}
 use Rattle.stage0_laws.specs.Meeting.{is-met, meet, meet-all, number-of}
-use Rattle.stage0_laws.specs.MeetingLaws.{met-last, first-met, meet-all-order, number-below, number-left, number-last}
+use Rattle.stage0_laws.specs.MeetingLaws.{Met, met-last, first-met, meet-all-order, meet-all-has, number-below, number-left, number-last}
 use Rattle.stage0_laws.specs.Reaching.{meet-all-append}
 use Rattle.stage5_image_numbering.specs.Below.{concat-below}
 use Rattle.stage5_image_numbering.specs.Grammar.{Numbers, members-of}
+use Rattle.stage5_image_numbering.specs.Leads.{Leads}
 use Rattle.stage5_image_numbering.specs.RuleTails.{rule-part}
 use Rattle.stage5_image_numbering.specs.declared.Numbering.{Numbering}
 
@@ -96,49 +96,86 @@ module _ (c : Numbering) (met : List ℕ) (h : Numbers c met) (n : ℕ) (small :
           both true e = sym (number-left m met (n ∷ []) (true-holds (is-met m met) e))
           both false e = refl
 
--- ---- the members of a tail
+-- ---- those that lead on
 
--- Those met only grow.
-pub meet-all-more : (met a b : List ℕ) → length (meet-all met a) ≤ length (meet-all met (a ++ b))
-meet-all-more met a b =
-    let m = meet-all met a in
-    omega (arith, ap length (meet-all-append met a b ∙ meet-all-order m b), length-append m (first-met m b))
+module _ (met a b all : List ℕ) (l : Leads met (a ++ b) all) where
+  pub leads-front : Leads met a all
+  leads-front = record {
+    rest = first-met (meet-all met a) b ++ l .rest;
+    continues = l .continues
+        ∙ ap (λ (k : List ℕ). k ++ l .rest) (meet-all-append met a b ∙ meet-all-order (meet-all met a) b)
+        ∙ append-assoc (meet-all met a) (first-met (meet-all met a) b) (l .rest);
+    few = l .few;
+  }
+
+  pub leads-back : Leads (meet-all met a) b all
+  leads-back = record {
+    rest = l .rest;
+    continues = l .continues ∙ ap (λ (k : List ℕ). k ++ l .rest) (meet-all-append met a b);
+    few = l .few;
+  }
+
+-- The number of a node that has been met.
+number-there : (c : Numbering) (met rest all : List ℕ) → Numbers c met → all ≡ met ++ rest → (n : ℕ) → n < 64 → Met n met
+    → getD (c .number) n 0 ≡ number-of all n
+number-there c met rest all h e n small m =
+    h .numbers n small ∙ ap (λ (b : Bool). cond b (number-of met n) 64) (holds-true (is-met n met) m)
+    ∙ sym (ap (λ (l : List ℕ). number-of l n) e ∙ number-left n met rest m)
+
+-- ---- the members of a tail
 
 meet-one : (met : List ℕ) (n : ℕ) → meet-all met (n ∷ []) ≡ meet met n
 unfolding meet-all
 meet-one met n = refl
 
-pub meet-last : (met l : List ℕ) (i : ℕ) → i < length l → meet-all met (take (i + 1) l) ≡ meet (meet-all met (take i l)) (getD l i 0)
+meet-last : (met l : List ℕ) (i : ℕ) → i < length l → meet-all met (take (i + 1) l) ≡ meet (meet-all met (take i l)) (getD l i 0)
 meet-last met l i b =
     rw add-one (ap (meet-all met) (take-suc l i 0 b) ∙ meet-all-append met (take i l) (getD l i 0 ∷ [])
     ∙ meet-one (meet-all met (take i l)) (getD l i 0))
 
--- The members of a tail, in so many turns: `done` of the list `whole` have joined.
-abbrev pub TailMet : Numbering → Numbering → List ℕ → List ℕ → Type 0
-TailMet start now whole done =
-    (met : List ℕ) → Numbers start met → All (λ n. n < 64) whole → length (meet-all met whole) ≤ 64 → Numbers now (meet-all met done)
+-- One member more joins, and has the number that it will have.
+module _ (d e : Numbering) (members : List ℕ) (count i : ℕ) (l : i < count) (b : count ≤ length members) (met all : List ℕ)
+    (leads : Leads met (take count members) all) (nodes : All (λ n. n < 64) (take count members))
+    (so-far : Numbers d (meet-all met (take i members)))
+    (one : (met : List ℕ) → Numbers d met → getD members i 0 < 64 → length (meet met (getD members i 0)) ≤ 64
+    → Numbers e (meet met (getD members i 0))) where
+  member-small : getD members i 0 < 64
+  member-small =
+      let size = length-take-le count members b in
+      subst (λ (n : ℕ). n < 64) (getD-take count members i 0 l) (all-at (λ n. n < 64) (take count members) nodes i 0 (omega arith))
 
-pub tail-start : (c : Numbering) (whole : List ℕ) → TailMet c c whole []
+  member-leads : Leads met (take (i + 1) members) all
+  member-leads =
+      let whole = take count members in
+      let parts : whole ≡ take (i + 1) members ++ drop (i + 1) whole =
+      sym (take-append-drop (i + 1) whole) ∙ ap (λ (k : List ℕ). k ++ drop (i + 1) whole) (take-take (i + 1) count members (omega arith)) in
+      leads-front met (take (i + 1) members) (drop (i + 1) whole) all (subst (λ (k : List ℕ). Leads met k all) parts leads)
+
+  pub member-met : Numbers e (meet-all met (take (i + 1) members))
+  member-met =
+      let next = meet-last met members i (omega arith) in
+      subst (Numbers e) (sym next)
+      (one (meet-all met (take i members)) so-far member-small
+      (omega (
+        arith,
+        ap length next,
+        ap length (member-leads .continues),
+        length-append (meet-all met (take (i + 1) members)) (member-leads .rest),
+        member-leads .few,
+      )))
+
+  pub member-number : getD (e .number) (getD members i 0) 0 ≡ number-of all (getD members i 0)
+  member-number =
+      let size : length (take (i + 1) members) ≡ i + 1 = length-take-le (i + 1) members (omega arith) in
+      let there : List·Memᴰ (getD members i 0) (take (i + 1) members) =
+      subst (λ (n : ℕ). List·Memᴰ n (take (i + 1) members)) (getD-take (i + 1) members i 0 (omega arith))
+      (member-at (take (i + 1) members) i 0 (omega arith)) in
+      number-there e (meet-all met (take (i + 1) members)) (member-leads .rest) all member-met (member-leads .continues)
+      (getD members i 0) member-small (meet-all-has (getD members i 0) met (take (i + 1) members) there)
+
+pub nothing-met : (c : Numbering) (met : List ℕ) → Numbers c met → Numbers c (meet-all met [])
 unfolding meet-all
-tail-start c whole met h all few = h
-
-pub tail-next : (c d e : Numbering) (members : List ℕ) (count i : ℕ) → i < count → count ≤ length members
-    → TailMet c d (take count members) (take i members)
-    → ((met : List ℕ) → Numbers d met → getD members i 0 < 64 → length (meet met (getD members i 0)) ≤ 64
-    → Numbers e (meet met (getD members i 0)))
-    → TailMet c e (take count members) (take (i + 1) members)
-tail-next c d e members count i l b so-far one met h all few =
-    let whole = take count members in
-    let next = meet-last met members i (omega arith) in
-    let parts : whole ≡ take (i + 1) members ++ drop (i + 1) whole =
-    sym (take-append-drop (i + 1) whole) ∙ ap (λ (k : List ℕ). k ++ drop (i + 1) whole) (take-take (i + 1) count members (omega arith)) in
-    let more = meet-all-more met (take (i + 1) members) (drop (i + 1) whole) in
-    let size = length-take-le count members b in
-    let small : getD members i 0 < 64 =
-    subst (λ (n : ℕ). n < 64) (getD-take count members i 0 l) (all-at (λ n. n < 64) whole all i 0 (omega arith)) in
-    subst (Numbers e) (sym next)
-    (one (meet-all met (take i members)) (so-far met h all few) small
-    (omega (arith, ap length next, ap (λ (k : List ℕ). length (meet-all met k)) parts)))
+nothing-met c met h = h
 
 pub found-members : (t : Tail) → t .found ≡ true → members-of (tail-held t) ≡ take (t .count) (t .members)
 unfolding tail-held members-of
@@ -148,15 +185,9 @@ pub no-members : (t : Tail) → t .found ≡ false → members-of (tail-held t) 
 unfolding tail-held members-of
 no-members t e = rw e
 
-pub tail-none : (c : Numbering) (t : Tail) → not (t .found) ≡ true → TailMet c c (members-of (tail-held t)) (members-of (tail-held t))
-tail-none c t e = rw (no-members t (not-true (t .found) e)) (tail-start c [])
-
-pub tail-all : (c d : Numbering) (t : Tail) (i : ℕ) → not (t .found) ≡ false → i ≤ t .count → t .count ≤ i
-    → TailMet c d (take (t .count) (t .members)) (take i (t .members)) → TailMet c d (members-of (tail-held t)) (members-of (tail-held t))
-tail-all c d t i e a b so-far =
-    let same : i ≡ t .count = omega arith in
-    rw (found-members t (not-false (t .found) e)) (subst (λ (k : ℕ). TailMet c d (take (t .count) (t .members)) (take k
-    (t .members))) same so-far)
+pub none-met : (met : List ℕ) (t : Tail) → t .found ≡ false → meet-all met (members-of (tail-held t)) ≡ met
+unfolding meet-all
+none-met met t e = ap (meet-all met) (no-members t e)
 
 -- ---- the members of a row
 
@@ -165,29 +196,21 @@ unfolding rule-part members-of
 part-members r none = refl
 part-members r (some tail) = refl
 
--- The lists below n, joined to those met in so many turns.
-abbrev pub RowMet : Numbering → Numbering → (ℕ → List ℕ) → ℕ → ℕ → Type 0
-RowMet start now f n r =
-    (met : List ℕ) → Numbers start met → length (meet-all met (concat-below f n)) ≤ 64 → Numbers now (meet-all met (concat-below f r))
+module _ (met all : List ℕ) (f : ℕ → List ℕ) where
+  below-leads : (n r : ℕ) → r < n → Leads met (concat-below f n) all → Leads met (concat-below f r ++ f r) all
+  unfolding concat-below
+  below-leads zero r h l = absurd (omega arith)
+  below-leads (suc n) r h l = elim (ℕ-discrete r n) [
+    | yes e ↦ subst (λ (k : ℕ). Leads met (concat-below f k ++ f k) all) (sym e) l
+    | no e ↦ below-leads n r (omega arith) (leads-front met (concat-below f n) (f n) all l)
+  ]
 
-pub row-start : (c : Numbering) (f : ℕ → List ℕ) (n : ℕ) → RowMet c c f n 0
-unfolding meet-all concat-below
-row-start c f n met h few = h
+  pub rule-leads : (n r : ℕ) → r < n → Leads met (concat-below f n) all → Leads (meet-all met (concat-below f r)) (f r) all
+  rule-leads n r h l = leads-back met (concat-below f r) (f r) all (below-leads n r h l)
 
-below-more : (met : List ℕ) (f : ℕ → List ℕ) (n r : ℕ) → r ≤ n → length (meet-all met (concat-below f r)) ≤ length (meet-all met
-    (concat-below f n))
-unfolding concat-below
-below-more met f zero zero h = omega arith
-below-more met f zero (suc r) h = absurd (omega arith)
-below-more met f (suc n) r h = elim (ℕ-discrete r (suc n)) [
-  | yes e ↦ subst (λ (k : ℕ). length (meet-all met (concat-below f k)) ≤ length (meet-all met (concat-below f n ++ f n))) (sym e) (omega arith)
-  | no e ↦ let a = below-more met f n r (omega arith) in let b = meet-all-more met (concat-below f n) (f n) in omega arith
-]
+  pub rule-joined : (r : ℕ) → meet-all met (concat-below f (r + 1)) ≡ meet-all (meet-all met (concat-below f r)) (f r)
+  rule-joined r = rw add-one (unfold concat-below in meet-all-append met (concat-below f r) (f r))
 
-pub row-next : (c d e : Numbering) (f : ℕ → List ℕ) (n r : ℕ) (tail : List ℕ) → r < n → f r ≡ tail → All (λ m. m < 64) tail
-    → RowMet c d f n r → TailMet d e tail tail → RowMet c e f n (r + 1)
-row-next c d e f n r tail l same small so-far one met h few =
-    let next : meet-all met (concat-below f (r + 1)) ≡ meet-all (meet-all met (concat-below f r)) tail =
-    rw (add-one, ← same) (unfold concat-below in meet-all-append met (concat-below f r) (f r)) in
-    let more = below-more met f n (r + 1) (omega arith) in
-    subst (Numbers e) (sym next) (one (meet-all met (concat-below f r)) (so-far met h few) small (omega (arith, ap length next)))
+  pub none-joined : meet-all met (concat-below f 0) ≡ met
+  unfolding meet-all concat-below
+  none-joined = refl

@@ -15,18 +15,21 @@ use Rattle.stage3_normal_form.specs.NormalForm.{normal-form}
 use Rattle.stage3_normal_form_walk.specs.Columns.{tail-held}
 use Rattle.stage3_normal_form_walk.specs.declared.Tail.{Tail}
 use Rattle.stage5_image.specs.Fusion.{fused-from, fused-row, fused}
+use Rattle.stage0_laws.specs.Lists.{All}
+use Rattle.stage0_laws.specs.MeetingLaws.{first-met, meet-all-order}
 use Rattle.stage0_laws.specs.Reaching.{rows-more, row-done, rows-done}
 use Rattle.stage0_laws.specs.Meeting.{is-met, meet-all, meet-rows, number-of}
 use Rattle.stage5_image.specs.Numbering.{tail-members, tails-of, reached}
 use Rattle.stage5_image.specs.Simulation.{fused-row-of}
 use Rattle.stage5_image_numbering.specs.Below.{concat-below}
 use Rattle.stage5_image_numbering.specs.Grammar.{GrammarOf, Numbers, members-of}
+use Rattle.stage5_image_numbering.specs.Leads.{Leads}
 use Rattle.stage5_image_numbering.specs.ReachedNodes.{rows-size, reached-here, reached-inside}
 use Rattle.stage5_image_numbering.specs.RuleTails.{rule-tail, rule-part, fused-parts, members-are}
 use Rattle.stage5_image_numbering.specs.declared.Grammar.{Grammar}
 use Rattle.stage5_image_numbering.specs.declared.Numbering.{Numbering}
 use Rattle.stage5_image_numbering.proofs.Tails.{members-nodes}
-use Rattle.stage5_image_numbering.proofs.Meeting.{TailMet, RowMet, row-next, part-members}
+use Rattle.stage5_image_numbering.proofs.Meeting.{part-members}
 
 -- ---- one row
 
@@ -37,25 +40,21 @@ productions-of e node = (row-of (normal-form e) node) .productions
 abbrev pub row-members : List Rule → Expression → ℕ → ℕ → List ℕ
 row-members rules e node r = rule-part (λ p. p .tail) r (rule-tail rules (productions-of e node) r)
 
-module _ (g : Grammar) (rules : List Rule) (e : Expression) (h : GrammarOf g rules e) (node : ℕ) where
-  pub row-turn : (c d f : Numbering) (r : ℕ) (t : Tail) → r < g .rules → tail-held t ≡ rule-tail rules (productions-of e node) r
-      → RowMet c d (row-members rules e node) (length rules) r → TailMet d f (members-of (tail-held t)) (members-of (tail-held t))
-      → RowMet c f (row-members rules e node) (length rules) (r + 1)
-  row-turn c d f r t below found so-far joins =
-      row-next c d f (row-members rules e node) (length rules) r (members-of (tail-held t)) (omega (arith, h .rule-count))
-      (part-members r (rule-tail rules (productions-of e node) r) ∙ ap members-of (sym found))
-      (rw found (members-nodes h node r)) so-far joins
+-- All rules' members together are those of the node's fused row.
+pub row-whole : (rules : List Rule) (e : Expression) (node : ℕ)
+    → concat-below (row-members rules e node) (length rules) ≡ tail-members (fused-from rules 0 (productions-of e node))
+row-whole rules e node =
+    fused-parts (λ p. p .tail) (productions-of e node) rules ∙ members-are (fused-from rules 0 (productions-of e node))
 
-  pub row-end : (c d : Numbering) (r : ℕ) → r ≤ g .rules → g .rules ≤ r → RowMet c d (row-members rules e node) (length rules) r
-      → (met : List ℕ) → Numbers c met → length (meet-all met (tail-members (fused-from rules 0 (productions-of e node)))) ≤ 64
-      → Numbers d (meet-all met (tail-members (fused-from rules 0 (productions-of e node))))
-  row-end c d r a b so-far met n few =
-      let same : r ≡ length rules = omega (arith, h .rule-count) in
-      let whole : concat-below (row-members rules e node) (length rules) ≡ tail-members (fused-from rules 0 (productions-of e node)) =
-      fused-parts (λ p. p .tail) (productions-of e node) rules ∙ members-are (fused-from rules 0 (productions-of e node)) in
-      let all : RowMet c d (row-members rules e node) (length rules) (length rules) =
-      subst (λ (k : ℕ). RowMet c d (row-members rules e node) (length rules) k) same so-far in
-      subst (λ (l : List ℕ). Numbers d (meet-all met l)) whole (all met n (rw whole few))
+-- The members of the tail that was found for a rule are the rule's, and nodes.
+pub tail-members-here : (rules : List Rule) (e : Expression) (node r : ℕ) (t : Tail)
+    → tail-held t ≡ rule-tail rules (productions-of e node) r → row-members rules e node r ≡ members-of (tail-held t)
+tail-members-here rules e node r t found =
+    part-members r (rule-tail rules (productions-of e node) r) ∙ ap members-of (sym found)
+
+pub tail-nodes : (g : Grammar) (rules : List Rule) (e : Expression) → GrammarOf g rules e → (node r : ℕ) (t : Tail)
+    → tail-held t ≡ rule-tail rules (productions-of e node) r → All (λ n. n < 64) (members-of (tail-held t))
+tail-nodes g rules e h node r t found = rw found (members-nodes h node r)
 
 -- ---- the start
 
@@ -80,6 +79,7 @@ fused-members rules row = refl
 pub record Walked (rules : List Rule) (e : Expression) (c : Numbering) (i : ℕ) : Type 0 where
   pub met : List ℕ
   pub numbers : Numbers c met
+  pub behind : i ≤ length met
   pub rest : meet-rows (tails-of (fused rules (normal-form e))) (size e - i) i met ≡ reached (fused rules (normal-form e))
 
 module _ (g : Grammar) (rules : List Rule) (e : Expression) (h : GrammarOf g rules e) where
@@ -87,6 +87,7 @@ module _ (g : Grammar) (rules : List Rule) (e : Expression) (h : GrammarOf g rul
   walked-start c n = record {
     met = 0 ∷ [];
     numbers = n;
+    behind = omega arith;
     rest = unfold reached in
         ap (λ (k : ℕ). meet-rows (tails-of (fused rules (normal-form e))) k 0 (0 ∷ []))
         (let s = rows-size g rules e h in let z : size e - 0 ≡ length (fused rules (normal-form e)) = omega arith in z);
@@ -101,22 +102,25 @@ module _ (g : Grammar) (rules : List Rule) (e : Expression) (h : GrammarOf g rul
         let m = rows-more (tails-of rows) (size e - i) i (w .met) in
         omega (arith, ap length (sym (w .rest) ∙ m .1), length-append (w .met) (m .0), reached-here g rules e h .few, rows-size g rules e h)
 
-    pub next-node : (node : ℕ) → node ≡ getD (c .met) i 0 → i < c .count → node < size e
-    next-node node is b =
+    pub node-reached : (node : ℕ) → node ≡ getD (c .met) i 0 → i < c .count → node ≡ getD (reached rows) i 0
+    node-reached node is b =
         let m = rows-more (tails-of rows) (size e - i) i (w .met) in
         let l : i < length (w .met) = omega (arith, w .numbers .count) in
         let all : reached rows ≡ w .met ++ m .0 = sym (w .rest) ∙ m .1 in
-        let same : getD (reached rows) i 0 ≡ getD (c .met) i 0 =
-        ap (λ (k : List ℕ). getD k i 0) all ∙ List·getD-append (w .met) (m .0) 0 i l
-        ∙ ap (λ (k : List ℕ). getD k i 0) (sym (w .numbers .nodes)) ∙ getD-take (c .count) (c .met) i 0 b in
-        let bound : i < length (reached rows) = omega (arith, ap length all, length-append (w .met) (m .0)) in
-        omega (arith, reached-inside g rules e h i bound)
+        sym (ap (λ (k : List ℕ). getD k i 0) all ∙ List·getD-append (w .met) (m .0) 0 i l
+        ∙ ap (λ (k : List ℕ). getD k i 0) (sym (w .numbers .nodes)) ∙ getD-take (c .count) (c .met) i 0 b ∙ sym is)
 
-    pub walked-next : (d : Numbering) (node : ℕ) → node ≡ getD (c .met) i 0 → i < c .count
-        → ((met : List ℕ) → Numbers c met → length (meet-all met (tail-members (fused-from rules 0 (productions-of e node)))) ≤ 64
-        → Numbers d (meet-all met (tail-members (fused-from rules 0 (productions-of e node)))))
-        → Walked rules e d (i + 1)
-    walked-next d node is b joins =
+    pub next-node : (node : ℕ) → node ≡ getD (c .met) i 0 → i < c .count → node < size e
+    next-node node is b =
+        let m = rows-more (tails-of rows) (size e - i) i (w .met) in
+        let all : reached rows ≡ w .met ++ m .0 = sym (w .rest) ∙ m .1 in
+        let bound : i < length (reached rows) = omega (arith, ap length all, length-append (w .met) (m .0), w .numbers .count) in
+        omega (arith, node-reached node is b, reached-inside g rules e h i bound)
+
+    row-step : (node : ℕ) → node ≡ getD (c .met) i 0 → i < c .count
+        → meet-rows (tails-of rows) (size e - (i + 1)) (i + 1) (meet-all (w .met) (tail-members (fused-from rules 0 (productions-of e node))))
+        ≡ reached rows
+    row-step node is b =
         let l : i < length (w .met) = omega (arith, w .numbers .count) in
         let members = tail-members (fused-from rules 0 (productions-of e node)) in
         let here : getD (w .met) i 0 ≡ node =
@@ -125,26 +129,40 @@ module _ (g : Grammar) (rules : List Rule) (e : Expression) (h : GrammarOf g rul
         ap (λ (r : Row). tail-members (r .productions)) (fused-row-of rules (normal-form e) (getD (w .met) i 0))
         ∙ fused-members rules (row-of (normal-form e) (getD (w .met) i 0))
         ∙ ap (λ (n : ℕ). tail-members (fused-from rules 0 (productions-of e n))) here in
-        let step : meet-rows (tails-of rows) (size e - (i + 1)) (i + 1) (meet-all (w .met) members) ≡ reached rows =
         ap (λ (k : ℕ). meet-rows (tails-of rows) (size e - (i + 1)) k (meet-all (w .met) members)) (add-one i)
         ∙ sym (ap (λ (k : ℕ). meet-rows (tails-of rows) k i (w .met)) (let f = few in let z : size e - i ≡ suc (size e - (i + 1)) = omega arith in z)
         ∙ row-done (tails-of rows) (size e - (i + 1)) i (w .met) l
-        ∙ ap (λ (m : List ℕ). meet-rows (tails-of rows) (size e - (i + 1)) (suc i) (meet-all (w .met) m)) row) ∙ w .rest in
+        ∙ ap (λ (m : List ℕ). meet-rows (tails-of rows) (size e - (i + 1)) (suc i) (meet-all (w .met) m)) row) ∙ w .rest
+
+    -- All nodes reached begin with those met once the members of the next row have joined.
+    pub row-leads : (node : ℕ) → node ≡ getD (c .met) i 0 → i < c .count
+        → Leads (w .met) (tail-members (fused-from rules 0 (productions-of e node))) (reached rows)
+    row-leads node is b =
+        let members = tail-members (fused-from rules 0 (productions-of e node)) in
         let m = rows-more (tails-of rows) (size e - (i + 1)) (i + 1) (meet-all (w .met) members) in
         record {
-          met = meet-all (w .met) members;
-          numbers = joins (w .met) (w .numbers)
-              (omega (
-                arith,
-                ap length (sym step ∙ m .1),
-                length-append (meet-all (w .met) members) (m .0),
-                reached-here g rules e h .few,
-                rows-size g rules e h,
-                h .columns .nodes-most,
-              ));
-          rest = step;
+          rest = m .0;
+          continues = sym (row-step node is b) ∙ m .1;
+          few = omega (arith, reached-here g rules e h .few, rows-size g rules e h, h .columns .nodes-most);
         }
 
-    pub walked-end : c .count ≤ i → Numbers c (reached rows)
+    pub walked-next : (d : Numbering) (node : ℕ) → node ≡ getD (c .met) i 0 → i < c .count
+        → Numbers d (meet-all (w .met) (tail-members (fused-from rules 0 (productions-of e node)))) → Walked rules e d (i + 1)
+    walked-next d node is b joins =
+        let members = tail-members (fused-from rules 0 (productions-of e node)) in
+        record {
+          met = meet-all (w .met) members;
+          numbers = joins;
+          behind = omega (
+            arith,
+            w .numbers .count,
+            ap length (meet-all-order (w .met) members),
+            length-append (w .met) (first-met (w .met) members),
+          );
+          rest = row-step node is b;
+        }
+
+    pub walked-end : c .count ≤ i → Numbers c (reached rows) × (i ≡ length (reached rows))
     walked-end b =
-        subst (Numbers c) (sym (rows-done (tails-of rows) (size e - i) i (w .met) (omega (arith, w .numbers .count))) ∙ w .rest) (w .numbers)
+        let all = sym (rows-done (tails-of rows) (size e - i) i (w .met) (omega (arith, w .numbers .count))) ∙ w .rest in
+        (subst (Numbers c) all (w .numbers), omega (arith, w .numbers .count, w .behind, ap length all))

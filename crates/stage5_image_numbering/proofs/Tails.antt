@@ -4,7 +4,7 @@ use mathlib.Core.List.{List, map}
 use mathlib.Core.Option.{Option, none, some}
 use Prim.Native.Nat.{ℕ, zero, suc, _-_, _<_}
 use native.Mathlib.Omega.{arith}
-use lib.ListN.{getD, length}
+use lib.ListN.{getD}
 use lib.Seq.{getD-take}
 use Rattle.stage0_laws.specs.Lists.{All}
 use Rattle.stage1_sheet.specs.Expression.{Expression, size}
@@ -26,28 +26,25 @@ with-head-tail : (t : ℕ) (o : Option (List ℕ)) → tail-of (with-head t o) �
 with-head-tail t none = refl
 with-head-tail t (some tail) = refl
 
-module _ (g : Grammar) (rules : List Rule) (e : Expression) (h : GrammarOf g rules e) (rule : ℕ) (below : rule < length rules)
-    (ps : List Production) where
-  tail-by-action : rule-tail rules ps rule ≡ action-tail (getD (g .action) rule 0) ps
-  unfolding rule-tail
-  tail-by-action =
-      let l : rule < g .rules = omega (arith, h .rule-count) in
-      ap (λ (a : ℕ). action-tail a ps)
-      (ap (λ (l : List ℕ). getD l rule 0) (sym (h .actions-held)) ∙ getD-take (g .rules) (g .action) rule 0 l)
+pub skipping-tail : (a : ℕ) (ps : List Production) → a ≡ 0 → none ≡ action-tail a ps
+skipping-tail a ps z = sym (ap (λ (k : ℕ). action-tail k ps) z ∙ (unfold action-tail in refl))
 
-  pub skipping-tail : getD (g .action) rule 0 ≡ 0 → none ≡ rule-tail rules ps rule
-  skipping-tail z = sym (tail-by-action ∙ ap (λ (a : ℕ). action-tail a ps) z ∙ (unfold action-tail in refl))
+pub returning-tail : (a : ℕ) (ps : List Production) → (a ≡ 0 → ⊥) → (r : Tail) → production-held (a - 1) r ≡ production-of (a - 1) ps
+    → tail-held r ≡ action-tail a ps
+unfolding production-held
+returning-tail a ps some-token r found =
+    let next : suc (a - 1) ≡ a = omega arith in
+    sym (with-head-tail (a - 1) (tail-held r)) ∙ ap tail-of found
+    ∙ (let same : tail-of (production-of (a - 1) ps) ≡ action-tail (suc (a - 1)) ps = unfold action-tail in refl in same)
+    ∙ ap (λ (k : ℕ). action-tail k ps) next
 
-  pub returning-tail : (getD (g .action) rule 0 ≡ 0 → ⊥) → (r : Tail)
-      → production-held (getD (g .action) rule 0 - 1) r ≡ production-of (getD (g .action) rule 0 - 1) ps
-      → tail-held r ≡ rule-tail rules ps rule
-  unfolding production-held
-  returning-tail some-token r found =
-      let a = getD (g .action) rule 0 in
-      let next : suc (a - 1) ≡ a = omega arith in
-      sym (with-head-tail (a - 1) (tail-held r)) ∙ ap tail-of found
-      ∙ (let same : tail-of (production-of (a - 1) ps) ≡ action-tail (suc (a - 1)) ps = unfold action-tail in refl in same)
-      ∙ ap (λ (k : ℕ). action-tail k ps) next ∙ sym tail-by-action
+-- The action that the columns have for a rule gives the rule's tail.
+pub tail-by-action : (g : Grammar) (rules : List Rule) (e : Expression) → GrammarOf g rules e → (rule : ℕ) → rule < g .rules
+    → (ps : List Production) (o : Option (List ℕ)) → o ≡ action-tail (getD (g .action) rule 0) ps → o ≡ rule-tail rules ps rule
+unfolding rule-tail
+tail-by-action g rules e h rule below ps o found =
+    found ∙ sym (ap (λ (a : ℕ). action-tail a ps)
+    (ap (λ (l : List ℕ). getD l rule 0) (sym (h .actions-held)) ∙ getD-take (g .rules) (g .action) rule 0 below))
 
 -- The members of a rule's tail in a row of the normal form are nodes.
 pub members-nodes : {g : Grammar} {rules : List Rule} {e : Expression} → GrammarOf g rules e → (n rule : ℕ)

@@ -34,3 +34,7 @@ pub record Numbers (c : Numbering) (met : List ℕ) : Type 0 where
   pub count : c .count ≡ length met
   pub nodes : take (c .count) (c .met) ≡ met
   pub numbers : (n : ℕ) → n < 64 → getD (c .number) n 0 ≡ cond (is-met n met) (number-of met n) 64
+
+-- The columns of a numbering together.
+abbrev pub numbering-of : ℕ → List ℕ → List ℕ → Numbering
+numbering-of count met number = record { count = count; met = met; number = number }

@@ -4,3 +4,4 @@ pub mod RuleTails
 pub mod Grammar
 pub mod ReachedNodes
 pub mod GrammarLaws
+pub mod Leads

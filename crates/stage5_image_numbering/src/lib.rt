@@ -1,5 +1,5 @@
-// The numbering of nonterminals: the nodes reached from the start over the fused productions, in the order in which they are met.
-// A rule's production is found by a walk and kept in no table. How an image is written is not said here.
+// The numbering of nonterminals, node by node: a node gets its number when it is first met. A rule's production is found by a walk and
+// kept in no table. In which order the nodes are met, and how an image is written, is not said here.
 use stage1_sheet_columns::RuleColumns;
 use stage2_types_columns::NodeLinks;
 use stage2_types_columns::TypeColumns;
@@ -8,18 +8,14 @@ ghost use mathlib.Core.Path.{_≡_};
 ghost use mathlib.Core.List.{List, [], _∷_};
 ghost use Prim.Native.Nat.{ℕ, _≤_, _<_};
 ghost use lib.ListN.{getD, length};
-ghost use Rattle.stage0_laws.specs.Lists.{All};
 ghost use Rattle.stage1_sheet.specs.Expression.{Expression, size};
-ghost use Rattle.stage1_sheet.specs.Sheet.{Rule};
 ghost use Rattle.stage3_normal_form.specs.Productions.{row-of};
 ghost use Rattle.stage3_normal_form.specs.NormalForm.{normal-form};
-ghost use Rattle.stage3_normal_form_walk.specs.Columns.{TailCounted, tail-held};
-ghost use Rattle.stage5_image.specs.Fusion.{fused, fused-from};
-ghost use Rattle.stage0_laws.specs.Meeting.{meet, meet-all};
-ghost use Rattle.stage5_image.specs.Numbering.{tail-members, reached};
-ghost use Rattle.stage5_image_numbering.specs.Grammar.{GrammarOf, Numbers, members-of};
+ghost use Rattle.stage3_normal_form_walk.specs.Columns.{ColumnsOf, TailCounted, tail-held};
+ghost use Rattle.stage0_laws.specs.Meeting.{meet};
+ghost use Rattle.stage5_image_numbering.specs.Grammar.{Numbers, numbering-of};
 ghost use Rattle.stage5_image_numbering.specs.GrammarLaws.{grammar-from};
-ghost use Rattle.stage5_image_numbering.specs.RuleTails.{rule-tail};
+ghost use Rattle.stage5_image_numbering.specs.RuleTails.{action-tail};
 
 // The rules' actions; the expression's tags, links and FIRST sets by node; the nullable nodes, and those that derive a token
 // sequence, as sets.
@@ -64,15 +60,21 @@ pub fn grammar_from(
     }
 }
 
-// The tail that a rule's production has in a node's row. A rule that skips has none.
-pub fn rule_tail(grammar: Grammar, node: usize, rule: usize) -> Tail
-    requires { ⌜ ((rules : List Rule) × (e : Expression) × GrammarOf grammar rules e × (node < size e)
-        × (rule < length rules)) ⌝ }
+// The tail that the production of a rule with this action has in a node's row. A rule that skips has none. The columns are lent and not
+// copied, since this is asked for each node and rule.
+pub fn rule_tail<'a>(
+    tag: &'a [u8; 64],
+    link: &'a [u8; 64],
+    first: &'a [u32; 64],
+    productive: u64,
+    node: usize,
+    action: u8,
+) -> Tail
+    requires { ⌜ ((e : Expression) × ColumnsOf (now tag) (now link) (now first) productive e × (node < size e)) ⌝ }
     ensures { λ r. ⌜ TailCounted r
-        × ((rules : List Rule) (e : Expression) → GrammarOf grammar rules e → node < size e → rule < length rules
-        → tail-held r ≡ rule-tail rules ((row-of (normal-form e) node) .productions) rule) ⌝ }
+        × ((e : Expression) → ColumnsOf (now (tag .entry)) (now (link .entry)) (now (first .entry)) productive e → node < size e
+        → tail-held r ≡ action-tail action ((row-of (normal-form e) node) .productions)) ⌝ }
 {
-    let action = grammar.action[rule];
     if action == 0 {
         return Tail {
             found: false,
@@ -80,83 +82,34 @@ pub fn rule_tail(grammar: Grammar, node: usize, rule: usize) -> Tail
             members: [0; 32],
         };
     }
-    stage3_normal_form_walk::production(
-        &grammar.tag,
-        &grammar.link,
-        &grammar.first,
-        grammar.productive,
-        node,
-        action - 1,
-    )
+    stage3_normal_form_walk::production(tag, link, first, productive, node, action - 1)
 }
 
-// A node joins those met, unless it has been met.
-fn meet(numbering: Numbering, n: usize) -> Numbering
-    requires { ⌜ numbering .count ≤ 64 ⌝ }
-    ensures { λ r. ⌜ (r .count ≤ 64)
-        × ((met : List ℕ) → Numbers numbering met → n < 64 → length (meet met n) ≤ 64 → Numbers r (meet met n)) ⌝ }
+// A node joins those met, unless it has been met. The answer is how many have been met. The columns are lent, since a copy of what was
+// just stored byte by byte makes the processor wait.
+pub fn meet(met: &mut [u8; 64], number: &mut [u8; 64], count: usize, n: usize) -> usize
+    requires { ⌜ (count ≤ 64) × (length (now met) ≡ 64) × (length (now number) ≡ 64) ⌝ }
+    ensures { λ r. ⌜ (r ≤ 64) × (length (now (met .exit)) ≡ 64) × (length (now (number .exit)) ≡ 64)
+        × ((known : List ℕ) → Numbers (numbering-of count (now (met .entry)) (now (number .entry))) known
+        → n < 64 → length (meet known n) ≤ 64
+        → Numbers (numbering-of r (now (met .exit)) (now (number .exit))) (meet known n)) ⌝ }
 {
-    let count = numbering.count;
     if 64 <= n {
-        return numbering;
+        return count;
     }
-    if numbering.number[n] < 64 {
-        return numbering;
+    if number[n] < 64 {
+        return count;
     }
     if 64 <= count {
-        return numbering;
+        return count;
     }
-    let mut next = numbering;
-    next.met[count] = n as u8;
-    next.number[n] = count as u8;
-    next.count = count + 1;
-    next
-}
-
-// The members of a tail join those met, from the left.
-fn meet_tail(numbering: Numbering, tail: Tail) -> Numbering
-    requires { ⌜ (numbering .count ≤ 64) × (tail .count ≤ 32) ⌝ }
-    ensures { λ r. ⌜ (r .count ≤ 64)
-        × ((met : List ℕ) → Numbers numbering met → All (λ n. n < 64) (members-of (tail-held tail))
-        → length (meet-all met (members-of (tail-held tail))) ≤ 64
-        → Numbers r (meet-all met (members-of (tail-held tail)))) ⌝ }
-{
-    let mut next = numbering;
-    if !tail.found {
-        return next;
-    }
-    let count = tail.count;
-    let mut i: usize = 0;
-    while i < count {
-        next = meet(next, tail.members[i] as usize);
-        i += 1;
-    }
-    next
-}
-
-// The tail members of a node's row join those met, by rising rule.
-fn meet_row(numbering: Numbering, grammar: Grammar, node: usize) -> Numbering
-    requires { ⌜ ((rules : List Rule) × (e : Expression) × GrammarOf grammar rules e × (node < size e)
-        × (numbering .count ≤ 64)) ⌝ }
-    ensures { λ r. ⌜ (r .count ≤ 64)
-        × ((rules : List Rule) (e : Expression) → GrammarOf grammar rules e → node < size e
-        → (met : List ℕ) → Numbers numbering met
-        → length (meet-all met (tail-members (fused-from rules 0 ((row-of (normal-form e) node) .productions)))) ≤ 64
-        → Numbers r (meet-all met (tail-members (fused-from rules 0 ((row-of (normal-form e) node) .productions))))) ⌝ }
-{
-    let rules = grammar.rules;
-    let mut next = numbering;
-    let mut rule: usize = 0;
-    while rule < rules {
-        let tail = rule_tail(grammar, node, rule);
-        next = meet_tail(next, tail);
-        rule += 1;
-    }
-    next
+    met[count] = n as u8;
+    number[n] = count as u8;
+    count + 1
 }
 
 // Only the start has been met.
-fn start() -> Numbering
+pub fn start() -> Numbering
     ensures { λ r. ⌜ (r .count ≡ 1) × Numbers r (0 ∷ []) ⌝ }
 {
     let mut number = [64u8; 64];
@@ -176,28 +129,20 @@ pub fn node_at(numbering: Numbering, i: usize) -> usize
     numbering.met[i] as usize
 }
 
+// An entry as a number of an image.
+fn widened(entry: u8) -> u64
+    ensures { λ r. ⌜ r ≡ entry ⌝ }
+{
+    entry as u64
+}
+
 // A node's number. No node from 64 on has one.
-pub fn number_of(numbering: Numbering, n: usize) -> u64
-    ensures { λ r. ⌜ r ≡ getD (numbering .number) n 0 ⌝ }
+pub fn number_of(number: &[u8; 64], n: usize) -> u64
+    requires { ⌜ length (now number) ≡ 64 ⌝ }
+    ensures { λ r. ⌜ r ≡ getD (now (number .entry)) n 0 ⌝ }
 {
     if 64 <= n {
         return 0;
     }
-    numbering.number[n] as u64
-}
-
-// The numbers of the nodes that are reached from the start: row by row, in the order in which they are met.
-pub fn number_nodes(grammar: Grammar) -> Numbering
-    requires { ⌜ ((rules : List Rule) × (e : Expression) × GrammarOf grammar rules e) ⌝ }
-    ensures { λ r. ⌜ (r .count ≤ 64)
-        × ((rules : List Rule) (e : Expression) → GrammarOf grammar rules e → Numbers r (reached (fused rules (normal-form e)))) ⌝ }
-{
-    let mut next = start();
-    let mut i: usize = 0;
-    while i < next.count {
-        let node = node_at(next, i);
-        next = meet_row(next, grammar, node);
-        i += 1;
-    }
-    next
+    widened(number[n])
 }

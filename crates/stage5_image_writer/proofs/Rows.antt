@@ -8,6 +8,7 @@ use native.Mathlib.Numerals.{add-one}
 use native.Mathlib.Omega.{arith}
 use lib.ListN.{getD, length, take, length-append, length-map}
 use Rattle.stage0_laws.specs.Bits.{bit}
+use Rattle.stage0_number.specs.Number.{encode}
 use Rattle.stage1_sheet.specs.Expression.{Expression, size}
 use Rattle.stage1_sheet.specs.Sheet.{Rule}
 use Rattle.stage2_types.specs.LeastTypeLaws.{least-solves}
@@ -17,16 +18,16 @@ use Rattle.stage3_normal_form.specs.NormalForm.{normal-form}
 use Rattle.stage3_normal_form.specs.NullExact.{null-is-epsilon}
 use Rattle.stage3_normal_form_walk.specs.Columns.{tail-held}
 use Rattle.stage3_normal_form_walk.specs.declared.Tail.{Tail}
-use Rattle.stage5_image.specs.Fusion.{fused-from, fused-row}
+use Rattle.stage5_image.specs.Fusion.{fused-from, fused-row, fused}
 use Rattle.stage5_image.specs.Image.{flag, production-numbers}
 use Rattle.stage5_image.specs.ImageNumbers.{all-numbers, one-production-numbers, productions-are}
+use Rattle.stage5_image.specs.Numbering.{reached, renumbered}
 use Rattle.stage5_image_numbering.specs.Below.{concat-below}
 use Rattle.stage5_image_numbering.specs.Grammar.{GrammarOf}
 use Rattle.stage5_image_numbering.specs.RuleTails.{rule-tail, rule-part, fused-parts}
 use Rattle.stage5_image_numbering.specs.declared.Grammar.{Grammar}
-use Rattle.stage5_image_numbering.specs.declared.Numbering.{Numbering}
-use Rattle.stage5_image_writer.specs.Emitted.{Emitted, emitted-append, emitted-same}
-use Rattle.stage5_image_writer.specs.Parts.{mapped, mapped-row, production-part, productions-part, row-part, rows-part}
+use Rattle.stage5_image_writer.specs.Emitted.{Emitted, emitted-append, emitted-same, emitted-over, one-byte}
+use Rattle.stage5_image_writer.specs.Parts.{mapped-row, production-part, productions-part, row-part, numbered-row-part, rows-part}
 use Rattle.stage5_image_writer.proofs.Writing.{one-more}
 
 abbrev productions-of : Expression → ℕ → List Production
@@ -80,26 +81,26 @@ counted-all g rules e h node r count a b so-far =
 
 -- The numbers of a rule's production in a node's row.
 abbrev pub rule-numbers : List ℕ → List Rule → Expression → ℕ → ℕ → List ℕ
-rule-numbers number rules e node r = rule-part (λ p. one-production-numbers (mapped number p)) r (rule-tail rules (productions-of e node) r)
+rule-numbers all rules e node r = rule-part (λ p. one-production-numbers (renumbered all p)) r (rule-tail rules (productions-of e node) r)
 
-pub production-more : {a b c : List ℕ} {at n m : ℕ} (number : List ℕ) (rules : List Rule) (e : Expression) (node r : ℕ) (t : Tail)
-    → tail-held t ≡ rule-tail rules (productions-of e node) r → Emitted a b at n (concat-below (rule-numbers number rules e node) r)
-    → Emitted b c n m (production-part number r t) → Emitted a c at m (concat-below (rule-numbers number rules e node) (r + 1))
-production-more number rules e node r t found so-far one =
-    one-more (rule-numbers number rules e node) r so-far (emitted-same (same ∙ ap (rule-part (λ p. one-production-numbers
-    (mapped number p)) r) found) one)
+pub production-more : {a b c : List ℕ} {at n m : ℕ} (all : List ℕ) (rules : List Rule) (e : Expression) (node r : ℕ) (t : Tail)
+    → tail-held t ≡ rule-tail rules (productions-of e node) r → Emitted a b at n (concat-below (rule-numbers all rules e node) r)
+    → Emitted b c n m (production-part all r t) → Emitted a c at m (concat-below (rule-numbers all rules e node) (r + 1))
+production-more all rules e node r t found so-far one =
+    one-more (rule-numbers all rules e node) r so-far (emitted-same (same ∙ ap (rule-part (λ p. one-production-numbers
+    (renumbered all p)) r) found) one)
   where
-    same : production-part number r t ≡ rule-part (λ p. one-production-numbers (mapped number p)) r (tail-held t)
+    same : production-part all r t ≡ rule-part (λ p. one-production-numbers (renumbered all p)) r (tail-held t)
     same = unfold production-part in refl
 
-pub productions-emitted : {a b : List ℕ} {at n : ℕ} (g : Grammar) (number : List ℕ) (rules : List Rule) (e : Expression) → GrammarOf g rules e
-    → (node r : ℕ) → r ≤ g .rules → g .rules ≤ r → Emitted a b at n (concat-below (rule-numbers number rules e node) r)
-    → Emitted a b at n (productions-part number rules e node)
+pub productions-emitted : {a b : List ℕ} {at n : ℕ} (g : Grammar) (all : List ℕ) (rules : List Rule) (e : Expression) → GrammarOf g rules e
+    → (node r : ℕ) → r ≤ g .rules → g .rules ≤ r → Emitted a b at n (concat-below (rule-numbers all rules e node) r)
+    → Emitted a b at n (productions-part all rules e node)
 unfolding productions-part
-productions-emitted g number rules e h node r l m x =
+productions-emitted g all rules e h node r l m x =
     let same : r ≡ length rules = omega (arith, h .rule-count) in
-    emitted-same (ap (concat-below (rule-numbers number rules e node)) same
-    ∙ fused-parts (λ p. one-production-numbers (mapped number p)) (productions-of e node) rules) x
+    emitted-same (ap (concat-below (rule-numbers all rules e node)) same
+    ∙ fused-parts (λ p. one-production-numbers (renumbered all p)) (productions-of e node) rules) x
 
 -- ---- the row
 
@@ -116,34 +117,38 @@ map-numbers : {A B : Type 0} (f : B → List ℕ) (m : A → B) (l : List A) →
 map-numbers f m [] = refl
 map-numbers f m (a ∷ l) = ap (λ (k : List ℕ). f (m a) ++ k) (map-numbers f m l)
 
-pub row-emitted : {a b c d : List ℕ} {at v n m : ℕ} (g : Grammar) (number : List ℕ) (rules : List Rule) (e : Expression) → GrammarOf g rules e
+pub row-emitted : {a b c d f : List ℕ} {at v n m l : ℕ} (g : Grammar) (all : List ℕ) (rules : List Rule) (e : Expression) → GrammarOf g rules e
     → (node : ℕ) → node < size e → (null : Bool) (count : ℕ) → null ≡ bit (g .null) node → count ≡ length (fused-from rules 0
     (productions-of e node))
-    → Emitted a b at v (flag null ∷ []) → Emitted b c v n (count ∷ []) → Emitted c d n m (productions-part number rules e node)
-    → Emitted a d at m (row-part number rules e node)
+    → count ≤ 32 → Emitted a b at v (flag null ∷ []) → Emitted b c v n (0 ∷ []) → Emitted c d n m (productions-part all rules e node)
+    → Emitted d f v l (count ∷ []) → Emitted a f at m (row-part all rules e node)
 unfolding row-part mapped-row fused-row productions-part
-row-emitted g number rules e h node inside null count is-null is-count x y z =
+row-emitted {a} {b} {c} {d} {f} {at} {v} {n} {m} {l} g all rules e h node inside null count is-null is-count few x y z w =
     let ps = fused-from rules 0 (productions-of e node) in
     let flags : flag null ∷ [] ≡ flag ((row-of (normal-form e) node) .has-epsilon) ∷ [] = ap (λ (b : Bool). flag b ∷ []) (is-null
     ∙ null-empty g rules e h node inside) in
-    let counts : count ∷ [] ≡ length (map (mapped number) ps) ∷ [] = ap (λ (k : ℕ). k ∷ []) (is-count ∙ sym (length-map ps (mapped number))) in
-    let numbers : all-numbers (λ p. one-production-numbers (mapped number p)) ps ≡ production-numbers (map (mapped number) ps) =
-    sym (map-numbers one-production-numbers (mapped number) ps) ∙ productions-are (map (mapped number) ps) in
-    emitted-append (emitted-same flags x) (emitted-append (emitted-same counts y) (emitted-same numbers z))
+    let counts : count ≡ length (map (renumbered all) ps) = is-count ∙ sym (length-map ps (renumbered all)) in
+    let width : length (encode 0) ≡ length (encode count) = one-byte 0 (omega arith) ∙ sym (one-byte count (omega arith)) in
+    let numbers : all-numbers (λ p. one-production-numbers (renumbered all p)) ps ≡ production-numbers (map (renumbered all) ps) =
+    sym (map-numbers one-production-numbers (renumbered all) ps) ∙ productions-are (map (renumbered all) ps) in
+    emitted-append (emitted-same flags x)
+    (emitted-same (ap (λ (k : ℕ). k ∷ production-numbers (map (renumbered all) ps)) counts)
+    (emitted-over width y (emitted-same numbers z) w))
 
 -- ---- all rows
 
--- The numbers of the row with number i.
-abbrev pub numbered-row-part : Numbering → List Rule → Expression → ℕ → List ℕ
-numbered-row-part c rules e i = row-part (c .number) rules e (getD (c .met) i 0)
+pub row-more : {a b d : List ℕ} {at n m : ℕ} (all : List ℕ) (rules : List Rule) (e : Expression) (i node : ℕ) → node ≡ getD all i 0
+    → Emitted a b at n (concat-below (numbered-row-part all rules e) i) → Emitted b d n m (row-part all rules e node)
+    → Emitted a d at m (concat-below (numbered-row-part all rules e) (i + 1))
+row-more all rules e i node is so-far one =
+    one-more (numbered-row-part all rules e) i so-far (emitted-same (ap (row-part all rules e) is) one)
 
-pub row-more : {a b d : List ℕ} {at n m : ℕ} (c : Numbering) (rules : List Rule) (e : Expression) (i node : ℕ) → node ≡ getD (c .met) i 0
-    → Emitted a b at n (concat-below (numbered-row-part c rules e) i) → Emitted b d n m (row-part (c .number) rules e node)
-    → Emitted a d at m (concat-below (numbered-row-part c rules e) (i + 1))
-row-more c rules e i node is so-far one =
-    one-more (numbered-row-part c rules e) i so-far (emitted-same (ap (row-part (c .number) rules e) is) one)
-
-pub rows-emitted : {a b d : List ℕ} {at v n : ℕ} (c : Numbering) (rules : List Rule) (e : Expression) → Emitted a b at v (c .count ∷ [])
-    → Emitted b d v n (concat-below (numbered-row-part c rules e) (c .count)) → Emitted a d at n (rows-part c rules e)
+pub rows-emitted : {a b c d : List ℕ} {at v n l : ℕ} (rules : List Rule) (e : Expression) (i : ℕ) → i ≤ 64
+    → i ≡ length (reached (fused rules (normal-form e))) → Emitted a b at v (0 ∷ [])
+    → Emitted b c v n (concat-below (numbered-row-part (reached (fused rules (normal-form e))) rules e) i)
+    → Emitted c d at l (i ∷ []) → Emitted a d at n (rows-part rules e)
 unfolding rows-part
-rows-emitted c rules e x y = emitted-append x y
+rows-emitted rules e i few count x y z =
+    let all = reached (fused rules (normal-form e)) in
+    let width : length (encode 0) ≡ length (encode i) = one-byte 0 (omega arith) ∙ sym (one-byte i (omega arith)) in
+    emitted-same (ap (λ (k : ℕ). k ∷ concat-below (numbered-row-part all rules e) k) count) (emitted-over width x y z)

@@ -1,41 +1,34 @@
 -- The image from its parts: the parts that the columns of a sheet give are the numbers of the sheet's image.
-use mathlib.Core.Path.{_≡_, refl, sym, ap, ap₂, _∙_}
-use mathlib.Core.Bool.{Bool, false, cond}
-use mathlib.Core.List.{List, [], _∷_, _++_, map, append-assoc, List·Memᴰ, List·Memᴰ·head, List·Memᴰ·tail}
+use mathlib.Core.Path.{_≡_, refl, sym, ap, _∙_}
+use mathlib.Core.Bool.{Bool, false}
+use mathlib.Core.List.{List, [], _∷_, _++_, map, append-assoc}
 use Prim.Native.Nat.{ℕ, zero, suc, _+_, _≤_, _<_}
 use native.Mathlib.Omega.{arith}
 use native.Mathlib.Nat.{zero-add}
 use lib.Dec.{eqb}
 use lib.ListN.{getD, length, drop, length-map}
 use lib.Seq.{getD-take}
-use Rattle.stage0_laws.specs.Truth.{holds-true}
-use Rattle.stage1_sheet.specs.Expression.{Expression, size}
+use Rattle.stage1_sheet.specs.Expression.{Expression}
 use Rattle.stage1_sheet.specs.Regex.{empty}
 use Rattle.stage1_sheet.specs.Sheet.{Rule, Sheet}
 use Rattle.stage1_sheet.specs.Spelling.{spell}
-use Rattle.stage3_normal_form.specs.Productions.{Production, Row, no-productions, row-of}
+use Rattle.stage3_normal_form.specs.Productions.{Row, no-productions, row-of}
 use Rattle.stage3_normal_form.specs.NormalForm.{normal-form}
-use Rattle.stage3_normal_form.specs.KeptRows.{normal-form-length}
 use Rattle.stage4_lexer.specs.Positions.{Position, positions}
 use Rattle.stage4_lexer_columns.specs.Held.{held-position, held-from, held-positions}
 use Rattle.stage4_lexer_columns.specs.declared.PositionColumns.{PositionColumns}
 use Rattle.stage5_image.specs.Fusion.{fused-row, fused}
 use Rattle.stage5_image.specs.Image.{Image, skips-rule, plain-image, image-bytes, flag, flag-numbers, position-numbers, row-numbers, image-numbers}
-use Rattle.stage5_image.specs.ImageLaws.{normal-form-inside, normal-form-some}
 use Rattle.stage5_image.specs.ImageNumbers.{flag-number, one-position-numbers, one-row-numbers, flags-are, positions-are, rows-are}
-use Rattle.stage0_laws.specs.MeetingLaws.{Met, met-at}
-use Rattle.stage0_laws.specs.Meeting.{is-met, number-of}
 use Rattle.stage5_image.specs.Numbering.{reached, renumbered, renumbered-row, numbered}
 use Rattle.stage0_laws.specs.Members.{getD-map-inside}
-use Rattle.stage5_image.specs.NumberingLaws.{TailsInside, Reached, numbered-count, numbered-row, tail-member}
-use Rattle.stage5_image.specs.Simulation.{fused-row-of, fused-length, fused-inside, reached-fused}
+use Rattle.stage5_image.specs.NumberingLaws.{numbered-count, numbered-row}
+use Rattle.stage5_image.specs.Simulation.{fused-row-of}
 use Rattle.stage5_image_numbering.specs.Below.{concat-below, concat-below-list}
-use Rattle.stage5_image_numbering.specs.Grammar.{GrammarOf, Numbers}
-use Rattle.stage5_image_numbering.specs.ReachedNodes.{reached-inside}
+use Rattle.stage5_image_numbering.specs.Grammar.{GrammarOf}
 use Rattle.stage5_image_numbering.specs.declared.Grammar.{Grammar}
-use Rattle.stage5_image_numbering.specs.declared.Numbering.{Numbering}
 use Rattle.stage5_image_writer.specs.Emitted.{Emitted, emitted-append, emitted-same, emitted-all}
-use Rattle.stage5_image_writer.specs.Parts.{skip-number, rules-part, position-part, positions-part, mapped, mapped-row, row-part, rows-part, PartsOf}
+use Rattle.stage5_image_writer.specs.Parts.{skip-number, rules-part, position-part, positions-part, mapped-row, row-part, numbered-row-part, rows-part, PartsOf}
 
 -- ---- the rules
 
@@ -100,61 +93,32 @@ module _ (p : PositionColumns) (ps : List Position) (h : held-positions p ≡ ps
 
 -- ---- the rows
 
-map-same : {A B : Type 0} (f g : A → B) (l : List A) → ((a : A) → List·Memᴰ a l → f a ≡ g a) → map f l ≡ map g l
-map-same f g [] h = refl
-map-same f g (a ∷ l) h = ap₂ _∷_ (h a (List·Memᴰ·head refl)) (map-same f g l (λ b m. h b (List·Memᴰ·tail m)))
-
-module _ (g : Grammar) (rules : List Rule) (e : Expression) (h : GrammarOf g rules e) (c : Numbering)
-    (n : Numbers c (reached (fused rules (normal-form e)))) where
+module _ (rules : List Rule) (e : Expression) where
   abbrev rows : List Row
   rows = fused rules (normal-form e)
 
   abbrev met : List ℕ
   met = reached (fused rules (normal-form e))
 
-  inside : TailsInside rows
-  inside = fused-inside rules (normal-form e) (normal-form-inside e (h .columns .tokens) (h .columns .closed))
+  row-same : (node : ℕ) → mapped-row (reached (fused rules (normal-form e))) (fused-row rules (row-of (normal-form e) node))
+      ≡ renumbered-row (fused rules (normal-form e)) (reached (fused rules (normal-form e))) node
+  row-same node = ap (mapped-row met) (sym (fused-row-of rules (normal-form e) node)) ∙ (unfold mapped-row renumbered-row in refl)
 
-  reached-all : Reached rows met
-  reached-all = reached-fused rules (normal-form e) (normal-form-inside e (h .columns .tokens) (h .columns .closed)) (normal-form-some e)
+  rows-count : length (reached (fused rules (normal-form e))) ≡ length (numbered (fused rules (normal-form e)))
+  rows-count = sym (numbered-count rows)
 
-  size-most : length rows ≤ 64
-  size-most = omega (arith, fused-length rules (normal-form e), normal-form-length e, h .columns .nodes-most)
-
-  number-same : (x : ℕ) → x < length rows → Met x met → getD (c .number) x 0 ≡ number-of met x
-  number-same x small t =
-      n .numbers x (let s = size-most in omega arith) ∙ ap (λ (b : Bool). cond b (number-of met x) 64) (holds-true (is-met x met) t)
-
-  row-same : (node : ℕ) → Met node met → mapped-row (c .number) (fused-row rules (row-of (normal-form e) node)) ≡ renumbered-row rows met node
-  row-same node t =
-      ap (mapped-row (c .number)) (sym (fused-row-of rules (normal-form e) node))
-      ∙ (unfold mapped-row renumbered-row in
-      ap (λ (ps : List Production). record { has-epsilon = (row-of rows node) .has-epsilon; productions = ps })
-      (map-same (mapped (c .number)) (renumbered met) ((row-of rows node) .productions) one))
-    where
-      one : (p : Production) → List·Memᴰ p ((row-of rows node) .productions) → mapped (c .number) p ≡ renumbered met p
-      one p m = unfold mapped renumbered in
-          ap (λ (tail : List ℕ). record { head = p .head; tail = tail })
-          (map-same (λ x. getD (c .number) x 0) (number-of met) (p .tail)
-          (λ x k. let member = tail-member p x ((row-of rows node) .productions) m k in
-          number-same x (inside node x member) (reached-all .closed node t x member)))
-
-  rows-count : c .count ≡ length (numbered rows)
-  rows-count = n .count ∙ sym (numbered-count rows)
-
-  rows-numbers : concat-below (λ i. row-part (c .number) rules e (getD (c .met) i 0)) (c .count) ≡ row-numbers (numbered rows)
+  rows-numbers : concat-below (numbered-row-part (reached (fused rules (normal-form e))) rules e) (length (reached (fused rules (normal-form e))))
+      ≡ row-numbers (numbered (fused rules (normal-form e)))
   rows-numbers =
-      ap (concat-below (λ i. row-part (c .number) rules e (getD (c .met) i 0))) rows-count
-      ∙ concat-below-list (λ i. row-part (c .number) rules e (getD (c .met) i 0)) one-row-numbers (numbered rows) no-productions
+      ap (concat-below (numbered-row-part met rules e)) rows-count
+      ∙ concat-below-list (numbered-row-part met rules e) one-row-numbers (numbered rows) no-productions
       (λ k l. one k (let a = numbered-count rows in let z : k < length met = omega arith in z))
       ∙ rows-are (numbered rows)
     where
-      one : (k : ℕ) → k < length met → row-part (c .number) rules e (getD (c .met) k 0) ≡ one-row-numbers (row-of (numbered rows) k)
-      one k l = unfold row-part in
-          let same : getD (c .met) k 0 ≡ getD met k 0 =
-          sym (getD-take (c .count) (c .met) k 0 (omega (arith, n .count))) ∙ ap (λ (m : List ℕ). getD m k 0) (n .nodes) in
-          ap (λ (x : ℕ). one-row-numbers (mapped-row (c .number) (fused-row rules (row-of (normal-form e) x)))) same
-          ∙ ap one-row-numbers (row-same (getD met k 0) (met-at met k l) ∙ sym (numbered-row rows k l))
+      one : (k : ℕ) → k < length (reached (fused rules (normal-form e)))
+          → row-part (reached (fused rules (normal-form e))) rules e (getD (reached (fused rules (normal-form e))) k 0)
+          ≡ one-row-numbers (row-of (numbered (fused rules (normal-form e))) k)
+      one k l = unfold row-part in ap one-row-numbers (row-same (getD met k 0) ∙ sym (numbered-row rows k l))
 
 -- ---- the image
 
@@ -164,28 +128,17 @@ same-parts {r} {r'} {p} {p'} {f} {f'} {n} {n'} {a} {a'} {b} {b'} {d} {d'} e1 e2 
     ap (λ (l : List ℕ). 1 ∷ r ∷ (a ++ (p ∷ l))) (append-assoc b (f ∷ []) (n ∷ d)) ∙ (let z : 1 ∷ r ∷ (a ++ (p ∷ (b ++
     (f ∷ n ∷ d)))) ≡ 1 ∷ r' ∷ (a' ++ (p' ∷ (b' ++ (f' ∷ n' ∷ d')))) = cc in z)
 
-module _ (g : Grammar) (p : PositionColumns) (c : Numbering) (s : Sheet) (h : PartsOf g p c s) where
-  parts-numbers : rules-part g ++ (positions-part p ++ rows-part c (s .rules) (s .expression)) ≡ image-numbers (plain-image s)
+module _ (g : Grammar) (p : PositionColumns) (s : Sheet) (h : PartsOf g p s) where
+  parts-numbers : rules-part g ++ (positions-part p ++ rows-part (s .rules) (s .expression)) ≡ image-numbers (plain-image s)
   unfolding rules-part positions-part rows-part image-numbers plain-image
   parts-numbers = same-parts
       (rules-count g (s .rules) (s .expression) (h .grammar)) (skips-are g (s .rules) (s .expression) (h .grammar))
       (positions-count p (positions (s .rules)) (h .positions-held)) (places-are p (positions (s .rules)) (h .positions-held))
-      (h .first-held)
-      (rows-count g (s .rules) (s .expression) (h .grammar) c (h .numbers)) (rows-numbers g (s .rules) (s .expression) (h .grammar) c
-      (h .numbers))
+      (h .first-held) (rows-count (s .rules) (s .expression)) (rows-numbers (s .rules) (s .expression))
 
   pub image-emitted : {a b d f : List ℕ} {at v n m : ℕ} → Emitted a b at v (rules-part g) → Emitted b d v n (positions-part p)
-      → Emitted d f n m (rows-part c (s .rules) (s .expression)) → Emitted a f at m (image-numbers (plain-image s))
+      → Emitted d f n m (rows-part (s .rules) (s .expression)) → Emitted a f at m (image-numbers (plain-image s))
   image-emitted x y z = emitted-same parts-numbers (emitted-append x (emitted-append y z))
-
-  -- The nodes of the numbering are nodes of the expression.
-  pub nodes-inside : (i : ℕ) → i < c .count → getD (c .met) i 0 < size (s .expression)
-  nodes-inside i l =
-      let n = h .numbers in
-      let same : getD (c .met) i 0 ≡ getD (reached (fused (s .rules) (normal-form (s .expression)))) i 0 =
-      sym (getD-take (c .count) (c .met) i 0 l) ∙ ap (λ (m : List ℕ). getD m i 0) (n .nodes) in
-      let below = reached-inside g (s .rules) (s .expression) (h .grammar) i (omega (arith, n .count)) in
-      omega arith
 
 -- ---- the bytes
 

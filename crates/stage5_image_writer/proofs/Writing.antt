@@ -1,6 +1,6 @@
 -- What one write leaves, what a loop of writes leaves, and the parts of an image that these make.
 use mathlib.Core.Path.{_≡_, sym, ap, subst, _∙_}
-use mathlib.Core.Bool.{Bool, true, false, not}
+use mathlib.Core.Bool.{Bool, true, false}
 use mathlib.Core.List.{List, [], _∷_, map}
 use Prim.Native.Nat.{ℕ, _+_, _≤_, _<_}
 use native.Mathlib.Numerals.{add-one}
@@ -9,26 +9,30 @@ use lib.Dec.{eqb}
 use lib.ListN.{getD, length, take, length-map}
 use lib.Seq.{length-take-le, getD-take}
 use Rattle.stage0_laws.specs.Bits.{bit}
+use Rattle.stage0_laws.specs.Meeting.{number-of}
 use Rattle.stage0_number.specs.Number.{encode, used-at}
 use Rattle.stage0_number.specs.Splice.{used-at-some, used-at-fits}
-use Rattle.stage3_normal_form_walk.proofs.Walking.{not-true, not-false}
 use Rattle.stage3_normal_form_walk.specs.Columns.{tail-held}
 use Rattle.stage3_normal_form_walk.specs.declared.Tail.{Tail}
 use Rattle.stage4_lexer_columns.specs.Held.{held-position}
 use Rattle.stage4_lexer_columns.specs.declared.PositionColumns.{PositionColumns}
 use Rattle.stage5_image.specs.Image.{flag}
 use Rattle.stage5_image.specs.ImageNumbers.{just, tail-is}
+use Rattle.stage5_image.specs.Numbering.{renumbered}
 use Rattle.stage0_laws.specs.Members.{getD-map-inside}
 use Rattle.stage5_image_numbering.specs.Below.{concat-below, concat-below-list}
 use Rattle.stage5_image_numbering.specs.RuleTails.{rule-part}
 use Rattle.stage5_image_numbering.specs.declared.Grammar.{Grammar}
 use Rattle.stage5_image_writer.specs.Emitted.{Emitted, emitted-none, emitted-append, emitted-same}
-use Rattle.stage5_image_writer.specs.Parts.{skip-number, rules-part, position-part, positions-part, mapped, production-part}
+use Rattle.stage5_image_writer.specs.Parts.{skip-number, rules-part, position-part, positions-part, production-part}
 
 -- ---- one number
 
 pub used-width : (a : List ℕ) (i n u : ℕ) → u ≡ used-at a i n → 0 < u → u ≡ length (encode n)
 used-width a i n u e l = e ∙ used-at-fits a i n (used-at-some a i n (subst (λ (k : ℕ). 0 < k) e l))
+
+pub same-number : {a b : List ℕ} {i j m n : ℕ} → m ≡ n → Emitted a b i j (m ∷ []) → Emitted a b i j (n ∷ [])
+same-number e x = emitted-same (ap (λ (k : ℕ). k ∷ []) e) x
 
 -- ---- a loop
 
@@ -75,38 +79,37 @@ positions-emitted p x y z = emitted-append x (emitted-append y z)
 
 -- ---- a production
 
-pub no-production : (d : List ℕ) (at r : ℕ) (number : List ℕ) (t : Tail) → not (t .found) ≡ true
-    → Emitted d d at at (production-part number r t)
+pub no-production : (d : List ℕ) (at r : ℕ) (all : List ℕ) (t : Tail) → t .found ≡ false → Emitted d d at at (production-part all r t)
 unfolding production-part tail-held rule-part
-no-production d at r number t e = rw (not-true (t .found) e) (emitted-none d at)
+no-production d at r all t e = rw e (emitted-none d at)
 
 -- The numbers of the members of a tail.
-abbrev pub member-number : List ℕ → Tail → ℕ → List ℕ
-member-number number t i = getD number (getD (t .members) i 0) 0 ∷ []
+abbrev pub member-numbers : List ℕ → Tail → ℕ → List ℕ
+member-numbers all t i = number-of all (getD (t .members) i 0) ∷ []
 
-members-numbers : (number : List ℕ) (t : Tail) → t .count ≤ length (t .members)
-    → concat-below (member-number number t) (t .count) ≡ map (λ n. getD number n 0) (take (t .count) (t .members))
-members-numbers number t room =
+members-are : (all : List ℕ) (t : Tail) → t .count ≤ length (t .members)
+    → concat-below (member-numbers all t) (t .count) ≡ map (number-of all) (take (t .count) (t .members))
+members-are all t room =
     let tail = take (t .count) (t .members) in
     let size : length tail ≡ t .count = length-take-le (t .count) (t .members) room in
-    let numbers = map (λ n. getD number n 0) tail in
-    let size-mapped : length numbers ≡ length tail = length-map tail (λ n. getD number n 0) in
+    let numbers = map (number-of all) tail in
+    let size-mapped : length numbers ≡ length tail = length-map tail (number-of all) in
     let same : length numbers ≡ t .count = size-mapped ∙ size in
-    ap (concat-below (member-number number t)) (sym same)
-    ∙ concat-below-list (member-number number t) just numbers 0
+    ap (concat-below (member-numbers all t)) (sym same)
+    ∙ concat-below-list (member-numbers all t) just numbers 0
     (λ k l. ap (λ (n : ℕ). n ∷ [])
-    (ap (λ (n : ℕ). getD number n 0) (sym (getD-take (t .count) (t .members) k 0 (omega arith)))
-    ∙ sym (getD-map-inside (λ n. getD number n 0) tail k 0 0 (omega arith))))
+    (ap (number-of all) (sym (getD-take (t .count) (t .members) k 0 (omega arith)))
+    ∙ sym (getD-map-inside (number-of all) tail k 0 0 (omega arith))))
     ∙ tail-is numbers
 
-pub production-emitted : {a b c d : List ℕ} {at v n m : ℕ} (r : ℕ) (number : List ℕ) (t : Tail) → not (t .found) ≡ false
+pub production-emitted : {a b c d : List ℕ} {at v n m : ℕ} (r : ℕ) (all : List ℕ) (t : Tail) → t .found ≡ true
     → t .count ≤ length (t .members)
-    → Emitted a b at v (r ∷ []) → Emitted b c v n (t .count ∷ []) → Emitted c d n m (concat-below (member-number number t) (t .count))
-    → Emitted a d at m (production-part number r t)
-unfolding production-part tail-held rule-part mapped
-production-emitted {a} {b} {c} {d} {at} {v} {n} {m} r number t e room x y z =
+    → Emitted a b at v (r ∷ []) → Emitted b c v n (t .count ∷ []) → Emitted c d n m (concat-below (member-numbers all t) (t .count))
+    → Emitted a d at m (production-part all r t)
+unfolding production-part tail-held rule-part renumbered
+production-emitted {a} {b} {c} {d} {at} {v} {n} {m} r all t e room x y z =
     let tail = take (t .count) (t .members) in
-    let numbers = map (λ n. getD number n 0) tail in
-    let count : t .count ≡ length numbers = sym (length-map tail (λ n. getD number n 0) ∙ length-take-le (t .count) (t .members) room) in
-    rw (not-false (t .found) e)
-    (emitted-append x (emitted-append (subst (λ (k : ℕ). Emitted b c v n (k ∷ [])) count y) (emitted-same (members-numbers number t room) z)))
+    let numbers = map (number-of all) tail in
+    let count : t .count ≡ length numbers = sym (length-map tail (number-of all) ∙ length-take-le (t .count) (t .members) room) in
+    rw e
+    (emitted-append x (emitted-append (subst (λ (k : ℕ). Emitted b c v n (k ∷ [])) count y) (emitted-same (members-are all t room) z)))

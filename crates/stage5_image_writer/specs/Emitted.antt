@@ -1,11 +1,13 @@
 -- What writing numbers one after the other leaves: the cursor moves past their bytes in any case, and where they fit, the buffer
 -- holds them. So the same code measures and writes.
-use mathlib.Core.Path.{_≡_, refl, sym, ap, subst, _∙_}
-use mathlib.Core.List.{List, [], _∷_, _++_, append-nil}
-use Prim.Native.Nat.{ℕ, _+_, _≤_}
+use mathlib.Core.Path.{_≡_, refl, sym, ap, ap₂, subst, _∙_}
+use mathlib.Core.List.{List, [], _∷_, _++_, append-assoc, append-nil}
+use Prim.Native.Nat.{ℕ, _+_, _≤_, _<_}
 use native.Mathlib.Omega.{arith}
-use lib.ListN.{length, drop, length-append}
-use Rattle.stage0_number.specs.Number.{encode, splice, written-at}
+use lib.ListN.{length, take, drop, length-append}
+use lib.Seq.{take-at, drop-at, drop-drop, length-take-le}
+use Rattle.stage0_number.specs.Number.{last-group, encode, splice, written-at}
+use Rattle.stage0_number.specs.Laws.{encode-there, encode-fewest}
 use Rattle.stage0_number.specs.Splice.{splice-nothing, splice-splice, written-at-fits, length-written-at}
 use Rattle.stage1_sheet.specs.Spelling.{spell}
 use Rattle.stage1_sheet.specs.FieldLaws.{spell-append}
@@ -55,3 +57,41 @@ emitted-all {a} {b} {j} {ns} f h = f .bytes (omega arith) ∙ ap (λ (n : ℕ). 
 
 pub emitted-same : {a b : List ℕ} {i j : ℕ} {ms ns : List ℕ} → ms ≡ ns → Emitted a b i j ms → Emitted a b i j ns
 emitted-same {a} {b} {i} {j} e f = subst (Emitted a b i j) e f
+
+-- A number over one of the same width, in front of those that were written after it.
+splice-over : (d x y s : List ℕ) (at : ℕ) → length x ≡ length y → at + length (x ++ s) ≤ length d
+    → splice (splice d at (x ++ s)) at y ≡ splice d at (y ++ s)
+unfolding splice
+splice-over d x y s at same room =
+    let front : length (take at d) ≡ at = length-take-le at d (omega (arith, length-append x s)) in
+    let rest = drop (at + length (x ++ s)) d in
+    let ends : at + length (x ++ s) ≡ at + length (y ++ s) = omega (arith, length-append x s, length-append y s) in
+    let a : take at (take at d ++ ((x ++ s) ++ rest)) ≡ take at d = take-at (take at d) ((x ++ s) ++ rest) at front in
+    let b : drop (at + length y) (take at d ++ ((x ++ s) ++ rest)) ≡ s ++ rest =
+    sym (drop-drop (length y) at (take at d ++ ((x ++ s) ++ rest)))
+    ∙ ap (drop (length y)) (drop-at (take at d) ((x ++ s) ++ rest) at front ∙ append-assoc x s rest)
+    ∙ drop-at x (s ++ rest) (length y) same in
+    ap₂ (λ (k l : List ℕ). k ++ (y ++ l)) a b
+    ∙ ap (λ (l : List ℕ). take at d ++ l) (sym (append-assoc y s rest))
+    ∙ ap (λ (n : ℕ). take at d ++ ((y ++ s) ++ drop n d)) ends
+
+-- A number that is known only after those behind it are written: another one kept its place, and had as many bytes.
+pub emitted-over : {a b c d : List ℕ} {i j k l : ℕ} {m n : ℕ} {ns : List ℕ} → length (encode m) ≡ length (encode n)
+    → Emitted a b i j (m ∷ []) → Emitted b c j k ns → Emitted c d i l (n ∷ []) → Emitted a d i k (n ∷ ns)
+unfolding spell
+emitted-over {a} {b} {c} {d} {i} {j} {k} {l} {m} {n} {ns} same f g h =
+    let both = emitted-append f g in
+    let one = append-nil (encode n) in
+    let w : length (spell (n ∷ ns)) ≡ length (encode n) + length (spell ns) = length-append (encode n) (spell ns) in
+    let v : length (spell (m ∷ ns)) ≡ length (encode m) + length (spell ns) = length-append (encode m) (spell ns) in record {
+      cursor = omega (arith, both .cursor);
+      same-length = h .same-length ∙ both .same-length;
+      bytes = λ room.
+          h .bytes (omega (arith, ap length one, both .same-length))
+          ∙ ap₂ (λ (x y : List ℕ). splice x i y) (both .bytes (omega arith)) one
+          ∙ splice-over a (encode m) (encode n) (spell ns) i same (omega arith);
+    }
+
+-- Numbers below 128 have one byte.
+pub one-byte : (n : ℕ) → n < 128 → length (encode n) ≡ 1
+one-byte n small = omega (arith, encode-fewest (last-group small), encode-there n)

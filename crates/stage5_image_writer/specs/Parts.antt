@@ -1,12 +1,12 @@
--- The numbers of an image, part by part, as the columns give them; and when columns and a numbering are those of a sheet.
+-- The numbers of an image, part by part, as the columns give them; and when columns are those of a sheet.
 use mathlib.Core.Path.{_≡_}
 use mathlib.Core.List.{List, [], _∷_, _++_, map}
 use Prim.Native.Nat.{ℕ}
 use lib.Dec.{eqb}
-use lib.ListN.{getD}
+use lib.ListN.{getD, length}
 use Rattle.stage1_sheet.specs.Expression.{Expression}
 use Rattle.stage1_sheet.specs.Sheet.{Rule, Sheet}
-use Rattle.stage3_normal_form.specs.Productions.{Production, Row, row-of}
+use Rattle.stage3_normal_form.specs.Productions.{Row, row-of}
 use Rattle.stage3_normal_form.specs.NormalForm.{normal-form}
 use Rattle.stage3_normal_form_walk.specs.Columns.{tail-held}
 use Rattle.stage3_normal_form_walk.specs.declared.Tail.{Tail}
@@ -16,12 +16,11 @@ use Rattle.stage4_lexer_columns.specs.declared.PositionColumns.{PositionColumns
 use Rattle.stage5_image.specs.Fusion.{fused-from, fused-row, fused}
 use Rattle.stage5_image.specs.Image.{flag}
 use Rattle.stage5_image.specs.ImageNumbers.{all-numbers, one-position-numbers, one-production-numbers, one-row-numbers}
-use Rattle.stage5_image.specs.Numbering.{reached}
+use Rattle.stage5_image.specs.Numbering.{tail-members, reached, renumbered}
 use Rattle.stage5_image_numbering.specs.Below.{concat-below}
-use Rattle.stage5_image_numbering.specs.Grammar.{GrammarOf, Numbers}
+use Rattle.stage5_image_numbering.specs.Grammar.{GrammarOf}
 use Rattle.stage5_image_numbering.specs.RuleTails.{rule-part}
 use Rattle.stage5_image_numbering.specs.declared.Grammar.{Grammar}
-use Rattle.stage5_image_numbering.specs.declared.Numbering.{Numbering}
 
 -- Whether rule i skips, as a number.
 unfoldable pub skip-number : Grammar → ℕ → List ℕ
@@ -38,33 +37,39 @@ position-part p i = one-position-numbers (held-position (p .low) (p .high) (p .r
 unfoldable pub positions-part : PositionColumns → List ℕ
 positions-part p = p .count ∷ (concat-below (position-part p) (p .count) ++ (p .first ∷ []))
 
--- A production and a row, with the nodes' numbers from a column.
-unfoldable pub mapped : List ℕ → Production → Production
-mapped number p = record { head = p .head; tail = map (λ n. getD number n 0) (p .tail) }
-
+-- A row, with the nodes' numbers among all of them.
 unfoldable pub mapped-row : List ℕ → Row → Row
-mapped-row number row = record { has-epsilon = row .has-epsilon; productions = map (mapped number) (row .productions) }
+mapped-row all row = record { has-epsilon = row .has-epsilon; productions = map (renumbered all) (row .productions) }
 
 -- A rule's production, if it has one.
 unfoldable pub production-part : List ℕ → ℕ → Tail → List ℕ
-production-part number r tail = rule-part (λ p. one-production-numbers (mapped number p)) r (tail-held tail)
+production-part all r tail = rule-part (λ p. one-production-numbers (renumbered all p)) r (tail-held tail)
 
 -- All productions of a node's row.
 unfoldable pub productions-part : List ℕ → List Rule → Expression → ℕ → List ℕ
-productions-part number rules e n =
-    all-numbers (λ p. one-production-numbers (mapped number p)) (fused-from rules 0 ((row-of (normal-form e) n) .productions))
+productions-part all rules e n =
+    all-numbers (λ p. one-production-numbers (renumbered all p)) (fused-from rules 0 ((row-of (normal-form e) n) .productions))
+
+-- The nodes in the tails of a node's row.
+abbrev pub row-nodes : List Rule → Expression → ℕ → List ℕ
+row-nodes rules e n = tail-members (fused-from rules 0 ((row-of (normal-form e) n) .productions))
 
 -- A node's row.
 unfoldable pub row-part : List ℕ → List Rule → Expression → ℕ → List ℕ
-row-part number rules e n = one-row-numbers (mapped-row number (fused-row rules (row-of (normal-form e) n)))
+row-part all rules e n = one-row-numbers (mapped-row all (fused-row rules (row-of (normal-form e) n)))
+
+-- The row with number i, of the nodes reached.
+abbrev pub numbered-row-part : List ℕ → List Rule → Expression → ℕ → List ℕ
+numbered-row-part all rules e i = row-part all rules e (getD all i 0)
 
 -- "nonterminal count; per nonterminal .."
-unfoldable pub rows-part : Numbering → List Rule → Expression → List ℕ
-rows-part c rules e = c .count ∷ concat-below (λ i. row-part (c .number) rules e (getD (c .met) i 0)) (c .count)
+unfoldable pub rows-part : List Rule → Expression → List ℕ
+rows-part rules e =
+    let all = reached (fused rules (normal-form e)) in
+    length all ∷ concat-below (numbered-row-part all rules e) (length all)
 
--- The columns are those of a sheet's rules and typed expression, and the numbering is that of its nonterminals.
-pub record PartsOf (g : Grammar) (p : PositionColumns) (c : Numbering) (s : Sheet) : Type 0 where
+-- The columns are those of a sheet's rules and typed expression.
+pub record PartsOf (g : Grammar) (p : PositionColumns) (s : Sheet) : Type 0 where
   pub grammar : GrammarOf g (s .rules) (s .expression)
   pub positions-held : held-positions p ≡ positions (s .rules)
   pub first-held : p .first ≡ first-positions (s .rules)
-  pub numbers : Numbers c (reached (fused (s .rules) (normal-form (s .expression))))

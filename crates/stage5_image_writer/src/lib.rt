@@ -1,25 +1,30 @@
-// The image writer: the numbers of an image, one after the other, from the columns that the earlier stages filled. The same code
-// measures an image and writes it. Whether there is room (question 11) is the caller's to ask, before the first byte is written.
+// The image writer: the numbers of an image, one after the other, from the columns that the earlier stages filled. Nodes get their numbers
+// as they are written. The same code measures an image and writes it. Whether there is room (question 11) is the caller's to ask, before
+// the first byte is written.
 use stage3_normal_form_walk::Tail;
 use stage4_lexer_columns::PositionColumns;
 use stage5_image_numbering::Grammar;
 use stage5_image_numbering::Numbering;
 ghost use mathlib.Core.Path.{_≡_};
-ghost use mathlib.Core.Bool.{cond};
+ghost use mathlib.Core.Bool.{true};
 ghost use mathlib.Core.List.{List, [], _∷_, _++_};
 ghost use Prim.Native.Nat.{ℕ, _+_, _≤_, _<_};
-ghost use lib.ListN.{length, drop, getD};
+ghost use lib.ListN.{length, drop};
 ghost use Rattle.stage0_laws.specs.Bits.{bit};
+ghost use Rattle.stage0_laws.specs.Lists.{All};
+ghost use Rattle.stage0_laws.specs.Meeting.{meet-all};
 ghost use Rattle.stage1_sheet.specs.Expression.{Expression, size};
 ghost use Rattle.stage1_sheet.specs.Sheet.{Rule, Sheet};
 ghost use Rattle.stage3_normal_form.specs.Productions.{row-of};
 ghost use Rattle.stage3_normal_form.specs.NormalForm.{normal-form};
+ghost use Rattle.stage3_normal_form_walk.specs.Columns.{tail-held};
 ghost use Rattle.stage5_image.specs.Fusion.{fused-from};
-ghost use Rattle.stage5_image.specs.Image.{flag, production-numbers, plain-image, image-numbers, image-bytes};
-ghost use Rattle.stage5_image_numbering.specs.Grammar.{GrammarOf};
+ghost use Rattle.stage5_image.specs.Image.{flag, plain-image, image-numbers, image-bytes};
+ghost use Rattle.stage5_image_numbering.specs.Grammar.{GrammarOf, Numbers, numbering-of, members-of};
+ghost use Rattle.stage5_image_numbering.specs.Leads.{Leads};
 ghost use Rattle.stage5_image_writer.specs.Emitted.{Emitted};
 ghost use Rattle.stage5_image_writer.specs.Parts.{rules-part, positions-part, production-part, productions-part};
-ghost use Rattle.stage5_image_writer.specs.Parts.{row-part, rows-part, PartsOf};
+ghost use Rattle.stage5_image_writer.specs.Parts.{row-nodes, row-part, rows-part, PartsOf};
 
 // Writes a number into what remains of a buffer from a cursor on, if it fits, and answers where the next number starts.
 // The bounds on cursors, here and below, leave room for all numbers of an image, of ten bytes at most each.
@@ -115,166 +120,195 @@ fn emit_positions(image: &mut [u8], at: usize, positions: PositionColumns) -> us
     emit(image, next, positions.first)
 }
 
-// A rule's production, if it has one: the rule, the length of the tail, and the numbers of the tail's nodes.
+// Where a production ends, and how many nodes have been met by then.
+struct ProductionEnd {
+    next: usize,
+    known: usize,
+}
+
+// A rule's production: the rule, the length of the tail, and the numbers of the tail's nodes. A node that has not been met gets the next
+// number, so that numbers follow the order of writing.
 fn emit_production(
     image: &mut [u8],
     at: usize,
     rule: usize,
     tail: Tail,
-    numbering: Numbering,
-) -> usize
-    requires { ⌜ (at ≤ 8000000) × (tail .count ≤ 32) ⌝ }
-    ensures { λ r. ⌜ (r ≤ at + 340)
-        × Emitted (now (image .entry)) (now (image .exit)) at r (production-part (numbering .number) rule tail) ⌝ }
+    met: &mut [u8; 64],
+    number: &mut [u8; 64],
+    count: usize,
+) -> ProductionEnd
+    requires { ⌜ (at ≤ 8000000) × (tail .count ≤ 32) × (count ≤ 64) × (tail .found ≡ true)
+        × (length (now met) ≡ 64) × (length (now number) ≡ 64) ⌝ }
+    ensures { λ r. ⌜ (r .next ≤ at + 340) × (r .known ≤ 64)
+        × (length (now (met .exit)) ≡ 64) × (length (now (number .exit)) ≡ 64)
+        × ((known all : List ℕ) → Numbers (numbering-of count (now (met .entry)) (now (number .entry))) known
+        → Leads known (members-of (tail-held tail)) all → All (λ n. n < 64) (members-of (tail-held tail))
+        → Numbers (numbering-of (r .known) (now (met .exit)) (now (number .exit))) (meet-all known (members-of (tail-held tail)))
+        × Emitted (now (image .entry)) (now (image .exit)) at (r .next) (production-part all rule tail)) ⌝ }
 {
-    if !tail.found {
-        return at;
-    }
-    let count = tail.count;
+    let members = tail.count;
     let after_rule = emit(image, at, rule as u64);
-    let mut next = emit(image, after_rule, count as u64);
+    let mut next = emit(image, after_rule, members as u64);
+    let mut known = count;
     let mut i: usize = 0;
-    while i < count {
-        let number = stage5_image_numbering::number_of(numbering, tail.members[i] as usize);
-        next = emit(image, next, number);
+    while i < members {
+        let node = tail.members[i] as usize;
+        known = stage5_image_numbering::meet(met, number, known, node);
+        let own = stage5_image_numbering::number_of(number, node);
+        next = emit(image, next, own);
         i += 1;
     }
-    next
+    ProductionEnd { next, known }
 }
 
-// One more where there is a production.
-fn counted(count: usize, found: bool) -> usize
-    requires { ⌜ count < 64 ⌝ }
-    ensures { λ r. ⌜ r ≡ cond found (count + 1) count ⌝ }
-{
-    if found {
-        return count + 1;
-    }
-    count
+// Where the productions of a row end, how many there are, and the nodes met by then.
+struct RowEnd {
+    next: usize,
+    count: usize,
+    numbering: Numbering,
 }
 
-// How many rules have a production in a node's row.
-fn count_productions(grammar: Grammar, node: usize) -> usize
-    requires { ⌜ ((rules : List Rule) × (e : Expression) × GrammarOf grammar rules e × (node < size e)) ⌝ }
-    ensures { λ r. ⌜ ((rules : List Rule) (e : Expression) → GrammarOf grammar rules e → node < size e
-        → r ≡ length (fused-from rules 0 ((row-of (normal-form e) node) .productions))) ⌝ }
-{
-    let rules = grammar.rules;
-    let mut count: usize = 0;
-    let mut rule: usize = 0;
-    while rule < rules {
-        let tail = stage5_image_numbering::rule_tail(grammar, node, rule);
-        count = counted(count, tail.found);
-        rule += 1;
-    }
-    count
-}
-
-// The productions of a node's row, by rising rule.
+// The productions of a node's row, by rising rule. Most rules have none, and nothing is handed on for these.
 fn emit_productions(
     image: &mut [u8],
     at: usize,
     grammar: Grammar,
     numbering: Numbering,
     node: usize,
-) -> usize
+) -> RowEnd
     requires { ⌜ ((rules : List Rule) × (e : Expression) × GrammarOf grammar rules e × (node < size e)
-        × (at ≤ 7000000)) ⌝ }
-    ensures { λ r. ⌜ (r ≤ at + 10880)
+        × (at ≤ 7000000) × (numbering .count ≤ 64)) ⌝ }
+    ensures { λ r. ⌜ (r .next ≤ at + 10880) × (r .count ≤ 32) × (r .numbering .count ≤ 64)
         × ((rules : List Rule) (e : Expression) → GrammarOf grammar rules e → node < size e
-        → Emitted (now (image .entry)) (now (image .exit)) at r (productions-part (numbering .number) rules e node)) ⌝ }
+        → (r .count ≡ length (fused-from rules 0 ((row-of (normal-form e) node) .productions)))
+        × ((met all : List ℕ) → Numbers numbering met → Leads met (row-nodes rules e node) all
+        → Numbers (r .numbering) (meet-all met (row-nodes rules e node))
+        × Emitted (now (image .entry)) (now (image .exit)) at (r .next) (productions-part all rules e node))) ⌝ }
 {
     let rules = grammar.rules;
     let mut next = at;
+    let mut met = numbering.met;
+    let mut number = numbering.number;
+    let mut known = numbering.count;
+    let mut count: usize = 0;
     let mut rule: usize = 0;
     while rule < rules {
-        let tail = stage5_image_numbering::rule_tail(grammar, node, rule);
-        next = emit_production(image, next, rule, tail, numbering);
+        let action = grammar.action[rule];
+        let tail = stage5_image_numbering::rule_tail(
+            &grammar.tag,
+            &grammar.link,
+            &grammar.first,
+            grammar.productive,
+            node,
+            action,
+        );
+        if !tail.found {
+            rule += 1;
+            continue;
+        }
+        let written = emit_production(image, next, rule, tail, &mut met, &mut number, known);
+        next = written.next;
+        known = written.known;
+        count += 1;
         rule += 1;
     }
-    next
+    let joined = Numbering {
+        count: known,
+        met,
+        number,
+    };
+    RowEnd {
+        next,
+        count,
+        numbering: joined,
+    }
 }
 
-// A node's row: its ε flag, how many productions it has, and the productions.
+// Where a row ends, and the nodes met by then.
+struct Written {
+    next: usize,
+    numbering: Numbering,
+}
+
+// A node's row: its ε flag, how many productions it has, and the productions. How many there are is known once they are written, so a 0
+// keeps its place, which is one byte for any count.
 fn emit_row(
     image: &mut [u8],
     at: usize,
     grammar: Grammar,
     numbering: Numbering,
     node: usize,
-) -> usize
+) -> Written
     requires { ⌜ ((rules : List Rule) × (e : Expression) × GrammarOf grammar rules e × (node < size e)
-        × (at ≤ 6000000)) ⌝ }
-    ensures { λ r. ⌜ (r ≤ at + 10900)
+        × (at ≤ 6000000) × (numbering .count ≤ 64)) ⌝ }
+    ensures { λ r. ⌜ (r .next ≤ at + 10900) × (r .numbering .count ≤ 64)
         × ((rules : List Rule) (e : Expression) → GrammarOf grammar rules e → node < size e
-        → Emitted (now (image .entry)) (now (image .exit)) at r (row-part (numbering .number) rules e node)) ⌝ }
+        → (met all : List ℕ) → Numbers numbering met → Leads met (row-nodes rules e node) all
+        → Numbers (r .numbering) (meet-all met (row-nodes rules e node))
+        × Emitted (now (image .entry)) (now (image .exit)) at (r .next) (row-part all rules e node)) ⌝ }
 {
     let is_null = has(grammar.null, node);
     let after_flag = emit_flag(image, at, is_null);
-    let count = count_productions(grammar, node);
-    let after_count = emit(image, after_flag, count as u64);
-    emit_productions(image, after_count, grammar, numbering, node)
+    let after_count = emit(image, after_flag, 0);
+    let row = emit_productions(image, after_count, grammar, numbering, node);
+    emit(image, after_flag, row.count as u64);
+    let joined = row.numbering;
+    Written {
+        next: row.next,
+        numbering: joined,
+    }
 }
 
-// The number of nonterminals and their rows, in the order of their numbers.
-fn emit_rows(image: &mut [u8], at: usize, grammar: Grammar, numbering: Numbering) -> usize
-    requires { ⌜ ((rules : List Rule) × (e : Expression) × GrammarOf grammar rules e
-        × ((i : ℕ) → i < numbering .count → getD (numbering .met) i 0 < size e) × (numbering .count ≤ 64)
-        × (at ≤ 5000000)) ⌝ }
+// The number of nonterminals and their rows, in the order of their numbers: the nodes reached from the start, as they are met row by row.
+// How many there are is known once their rows are written, so a 0 keeps its place, as in a row.
+fn emit_rows(image: &mut [u8], at: usize, grammar: Grammar) -> usize
+    requires { ⌜ ((rules : List Rule) × (e : Expression) × GrammarOf grammar rules e × (at ≤ 5000000)) ⌝ }
     ensures { λ r. ⌜ (r ≤ at + 697610)
         × ((rules : List Rule) (e : Expression) → GrammarOf grammar rules e
-        → ((i : ℕ) → i < numbering .count → getD (numbering .met) i 0 < size e)
-        → Emitted (now (image .entry)) (now (image .exit)) at r (rows-part numbering rules e)) ⌝ }
+        → Emitted (now (image .entry)) (now (image .exit)) at r (rows-part rules e)) ⌝ }
 {
-    let nonterminals = numbering.count;
-    let mut next = emit(image, at, nonterminals as u64);
+    let mut next = emit(image, at, 0);
+    let mut numbering = stage5_image_numbering::start();
     let mut i: usize = 0;
-    while i < nonterminals {
+    while i < numbering.count {
         let node = stage5_image_numbering::node_at(numbering, i);
-        next = emit_row(image, next, grammar, numbering, node);
+        let row = emit_row(image, next, grammar, numbering, node);
+        next = row.next;
+        numbering = row.numbering;
         i += 1;
     }
+    emit(image, at, i as u64);
     next
 }
 
 // All numbers of the image, from the front of a buffer on. The answer is the width of the image, whether it fits or not.
-fn emit_image(
-    image: &mut [u8],
-    grammar: Grammar,
-    positions: PositionColumns,
-    numbering: Numbering,
-) -> usize
-    requires { ⌜ ((s : Sheet) × PartsOf grammar positions numbering s × (positions .count ≤ 64) × (numbering .count ≤ 64)) ⌝ }
-    ensures { λ r. ⌜ ((s : Sheet) → PartsOf grammar positions numbering s
+fn emit_image(image: &mut [u8], grammar: Grammar, positions: PositionColumns) -> usize
+    requires { ⌜ ((s : Sheet) × PartsOf grammar positions s × (positions .count ≤ 64)) ⌝ }
+    ensures { λ r. ⌜ ((s : Sheet) → PartsOf grammar positions s
         → Emitted (now (image .entry)) (now (image .exit)) 0 r (image-numbers (plain-image s))) ⌝ }
 {
     let after_rules = emit_rules(image, 0, grammar);
     let after_positions = emit_positions(image, after_rules, positions);
-    emit_rows(image, after_positions, grammar, numbering)
+    emit_rows(image, after_positions, grammar)
 }
 
 // How many bytes the image takes. The numbers are written nowhere but into one byte that is thrown away.
-pub fn image_width(grammar: Grammar, positions: PositionColumns, numbering: Numbering) -> usize
-    requires { ⌜ ((s : Sheet) × PartsOf grammar positions numbering s × (positions .count ≤ 64) × (numbering .count ≤ 64)) ⌝ }
-    ensures { λ r. ⌜ ((s : Sheet) → PartsOf grammar positions numbering s → r ≡ length (image-bytes (plain-image s))) ⌝ }
+pub fn image_width(grammar: Grammar, positions: PositionColumns) -> usize
+    requires { ⌜ ((s : Sheet) × PartsOf grammar positions s × (positions .count ≤ 64)) ⌝ }
+    ensures { λ r. ⌜ ((s : Sheet) → PartsOf grammar positions s → r ≡ length (image-bytes (plain-image s))) ⌝ }
 {
     let mut none = [0u8; 1];
-    emit_image(&mut none, grammar, positions, numbering)
+    emit_image(&mut none, grammar, positions)
 }
 
 // Writes the image over the front of a buffer that has room for it, and answers how many bytes it takes.
-pub fn write_image(
-    image: &mut [u8],
-    grammar: Grammar,
-    positions: PositionColumns,
-    numbering: Numbering,
-) -> usize
-    requires { ⌜ ((s : Sheet) × PartsOf grammar positions numbering s
-        × (length (image-bytes (plain-image s)) ≤ length (now image)) × (positions .count ≤ 64) × (numbering .count ≤ 64)) ⌝ }
-    ensures { λ r. ⌜ ((s : Sheet) → PartsOf grammar positions numbering s
+pub fn write_image(image: &mut [u8], grammar: Grammar, positions: PositionColumns) -> usize
+    requires { ⌜ ((s : Sheet) × PartsOf grammar positions s
+        × (length (image-bytes (plain-image s)) ≤ length (now image)) × (positions .count ≤ 64)) ⌝ }
+    ensures { λ r. ⌜ ((s : Sheet) → PartsOf grammar positions s
         → length (image-bytes (plain-image s)) ≤ length (now (image .entry))
         → (r ≡ length (image-bytes (plain-image s)))
         × (now (image .exit) ≡ image-bytes (plain-image s) ++ drop (length (image-bytes (plain-image s))) (now (image .entry)))) ⌝ }
 {
-    emit_image(image, grammar, positions, numbering)
+    emit_image(image, grammar, positions)
 }

@@ -6,16 +6,16 @@ use mathlib.Core.List.{List}
 use Prim.Native.Nat.{ℕ, _≤_}
 use Rattle.stage1_sheet.specs.Regex.{Regex}
 use Rattle.stage4_lexer_sets.specs.Forests.{RegexesHeld}
-use Rattle.stage4_lexer_sets.proofs.SweepLoop.{Swept, swept-start, Turn, turn, swept-more, swept-end}
+use Rattle.stage4_lexer_sets.proofs.SweepLoop.{Swept, swept-start, Turn, turn, swept-more, swept-stack, swept-end}
 use Rattle.stage4_lexer_sets.proofs.sweep.Statement.{statement}
 use Rattle.stage4_lexer_sets.proofs.sweep.Tie as tie
 
 abbrev Inv-loop : tie.InvT-loop
-Inv-loop tag items classes stack₀ follow₀ top₀ base₀ at₀ stack follow top base at =
+Inv-loop tag items classes count stack₀ follow₀ top₀ base₀ at₀ stack follow top base at =
     (at ≤ items) × ((rs : List Regex) → RegexesHeld tag items classes rs → Swept rs at stack follow top base)
 
 abbrev μ-loop : tie.MeasureT-loop
-μ-loop tag items classes stack₀ follow₀ top₀ base₀ at₀ stack follow top base at = at
+μ-loop tag items classes count stack₀ follow₀ top₀ base₀ at₀ stack follow top base at = at
 
 -- What the witness tells at the start of a turn.
 turn-at : (c : tie.In-loop Inv-loop μ-loop)
@@ -94,12 +94,29 @@ loop-again c =
           (n .node-of .result) _ _ (n .node-of .ensures) (f .join-follow .ensures) (p .parts-of .ensures),
     )
 
-returns : tie.Need-returns Inv-loop μ-loop
-returns c =
+-- All items are done when the loop ends.
+all-swept : (c : tie.After-loop Inv-loop μ-loop) (rs : List Regex)
+    → let a = c .before .before .args in RegexesHeld (a .tag .now) (a .items) (a .classes) rs
+    → let l = c .before .loop in Swept rs 0 (l .stack) (l .follow) (l .top) (l .base)
+all-swept c rs h =
     let l = c .before .loop in
     let e : l .at ≡ 0 = omega arith in
-    λ rs h. swept-end rs (l .stack) (l .follow) (l .top) (l .base)
-    (subst (λ (n : ℕ). Swept rs n (l .stack) (l .follow) (l .top) (l .base)) e (l .inv .1 rs h))
+    subst (λ (n : ℕ). Swept rs n (l .stack) (l .follow) (l .top) (l .base)) e (l .inv .1 rs h)
+
+rule-sets-requires : tie.Need-rule-sets-requires Inv-loop μ-loop
+rule-sets-requires c κs =
+    let z = c .before .before in
+    let l = c .before .loop in
+    let w = z .pre in
+    (w .0, swept-stack (w .0) (l .stack) (l .follow) (l .top) (l .base) (all-swept c (w .0) (w .1)) _ _ _ _ (w .1) (w .2))
+
+returns : tie.Need-returns Inv-loop μ-loop
+returns c =
+    let l = c .before .before .loop in
+    λ rs h counted.
+    let w = all-swept (c .before) rs h in
+    swept-end rs (l .stack) (l .follow) (l .top) (l .base) w (c .rule-sets .result)
+    (c .rule-sets .ensures rs (swept-stack rs (l .stack) (l .follow) (l .top) (l .base) w _ _ _ _ h counted))
 
 pub sweep-spec : {M : Type 1} → statement M
 sweep-spec =
@@ -125,4 +142,5 @@ sweep-spec =
     array-set-from-stack
     loop-less
     loop-again
+    rule-sets-requires
     returns)

@@ -1,6 +1,7 @@
 -- `stage5_image_compiler::grammar_of` meets its contract.
 use borrow.Author.Needs.{needs}
 use mathlib.Core.Path.{sym, subst}
+use Rattle.stage2_types.specs.Typing.{sheet-typed-iff}
 use Rattle.stage5_image_numbering.specs.Grammar.{GrammarOf}
 use Rattle.stage5_image_compiler.proofs.Endings.{grammar-held}
 use Rattle.stage5_image_compiler.proofs.grammar_of.Statement.{statement}
@@ -16,7 +17,7 @@ returns : tie.Need-returns
 returns c =
     let k = c .before .before .before .before .before .args .checked in
     λ s h.
-    let set = c .before .derives .ensures (s .expression) (h .linked) in
+    let set = c .before .derives .ensures (s .expression) (sheet-typed-iff s (h .limits) .0 (h .no-fault)) (h .linked) in
     subst (λ g. GrammarOf g (s .rules) (s .expression)) (sym (c .grammar-from .ensures)) (grammar-held s k h _ set)
 
 pub grammar-of-spec : {M : Type 1} → statement M

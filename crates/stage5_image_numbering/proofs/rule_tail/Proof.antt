@@ -7,24 +7,21 @@ use Rattle.stage5_image_numbering.proofs.Tails.{skipping-tail, returnin
 use Rattle.stage5_image_numbering.proofs.rule_tail.Statement.{statement}
 use Rattle.stage5_image_numbering.proofs.rule_tail.Tie as tie
 
-element-copy-out-action : tie.Need-element-copy-out-action
-element-copy-out-action c = let p = c .pre in omega (arith, p .2 .rules-most, p .4)
-
 returns : tie.Need-returns
 unfolding tail-held
-returns c = (record { fits = omega arith; none-counted = λ e. refl }, λ rules e h inside below. skipping-tail _ rules e h _ below _ (c .if1 .taken))
+returns c = (record { fits = omega arith; none-counted = λ e. refl }, λ e h inside. skipping-tail _ _ (c .if1 .taken))
 
 sub-production : tie.Need-sub-production
 sub-production c = search needs
 
 production-requires : tie.Need-production-requires
-production-requires c κs = let p = c .before .before .before .before .before .before .pre in (p .1, p .2 .columns, p .3)
+production-requires c κs = c .before .pre
 
 returns-2 : tie.Need-returns-2
-returns-2 c = let z = c .before .before .before .before .before in (
+returns-2 c = (
   c .production .ensures .0,
-  λ rules e h inside below. returning-tail _ rules e h _ below _ (z .if1 .left) _ (c .production .ensures .1 e (h .columns) inside),
+  λ e h inside. returning-tail _ _ (c .before .if1 .left) _ (c .production .ensures .1 e h inside),
 )
 
 pub rule-tail-spec : {M : Type 1} → statement M
-rule-tail-spec = tie.close (tie.spec element-copy-out-action returns sub-production production-requires returns-2)
+rule-tail-spec = tie.close (tie.spec returns sub-production production-requires returns-2)

@@ -1,7 +1,7 @@
 -- `stage5_image_writer::emit_image` meets its contract: three parts, one after the other.
 use native.Mathlib.Omega.{arith}
 use borrow.Author.Needs.{needs}
-use Rattle.stage5_image_writer.proofs.Whole.{image-emitted, nodes-inside}
+use Rattle.stage5_image_writer.proofs.Whole.{image-emitted}
 use Rattle.stage5_image_writer.proofs.emit_image.Statement.{statement}
 use Rattle.stage5_image_writer.proofs.emit_image.Tie as tie
 
@@ -17,8 +17,6 @@ emit-rows-requires c κs = let p = c .before .before .before .before .before .be
   p .0 .rules,
   p .0 .expression,
   p .1 .grammar,
-  nodes-inside _ _ _ (p .0) (p .1),
-  p .3,
   omega (arith, c .before .before .before .before .before .before .before .emit-rules .ensures .0, c .before .before .before .emit-positions .ensures .0),
 )
 
@@ -26,10 +24,10 @@ same-length : tie.Need-same-length
 same-length c = search needs
 
 returns : tie.Need-returns
-returns c = λ s h. image-emitted _ _ _ s h
+returns c = λ s h. image-emitted _ _ s h
     (c .before .before .before .before .before .before .before .before .before .before .emit-rules .ensures .1)
     (c .before .before .before .before .before .before .emit-positions .ensures .1)
-    (c .before .before .emit-rows .ensures .1 (s .rules) (s .expression) (h .grammar) (nodes-inside _ _ _ s h))
+    (c .before .before .emit-rows .ensures .1 (s .rules) (s .expression) (h .grammar))
 
 pub emit-image-spec : {M : Type 1} → statement M
 emit-image-spec =

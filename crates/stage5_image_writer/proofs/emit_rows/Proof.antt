@@ -1,80 +1,108 @@
--- `stage5_image_writer::emit_rows` meets its contract. The loop's invariant: the rows before i are written.
-use mathlib.Core.Path.{_≡_, refl, sym, subst, _∙_}
-use Prim.Native.Nat.{ℕ, _+_, _*_, _-_, _≤_, _<_}
+-- `stage5_image_writer::emit_rows` meets its contract. The loop's invariant: the rows of the first i nodes met are written, and the rows
+-- that are left lead to all nodes reached.
+use mathlib.Core.Path.{_≡_, refl, _∙_}
+use mathlib.Core.List.{List}
+use Prim.Native.Nat.{_+_, _*_, _-_, _≤_}
 use native.Mathlib.Omega.{arith}
 use borrow.Author.Needs.{needs}
-use mathlib.Core.List.{List}
-use lib.ListN.{getD, length}
-use Rattle.stage1_sheet.specs.Expression.{Expression, size}
+use lib.ListN.{length}
+use Rattle.stage1_sheet.specs.Expression.{Expression}
 use Rattle.stage1_sheet.specs.Sheet.{Rule}
+use Rattle.stage3_normal_form.specs.NormalForm.{normal-form}
+use Rattle.stage5_image.specs.Fusion.{fused}
+use Rattle.stage5_image.specs.Numbering.{reached}
+use Rattle.stage5_image_numbering.proofs.Reaching.{Walked, walked-start, node-reached, next-node, row-leads, walked-next, walked-end}
 use Rattle.stage5_image_numbering.specs.Below.{concat-below}
 use Rattle.stage5_image_numbering.specs.Grammar.{GrammarOf}
-use Rattle.stage5_image_writer.proofs.Writing.{nothing-yet, all-done}
-use Rattle.stage5_image_writer.proofs.Rows.{numbered-row-part, row-more, rows-emitted}
+use Rattle.stage5_image_writer.proofs.Writing.{nothing-yet}
+use Rattle.stage5_image_writer.proofs.Rows.{row-more, rows-emitted}
 use Rattle.stage5_image_writer.specs.Emitted.{Emitted}
+use Rattle.stage5_image_writer.specs.Parts.{numbered-row-part}
 use Rattle.stage5_image_writer.proofs.emit_rows.Statement.{statement}
 use Rattle.stage5_image_writer.proofs.emit_rows.Tie as tie
 
 abbrev Inv-loop : tie.InvT-loop
-Inv-loop image₀ at grammar numbering count next₀ i₀ image next i =
-    (i ≤ count) × (next ≤ next₀ + 10900 * i) × (length image ≡ length image₀)
-    × ((rs : List Rule) (e : Expression) → GrammarOf grammar rs e → ((k : ℕ) → k < numbering .count → getD (numbering .met) k 0 < size e)
-    → Emitted image₀ image next₀ next (concat-below (numbered-row-part numbering rs e) i))
+Inv-loop image₀ at grammar next₀ numbering₀ i₀ image next numbering i =
+    (i ≤ 64) × (numbering .count ≤ 64) × (next ≤ next₀ + 10900 * i) × (length image ≡ length image₀)
+    × ((rs : List Rule) (e : Expression) → GrammarOf grammar rs e
+    → Walked rs e numbering i
+    × Emitted image₀ image next₀ next (concat-below (numbered-row-part (reached (fused rs (normal-form e))) rs e) i))
 
 abbrev μ-loop : tie.MeasureT-loop
-μ-loop image₀ at grammar numbering count next₀ i₀ image next i = count - i
+μ-loop image₀ at grammar next₀ numbering₀ i₀ image next numbering i = 64 - i
 
 emit-requires : tie.Need-emit-requires Inv-loop μ-loop
 emit-requires c κs = search needs
 
-loop-holds : tie.Need-loop-holds Inv-loop μ-loop
-loop-holds c = (omega arith, omega arith, refl, λ rs e h inside. nothing-yet _ _ _)
+start-requires : tie.Need-start-requires Inv-loop μ-loop
+start-requires c κs = tt
 
-node-at-requires : tie.Need-node-at-requires Inv-loop μ-loop
-node-at-requires c κs = let l = c .before .loop in omega (
-  arith,
-  c .loop-test .taken,
-  c .before .before .before .before .before .before .before .pre .4,
+loop-holds : tie.Need-loop-holds Inv-loop μ-loop
+loop-holds c = (
+  omega arith,
+  omega (arith, c .start .ensures .0),
+  omega arith,
+  refl,
+  λ rs e h. (walked-start _ rs e h _ (c .start .ensures .1), nothing-yet _ _ _),
 )
 
+node-at-requires : tie.Need-node-at-requires Inv-loop μ-loop
+node-at-requires c κs = let l = c .before .before .loop in omega (arith, c .if1 .taken, l .inv .1)
+
 emit-row-requires : tie.Need-emit-row-requires Inv-loop μ-loop
-emit-row-requires c κs = let l = c .before .before .before .loop in let z = c .before .before .before .before .before .before
-    .before .before .before in let p = z .pre in (
+emit-row-requires c κs =
+    let l = c .before .before .before .before .loop in
+    let p = c .before .before .before .before .before .before .before .before .before .before .before .pre in
+    let b = c .before .before .if1 .taken in (
       p .0,
       p .1,
       p .2,
-      subst (λ (n : ℕ). n < size (p .1)) (sym (c .before .node-at .ensures)) (p .3 (l .i) (c .before .before .loop-test .taken)),
-      omega (arith, l .inv .0, l .inv .1, c .before .before .before .before .before .before .emit .ensures .0, p .4, p .5),
+      next-node _ (p .0) (p .1) (p .2) _ _ (l .inv .4 (p .0) (p .1) (p .2) .0) _ (c .before .node-at .ensures) b,
+      omega (arith, l .inv .0, l .inv .2, c .before .before .before .before .before .before .before .before .emit .ensures .0, p .3),
+      l .inv .1,
     )
 
 add-i : tie.Need-add-i Inv-loop μ-loop
-add-i c = search needs
+add-i c = let l = c .before .before .before .before .before .before .before .before .loop in record { fits = omega (arith, l .inv .0) }
 
 loop-less : tie.Need-loop-less Inv-loop μ-loop
-loop-less c = search needs
+loop-less c = let l = c .before .before .before .before .before .before .before .before .loop in omega (arith, l .inv .1, c .before .before .before .before .before .before .if1 .taken)
 
 loop-again : tie.Need-loop-again Inv-loop μ-loop
-loop-again c = let l = c .before .before .before .before .before .before .loop in
-    let x = c .before .before .emit-row in
-    let taken = c .before .before .before .before .before .loop-test .taken in
-    let is = c .before .before .before .before .node-at .ensures in (
-      omega (arith, taken),
-      omega (arith, x .ensures .0, l .inv .1),
-      x .kept .0 ∙ l .inv .2,
-      λ rs e h inside. row-more
-          (c .before .before .before .before .before .before .before .before .before .before .before .before .args .numbering) rs e
-          (l .i) _ is (l .inv .3 rs e h inside)
-          (x .ensures .1 rs e h (subst (λ (n : ℕ). n < size e) (sym is) (inside (l .i) taken))),
+loop-again c =
+    let l = c .before .before .before .before .before .before .before .before .loop in
+    let b = c .before .before .before .before .before .before .if1 .taken in
+    let is = c .before .before .before .before .before .node-at .ensures in
+    let x = c .before .before .before .emit-row in (
+      omega (arith, l .inv .1, b),
+      x .ensures .1,
+      omega (arith, x .ensures .0, l .inv .2),
+      x .kept .0 ∙ l .inv .3,
+      λ rs e h.
+          let so-far = l .inv .4 rs e h in
+          let w = so-far .0 in
+          let row = x .ensures .2 rs e h (next-node _ rs e h _ _ w _ is b) (w .met) (reached (fused rs (normal-form e))) (w .numbers)
+          (row-leads _ rs e h _ _ w _ is b) in (
+            walked-next _ rs e h _ _ w _ _ is b (row .0),
+            row-more _ rs e (l .i) _ (node-reached _ rs e h _ _ w _ is b) (so-far .1) (row .1),
+          ),
     )
 
+emit-requires-2 : tie.Need-emit-requires-2 Inv-loop μ-loop
+emit-requires-2 c κs = omega (arith, c .before .before .before .before .before .before .before .before .before .before .pre .3)
+
 same-length : tie.Need-same-length Inv-loop μ-loop
-same-length c = c .before .loop .inv .2 ∙ c .before .before .before .before .emit .ensures .1 .same-length
+same-length c =
+    c .before .before .emit2 .ensures .1 .same-length ∙ c .before .before .before .before .before .before .loop .inv .3 ∙ c .before .before .before .before .before .before .before .before .before .before .emit .ensures .1 .same-length
 
 returns : tie.Need-returns Inv-loop μ-loop
-returns c = let l = c .before .loop in
-    let count = c .before .before .before .before .emit .ensures in (
-      omega (arith, l .inv .0, l .inv .1, count .0, c .before .before .before .before .before .before .before .pre .4),
-      λ rs e h inside. rows-emitted _ rs e (count .1) (all-done _ (l .i) _ (l .inv .0) (c .loop-test .left) (l .inv .3 rs e h inside)),
+returns c =
+    let l = c .before .before .before .before .before .before .loop in
+    let place = c .before .before .before .before .before .before .before .before .before .before .emit .ensures in (
+      omega (arith, l .inv .0, l .inv .2, place .0),
+      λ rs e h. let so-far = l .inv .4 rs e h in
+          rows-emitted rs e (l .i) (l .inv .0) (walked-end _ rs e h _ _ (so-far .0) (c .before .before .before .before .if1 .left) .1) (place .1) (so-far .1)
+          (c .before .before .emit2 .ensures .1),
     )
 
 pub emit-rows-spec : {M : Type 1} → statement M
@@ -84,11 +112,13 @@ emit-rows-spec =
     Inv-loop
     μ-loop
     emit-requires
+    start-requires
     loop-holds
     node-at-requires
     emit-row-requires
     add-i
     loop-less
     loop-again
+    emit-requires-2
     same-length
     returns)

@@ -5,7 +5,7 @@ use Rattle.stage5_image_writer.proofs.write_image.Statement.{statement}
 use Rattle.stage5_image_writer.proofs.write_image.Tie as tie
 
 emit-image-requires : tie.Need-emit-image-requires
-emit-image-requires c κs = let p = c .before .before .pre in (p .0, p .1, p .3, p .4)
+emit-image-requires c κs = let p = c .before .before .pre in (p .0, p .1, p .3)
 
 same-length : tie.Need-same-length
 same-length c = search needs

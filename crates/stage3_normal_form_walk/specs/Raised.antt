@@ -1,0 +1,30 @@
+-- What a round in place leaves: flags that lie between those of a round that applies all equations at once and every solution of the
+-- equations. That the rounds end with the nodes that derive a token sequence is proved elsewhere.
+use mathlib.Core.Path.{_≡_}
+use mathlib.Core.Bool.{Bool}
+use mathlib.Core.List.{List}
+use Prim.Native.Nat.{ℕ, _≤_}
+use lib.Dec.{T}
+use lib.ListN.{length}
+use Rattle.stage2_types.specs.Nodes.{node-at}
+use Rattle.stage2_types_columns.specs.Held.{held-nodes}
+use Rattle.stage2_types_columns.specs.declared.NodeLinks.{NodeLinks}
+use Rattle.stage3_normal_form.specs.Derives.{derives-at, node-derives}
+use Rattle.stage3_normal_form_walk.specs.Columns.{SetOf}
+
+-- Every node that is flagged by the first is flagged by the second.
+abbrev pub Within : List Bool → List Bool → Type 0
+Within xs ys = (n : ℕ) → T (derives-at xs n) → T (derives-at ys n)
+
+-- The equations add nothing to the flags.
+abbrev pub Closed : NodeLinks → List Bool → Type 0
+Closed links flags = (n : ℕ) → T (node-derives flags (node-at (held-nodes links) n)) → T (derives-at flags n)
+
+-- The set after the equations of the nodes from n on were applied in place, from the last one down.
+pub record Raised (links : NodeLinks) (before : List Bool) (n set : ℕ) : Type 0 where
+  pub flags : List Bool
+  pub set-of : SetOf set flags
+  pub as-many : length flags ≡ links .count
+  pub rising : Within before flags
+  pub applied : (m : ℕ) → n ≤ m → T (node-derives before (node-at (held-nodes links) m)) → T (derives-at flags m)
+  pub least : (closed : List Bool) → Closed links closed → Within before closed → Within flags closed
