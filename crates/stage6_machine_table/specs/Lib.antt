@@ -1,2 +1,3 @@
--- What building an image's table and running by its rows leaves.
+-- What two buffers hold once an image's table is built, and what building it and running by its rows leaves.
+pub mod Built
 pub mod Building

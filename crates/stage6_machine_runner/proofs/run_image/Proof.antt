@@ -1,40 +1,43 @@
 -- `run_image` meets its contract. The loop's invariant: the run from the present state gives the whole answer.
 use borrow.Author.Needs.{needs}
 use mathlib.Core.Path.{_≡_, refl, sym, ap, _∙_}
+use mathlib.Core.List.{[]}
 use Prim.Native.Nat.{_-_, _<_}
 use native.Mathlib.Omega.{arith}
 use lib.ListN.{length}
 use denote.Ref.{now}
 use Rattle.stage4_lexer_scanner.specs.Meaning.{match-of}
 use Rattle.stage5_image.specs.Image.{Image}
-use Rattle.stage5_image_reader.specs.Decoded.{ImageTables, tables-of}
+use Rattle.stage5_image_reader.specs.Decoded.{ImageTables, Decoded, tables-of}
 use Rattle.stage6_machine.specs.Run.{match-at, run-from, first-state}
 use Rattle.stage6_machine_turn.specs.Steps.{answer-held, turn-step, MatchFits}
+use Rattle.stage6_machine_turn.specs.declared.Quick.the-variants as done-quickly
+use Rattle.stage6_machine_turn.specs.declared.Quick.the-variants.{NotDone}
 use Rattle.stage6_machine_turn.specs.declared.Turn.the-variants.{Next, Done}
 use Rattle.stage6_machine_turn.specs.StackLaws.{ready-entries}
-use Rattle.stage6_machine_runner.specs.Prepared.{WithTables}
 use Rattle.stage6_machine_runner.proofs.Turns.{Going, scanned, going-first, going-ends, going-fits, going-done, going-next}
+use Rattle.stage6_machine_runner.proofs.Turns.{quick-known, going-same}
 use Rattle.stage6_machine_runner.proofs.Ending.{run-no-entry, run-some-entry}
+use Rattle.stage6_machine_runner.proofs.Prepared.{low-high, prepared}
 use Rattle.stage6_machine_runner.proofs.run_image.Statement.{statement}
 use Rattle.stage6_machine_runner.proofs.run_image.Tie as tie
 
 abbrev Inv-loop : tie.InvT-loop
-Inv-loop image read low high rule follow starts productions classes table winners by-rows text stack₀ state₀ stack state =
+Inv-loop image read low high rule follow starts productions text stack₀ classes state₀ stack state =
     (length stack ≡ length stack₀)
-    × ((i : Image) → WithTables image (tables-of read low high rule follow starts productions) classes by-rows table winners i
+    × ((i : Image) → Decoded image (tables-of read low high rule follow starts productions) i
     → Going i image (tables-of read low high rule follow starts productions) text stack state
     (run-from i (length stack₀) text (length text) first-state))
 
 abbrev μ-loop : tie.MeasureT-loop
-μ-loop image read low high rule follow starts productions classes table winners by-rows text stack₀ state₀ stack state =
-    length text - state .place
+μ-loop image read low high rule follow starts productions text stack₀ classes state₀ stack state = length text - state .place
 
 -- The start, from the head of the loop.
 abbrev start-of : tie.At-loop Inv-loop μ-loop → tie.Start Inv-loop μ-loop
-start-of head = head .before .before .before .before .before .before .before .before
+start-of head = head .before .before .before .before .before .before .before
 
-abbrev scan-head : tie.After-scan Inv-loop μ-loop → tie.At-loop Inv-loop μ-loop
-scan-head c = c .before .before .before .before
+abbrev scan-head : tie.After-longest-match Inv-loop μ-loop → tie.At-loop Inv-loop μ-loop
+scan-head c = c .before .before .before .before .before
 
 -- The machine's tables, and that they hold an image.
 abbrev tables-here : tie.Start Inv-loop μ-loop → ImageTables
@@ -43,43 +46,85 @@ tables-here s =
     tables-of (a .read) (now (a .low)) (now (a .high)) (now (a .rule)) (now (a .follow)) (now (a .starts)) (now (a .productions))
 
 abbrev Held : tie.Start Inv-loop μ-loop → Image → Type 0
-Held s i =
-    let a = s .args in WithTables (now (a .image)) (tables-here s) (now (a .classes)) (a .by-rows) (now (a .table)) (now (a .winners)) i
+Held s i = Decoded (now (s .args .image)) (tables-here s) i
 
 -- ---- what is known within a turn, for any image that the tables hold
 
 -- What was found is the image's longest match.
-found-here : (c : tie.After-scan Inv-loop μ-loop) (i : Image) → Held (start-of (scan-head c)) i
-    → match-of (c .scan .result) ≡ match-at i (now (start-of (scan-head c) .args .text)) (scan-head c .loop .state .place)
+found-here : (c : tie.After-longest-match Inv-loop μ-loop) (i : Image) → Held (start-of (scan-head c)) i
+    → match-of (c .longest-match .result) ≡ match-at i (now (start-of (scan-head c) .args .text)) (scan-head c .loop .state .place)
 found-here c i w =
     let head = scan-head c in
     let start = start-of head in
-    scanned i (now (start .args .text)) (head .loop .state .place) (c .scan .result) (c .scan .ensures _ _ _ i w)
+    scanned i (now (start .args .image)) (tables-here start) w (now (start .args .text)) (head .loop .state .place) (c .longest-match .result)
+    (c .longest-match .ensures)
 
-more-here : (c : tie.After-scan Inv-loop μ-loop) → scan-head c .loop .state .place < length (now (start-of (scan-head c) .args .text))
-more-here c = c .before .before .if2 .taken
+more-here : (c : tie.After-longest-match Inv-loop μ-loop) → scan-head c .loop .state .place < length (now (start-of (scan-head c) .args .text))
+more-here c = c .before .before .before .if2 .taken
 
-small : (c : tie.After-shared-slice-known4 Inv-loop μ-loop) → length (now (c .before .before .before .before .args .text)) < 18446744073709551616
+small : (c : tie.After-shared-slice-known2 Inv-loop μ-loop) → length (now (c .before .before .args .text)) < 18446744073709551616
 small c = omega arith
 
 -- It fits the state.
-fits-here : (c : tie.After-scan Inv-loop μ-loop) (i : Image) → Held (start-of (scan-head c)) i
-    → MatchFits (c .scan .result) (scan-head c .loop .state)
+fits-here : (c : tie.After-longest-match Inv-loop μ-loop) (i : Image) → Held (start-of (scan-head c)) i
+    → MatchFits (c .longest-match .result) (scan-head c .loop .state)
 fits-here c i w =
     let head = scan-head c in
     let l = head .loop in
     let a = start-of head .args in
-    going-fits i (now (a .image)) (tables-here (start-of head)) (w .decoded) (now (a .text)) (l .stack) (l .state) _ (l .inv .1 i w) (more-here c)
-    (c .scan .result) (found-here c i w) (small (head .before .before .before .before))
+    going-fits i (now (a .image)) (tables-here (start-of head)) w (now (a .text)) (l .stack) (l .state) _ (l .inv .1 i w) (more-here c)
+    (c .longest-match .result) (found-here c i w) (small (head .before .before .before .before .before))
 
--- From what a turn leaves to the match and the head of the loop.
-abbrev turn-scan : tie.After-one-turn Inv-loop μ-loop → tie.After-scan Inv-loop μ-loop
-turn-scan c = c .before .before
+-- From what a turn leaves to the match and the head of the loop, for a quick turn and for one that was not done quickly.
+abbrev quick-scan : tie.After-quick-turn Inv-loop μ-loop → tie.After-longest-match Inv-loop μ-loop
+quick-scan c = c .before .before
+
+abbrev turn-quick : tie.After-one-turn Inv-loop μ-loop → tie.After-quick-turn Inv-loop μ-loop
+turn-quick c = c .before .before .before .before .before .before
+
+abbrev turn-scan : tie.After-one-turn Inv-loop μ-loop → tie.After-longest-match Inv-loop μ-loop
+turn-scan c = quick-scan (turn-quick c)
 
 abbrev next-turn : tie.After-after2 Inv-loop μ-loop → tie.After-one-turn Inv-loop μ-loop
 next-turn c = c .before .before .before .before
 
--- The state after the turn.
+abbrev next-quick : tie.After-quick Inv-loop μ-loop → tie.After-quick-turn Inv-loop μ-loop
+next-quick c = c .before .before .before .before
+
+-- The run from the state and the stack that a turn which was not done quickly begins with: both are as they were.
+here : (c : tie.After-one-turn Inv-loop μ-loop) (i : Image)
+    → let head = scan-head (turn-scan c) in
+    let a = start-of head .args in
+    Held (start-of head) i
+    → Going i (now (a .image)) (tables-here (start-of head)) (now (a .text)) (turn-quick c .quick-turn .last .1 .1 .1 .0) (head .loop .state)
+    (run-from i (length (now (a .stack))) (now (a .text)) (length (now (a .text))) first-state)
+here c i w =
+    let quick = turn-quick c in
+    let l = scan-head (quick-scan quick) .loop in
+    let e = quick-known _ _ _ _ NotDone (quick .quick-turn .ensures [] []) (c .before .before .enum-told .given .1) in
+    going-same i _ _ _ _ _ _ _ e (l .inv .1 i w)
+
+-- The state after a quick turn.
+next-quickly : (c : tie.After-quick Inv-loop μ-loop) (i : Image)
+    → let quick = next-quick c in
+    let head = scan-head (quick-scan quick) in
+    let a = start-of head .args in
+    Held (start-of head) i
+    → Going i (now (a .image)) (tables-here (start-of head)) (now (a .text)) (quick .quick-turn .last .1 .1 .1 .0) (c .quick .given .0 .0)
+    (run-from i (length (now (a .stack))) (now (a .text)) (length (now (a .text))) first-state)
+    × (head .loop .state .place < c .quick .given .0 .0 .place)
+next-quickly c i w =
+    let quick = next-quick c in
+    let scan = quick-scan quick in
+    let head = scan-head scan in
+    let l = head .loop in
+    let a = start-of head .args in
+    let q = quick-known _ _ _ _ (done-quickly.Next (c .quick .given .0 .0)) (quick .quick-turn .ensures (now (a .image)) (now (a .starts))) (c .quick .given .1) in
+    going-next i (now (a .image)) (tables-here (start-of head)) w (now (a .text)) (l .stack) (l .state) _ (l .inv .1 i w) (more-here scan)
+    (scan .longest-match .result) (found-here scan i w) (fits-here scan i w) _ (c .quick .given .0 .0)
+    (quick .quick-turn .kept .1 .1 .1 .0) (q .1) (sym (q .0))
+
+-- The state after any other turn.
 next-here : (c : tie.After-after2 Inv-loop μ-loop) (i : Image)
     → let turn = next-turn c in
     let head = scan-head (turn-scan turn) in
@@ -95,10 +140,11 @@ next-here c i w =
     let l = head .loop in
     let a = start-of head .args in
     let t = tables-here (start-of head) in
-    let e : turn-step (now (a .image)) (t .starts) (t .productions) (t .empty) (t .skips) (l .stack) (scan .scan .result) (l .state) .outcome
+    let stack = turn-quick turn .quick-turn .last .1 .1 .1 .0 in
+    let e : turn-step (now (a .image)) (t .starts) (t .productions) (t .empty) (t .skips) stack (scan .longest-match .result) (l .state) .outcome
     ≡ Next (c .after2 .given .0 .0) = sym (turn .one-turn .ensures .0) ∙ c .after2 .given .1 in
-    going-next i (now (a .image)) t (w .decoded) (now (a .text)) (l .stack) (l .state) _ (l .inv .1 i w) (more-here scan)
-    (scan .scan .result) (found-here scan i w) (fits-here scan i w) _ (c .after2 .given .0 .0)
+    going-next i (now (a .image)) t w (now (a .text)) stack (l .state) _ (here turn i w) (more-here scan)
+    (scan .longest-match .result) (found-here scan i w) (fits-here scan i w) _ (c .after2 .given .0 .0)
     (turn .one-turn .kept .1 .1 .1 .1 .1 .0) (turn .one-turn .ensures .1) e
 
 answer-requires : tie.Need-answer-requires Inv-loop μ-loop
@@ -107,35 +153,71 @@ answer-requires c κs = tt
 returns : tie.Need-returns Inv-loop μ-loop
 unfolding answer-held
 returns c =
-    let start = c .before .before .before .before .before .before .before in
+    let start = c .before .before .before .before .before in
     λ i w. ap answer-held (c .answer .ensures) ∙ run-no-entry i _ (now (start .args .text)) (c .before .if1 .taken)
+
+class-table-requires : tie.Need-class-table-requires Inv-loop μ-loop
+class-table-requires c κs =
+    let w = c .before .before .before .before .pre in
+    (w .1 .most-positions, low-high _ _ _ (w .1) (w .2))
 
 first-state-requires : tie.Need-first-state-requires Inv-loop μ-loop
 first-state-requires c κs = tt
 
 loop-holds : tie.Need-loop-holds Inv-loop μ-loop
 loop-holds c =
-    let room = c .before .if1 .left in
-    (refl, λ i w. going-first i _ _ (w .decoded) _ _ (c .first-state .ensures) room)
+    let room = c .before .before .if1 .left in
+    (refl, λ i w. going-first i _ _ w _ _ (c .first-state .ensures) room)
 
-sub-scan : tie.Need-sub-scan Inv-loop μ-loop
-sub-scan c = search needs
+sub-longest-match : tie.Need-sub-longest-match Inv-loop μ-loop
+sub-longest-match c = search needs
 
-part-scan-start : tie.Need-part-scan-start Inv-loop μ-loop
-part-scan-start c = search needs
+part-longest-match-start : tie.Need-part-longest-match-start Inv-loop μ-loop
+part-longest-match-start c = search needs
 
-part-scan-end : tie.Need-part-scan-end Inv-loop μ-loop
-part-scan-end c = search needs
+part-longest-match-end : tie.Need-part-longest-match-end Inv-loop μ-loop
+part-longest-match-end c = search needs
 
-scan-requires : tie.Need-scan-requires Inv-loop μ-loop
-scan-requires c κs = let w = start-of (c .before .before .before) .pre in (_, _, _, w .0, w .1)
+longest-match-requires : tie.Need-longest-match-requires Inv-loop μ-loop
+longest-match-requires c κs =
+    let head = c .before .before .before .before in
+    let w = start-of head .pre in
+    (w .1 .most-positions, prepared _ _ _ (w .1) (w .2) _ (head .before .before .class-table .ensures _ _ _))
 
-one-turn-requires : tie.Need-one-turn-requires Inv-loop μ-loop
-one-turn-requires c κs =
+quick-turn-requires : tie.Need-quick-turn-requires Inv-loop μ-loop
+quick-turn-requires c κs =
     let scan = c .before in
     let head = scan-head scan in
     let w = start-of head .pre in
-    (fits-here scan (w .0) (w .1), (_, _, head .loop .inv .1 (w .0) (w .1) .ready))
+    let entries = ready-entries (head .loop .inv .1 (w .0) (w .1) .ready) in
+    (fits-here scan (w .0) (w .1), entries .0, entries .1)
+
+enum-known-quick : tie.Need-enum-known-quick Inv-loop μ-loop
+enum-known-quick c = search needs
+
+loop-less : tie.Need-loop-less Inv-loop μ-loop
+loop-less c =
+    let w = start-of (scan-head (quick-scan (next-quick (c .before)))) .pre in
+    let t = next-quickly (c .before) (w .0) (w .1) in
+    omega (arith, t .0 .within, t .1)
+
+loop-again : tie.Need-loop-again Inv-loop μ-loop
+loop-again c =
+    let quick = next-quick (c .before) in
+    (quick .quick-turn .kept .1 .1 .1 .0 ∙ scan-head (quick-scan quick) .loop .inv .0, λ i w. next-quickly (c .before) i w .0)
+
+enum-told : tie.Need-enum-told Inv-loop μ-loop
+enum-told c = search needs
+
+one-turn-requires : tie.Need-one-turn-requires Inv-loop μ-loop
+one-turn-requires c κs =
+    let told = c .before in
+    let quick = told .before .before .before .before in
+    let scan = quick-scan quick in
+    let l = scan-head scan .loop in
+    let w = start-of (scan-head scan) .pre in
+    let e = quick-known _ _ _ _ NotDone (quick .quick-turn .ensures [] []) (told .enum-told .given .1) in
+    (fits-here scan (w .0) (w .1), (_, _, going-same (w .0) _ _ _ _ _ _ _ e (l .inv .1 (w .0) (w .1)) .ready))
 
 enum-known-after : tie.Need-enum-known-after Inv-loop μ-loop
 enum-known-after c = search needs
@@ -145,7 +227,7 @@ kept-here : (turn : tie.After-one-turn Inv-loop μ-loop)
     → length (turn .one-turn .last .1 .1 .1 .1 .1 .0) ≡ length (now (start-of (scan-head (turn-scan turn)) .args .stack))
 kept-here turn =
     let head = scan-head (turn-scan turn) in
-    turn .one-turn .kept .1 .1 .1 .1 .1 .0 ∙ head .loop .inv .0
+    turn .one-turn .kept .1 .1 .1 .1 .1 .0 ∙ turn-quick turn .quick-turn .kept .1 .1 .1 .0 ∙ head .loop .inv .0
 
 same-length : tie.Need-same-length Inv-loop μ-loop
 same-length c = kept-here (c .before .before .before .before .before)
@@ -159,26 +241,25 @@ returns-2 c =
     let a = start-of head .args in
     let t = tables-here (start-of head) in
     let done = c .before .after .given .0 .0 in
-    let e : turn-step (now (a .image)) (t .starts) (t .productions) (t .empty) (t .skips) (l .stack) (scan .scan .result) (l .state) .outcome ≡ Done done =
-    sym (turn .one-turn .ensures .0) ∙ c .before .after .given .1 in
+    let stack = turn-quick turn .quick-turn .last .1 .1 .1 .0 in
+    let e : turn-step (now (a .image)) (t .starts) (t .productions) (t .empty) (t .skips) stack (scan .longest-match .result) (l .state) .outcome
+    ≡ Done done = sym (turn .one-turn .ensures .0) ∙ c .before .after .given .1 in
     λ i w.
-    let g = going-done i (now (a .image)) t (w .decoded) (now (a .text)) (l .stack) (l .state) _ (l .inv .1 i w) (more-here scan)
-    (scan .scan .result) (found-here scan i w) (fits-here scan i w) done e in
-    run-some-entry i _ _ (head .before .before .if1 .left) _ g
+    let g = going-done i (now (a .image)) t w (now (a .text)) stack (l .state) _ (here turn i w) (more-here scan)
+    (scan .longest-match .result) (found-here scan i w) (fits-here scan i w) done e in
+    run-some-entry i _ _ (head .before .before .before .if1 .left) _ g
 
 enum-known-after-2 : tie.Need-enum-known-after-2 Inv-loop μ-loop
 enum-known-after-2 c = search needs
 
-loop-less : tie.Need-loop-less Inv-loop μ-loop
-loop-less c =
+loop-less-2 : tie.Need-loop-less-2 Inv-loop μ-loop
+loop-less-2 c =
     let w = start-of (scan-head (turn-scan (next-turn (c .before)))) .pre in
     let t = next-here (c .before) (w .0) (w .1) in
     omega (arith, t .0 .within, t .1)
 
-loop-again : tie.Need-loop-again Inv-loop μ-loop
-loop-again c =
-    let turn = next-turn (c .before) in
-    (turn .one-turn .kept .1 .1 .1 .1 .1 .0 ∙ scan-head (turn-scan turn) .loop .inv .0, λ i w. next-here (c .before) i w .0)
+loop-again-2 : tie.Need-loop-again-2 Inv-loop μ-loop
+loop-again-2 c = (kept-here (next-turn (c .before)), λ i w. next-here (c .before) i w .0)
 
 at-end-requires : tie.Need-at-end-requires Inv-loop μ-loop
 at-end-requires c κs =
@@ -197,8 +278,8 @@ returns-3 c =
     let l = head .loop in
     let a = start-of head .args in
     λ i w.
-    let g = going-ends i (now (a .image)) (tables-here (start-of head)) (w .decoded) (now (a .text)) (l .stack) (l .state) _ (l .inv .1 i w) (c .before .before .if2 .left) in
-    run-some-entry i _ _ (head .before .before .if1 .left) _ (ap answer-held (c .at-end .ensures) ∙ g)
+    let g = going-ends i (now (a .image)) (tables-here (start-of head)) w (now (a .text)) (l .stack) (l .state) _ (l .inv .1 i w) (c .before .before .if2 .left) in
+    run-some-entry i _ _ (head .before .before .before .if1 .left) _ (ap answer-held (c .at-end .ensures) ∙ g)
 
 pub run-image-spec : {M : Type 1} → statement M
 run-image-spec =
@@ -208,19 +289,25 @@ run-image-spec =
     μ-loop
     answer-requires
     returns
+    class-table-requires
     first-state-requires
     loop-holds
-    sub-scan
-    part-scan-start
-    part-scan-end
-    scan-requires
+    sub-longest-match
+    part-longest-match-start
+    part-longest-match-end
+    longest-match-requires
+    quick-turn-requires
+    enum-known-quick
+    loop-less
+    loop-again
+    enum-told
     one-turn-requires
     enum-known-after
     same-length
     returns-2
     enum-known-after-2
-    loop-less
-    loop-again
+    loop-less-2
+    loop-again-2
     at-end-requires
     same-length-2
     returns-3)
