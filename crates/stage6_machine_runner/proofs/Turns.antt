@@ -1,14 +1,12 @@
 -- The turns of a run in code: the state that the loop keeps, and what a turn and the end of the text make of it.
-use mathlib.Core.Path.{_≡_, refl, sym, ap, subst, _∙_}
+use mathlib.Core.Path.{_≡_, refl, sym, ap, _∙_}
 use mathlib.Core.List.{List}
 use Prim.Native.Nat.{ℕ, suc, _+_, _-_, _≤_, _<_}
 use native.Mathlib.Omega.{arith}
 use lib.ListN.{length, drop, take, length-drop}
 use lib.Seq.{take-all}
-use Rattle.stage4_lexer.specs.Positions.{Position}
 use Rattle.stage4_lexer.specs.Walk.{longest-match}
 use Rattle.stage4_lexer.specs.LongestMatchLaws.{match-within, match-rule-below}
-use Rattle.stage4_lexer_columns.specs.Held.{held-from, held-positions}
 use Rattle.stage4_lexer_scanner.specs.Meaning.{match-of}
 use Rattle.stage4_lexer_scanner.specs.declared.Found.{Found}
 use Rattle.stage4_lexer_scanner.specs.declared.Found.the-variants as found
@@ -19,10 +17,9 @@ use Rattle.stage6_machine.specs.Turn as machine
 use Rattle.stage6_machine.specs.Run.{match-at, text-turn, run-from, first-state}
 use Rattle.stage6_machine.specs.TurnLaws.{turn-before-end, run-goes-on, run-stops, run-at-end, Onward, turn-onward}
 use Rattle.stage6_machine_turn.specs.Stack.{stacked, pending, Ready}
-use Rattle.stage6_machine_turn.specs.Steps.{answer-held, state-at, state-held, end-answer, TurnStep, turn-step, MatchFits, QuickTurn}
+use Rattle.stage6_machine_turn.specs.Steps.{answer-held, state-at, state-held, end-answer, turn-step, MatchFits}
 use Rattle.stage6_machine_turn.specs.TurnLaws.{turn-done, turn-next, end-is}
 use Rattle.stage6_machine_turn.specs.declared.RunAnswer.{RunAnswer}
-use Rattle.stage6_machine_turn.specs.declared.Quick.{Quick}
 use Rattle.stage6_machine_turn.specs.declared.State.{State}
 use Rattle.stage6_machine_turn.specs.declared.Turn.the-variants.{Next, Done}
 
@@ -39,19 +36,10 @@ pub record Going (i : Image) (bytes : List ℕ) (t : ImageTables) (text stack : 
 pub rest-of : (text : List ℕ) (p : ℕ) → take (length text - p) (drop p text) ≡ drop p text
 rest-of text p = take-all (length text - p) (drop p text) (simp length-drop (omega arith))
 
--- What it finds over the tables is the image's longest match.
-pub scanned : (i : Image) (bytes : List ℕ) (t : ImageTables) → Decoded bytes t i → (text : List ℕ) (p : ℕ) (f : Found)
-    → let c = t .positions in
-    match-of f ≡ longest-match (held-from (c .low) (c .high) (c .rule) (c .follow) (c .last) 0 (c .count)) (c .first)
-    (take (length text - p) (drop p text))
-    → match-of f ≡ match-at i text p
-unfolding held-positions
-scanned i bytes t decoded text p f e =
-    let part = take (length text - p) (drop p text) in
-    e
-    ∙ ap (λ (ps : List Position). longest-match ps (t .positions .first) part) (decoded .positions)
-    ∙ ap (λ (k : ℕ). longest-match (i .positions) k part) (decoded .first)
-    ∙ ap (λ (l : List ℕ). longest-match (i .positions) (i .first) l) (rest-of text p)
+-- What it finds there is the image's longest match at the place.
+pub scanned : (i : Image) (text : List ℕ) (p : ℕ) (f : Found)
+    → match-of f ≡ longest-match (i .positions) (i .first) (take (length text - p) (drop p text)) → match-of f ≡ match-at i text p
+scanned i text p f e = e ∙ ap (λ (l : List ℕ). longest-match (i .positions) (i .first) l) (rest-of text p)
 
 -- At the start: 0 alone is pending.
 going-start : (i : Image) (bytes : List ℕ) (t : ImageTables) → Decoded bytes t i → (text stack : List ℕ) → 1 ≤ length stack
@@ -143,12 +131,3 @@ module _ (i : Image) (bytes : List ℕ) (t : ImageTables) (decoded : Decoded byt
             },
             o .further,
           )
-
--- A quick turn, by what it is known to have left.
-pub quick-known : (step : TurnStep) (stack stack' : List ℕ) (r o : Quick) → QuickTurn step stack stack' r → r ≡ o → QuickTurn step stack stack' o
-quick-known step stack stack' r o h e = subst (QuickTurn step stack stack') e h
-
--- The same run on a stack that is as it was.
-pub going-same : (i : Image) (bytes : List ℕ) (t : ImageTables) (text stack stack' : List ℕ) (s : State) (whole : Answer) → stack' ≡ stack
-    → Going i bytes t text stack s whole → Going i bytes t text stack' s whole
-going-same i bytes t text stack stack' s whole e g = subst (λ (l : List ℕ). Going i bytes t text l s whole) (sym e) g

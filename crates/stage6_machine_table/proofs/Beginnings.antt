@@ -13,7 +13,7 @@ use Rattle.stage6_machine.specs.Answer.{Answer, answer}
 use Rattle.stage6_machine.specs.Run.{run-image}
 use Rattle.stage6_machine.specs.TableRun.{lent-entries, rows-of, entries-of, winners-of, Beginning, turned-away, table-built, beginning, answer-after, run-table}
 use Rattle.stage6_machine.specs.TableRun.{table-after, winners-after, table-stack-after}
-use Rattle.stage6_machine_table.specs.Built.{Built}
+use Rattle.stage6_machine_runner.specs.Built.{Built}
 
 module _ (image text table winners stack : List ℕ) where
   abbrev begun : Beginning

@@ -1,3 +1,2 @@
--- What two buffers hold once an image's table is built, and what building it and running by its rows leaves.
-pub mod Built
+-- What building an image's table and running by its rows leaves.
 pub mod Building

@@ -1,87 +1,18 @@
 // The machine with a table: builds an image's table into lent buffers and runs the image over a text by its rows. Questions 18, 12 and 19
-// are answered here, question 13 by the image reader, the others by the turns.
+// are answered here, question 13 by the image reader, the others by the run.
 ghost use mathlib.Core.Path.{_≡_};
-ghost use mathlib.Core.List.{List};
-ghost use Prim.Native.Nat.{ℕ, _≤_};
+ghost use Prim.Native.Nat.{_≤_};
 ghost use lib.ListN.{length};
 ghost use Rattle.stage5_image.specs.Image.{Image};
 ghost use Rattle.stage5_image.specs.ImageRanges.{InRange};
 ghost use Rattle.stage5_image_reader.specs.Decoded.{Decoded, tables-of};
-ghost use Rattle.stage6_machine.specs.Run.{run-image};
 ghost use Rattle.stage6_machine.specs.TableRun.{beginning, run-table, table-after, winners-after, table-stack-after};
 ghost use Rattle.stage6_machine_turn.specs.Steps.{answer-held};
-ghost use Rattle.stage6_machine_table.specs.Built.{WithTable};
 ghost use Rattle.stage6_machine_table.specs.Building.{BuiltAndRan};
 use stage4_lexer_classes::class_table;
 use stage5_image_reader::ImageRead;
 use stage5_image_reader::Outcome;
-use stage6_machine_turn::Quick;
 use stage6_machine_turn::RunAnswer;
-use stage6_machine_turn::Turn;
-
-// Runs a readable image, given by its bytes and what it reads of its tables, by the rows of its scanner's table. What is left on the stack
-// is not promised.
-fn run_rows<'a>(
-    image: &[u8],
-    read: ImageRead,
-    starts: &[usize; 64],
-    productions: &[u16; 2048],
-    text: &'a [u8],
-    table: &'a [u16],
-    winners: &'a [u16],
-    stack: &mut [u8],
-) -> RunAnswer
-    requires { ⌜ ((low high rule follow : List ℕ) × (i : Image) × WithTable
-        (now image)
-        (tables-of read low high rule follow (now starts) (now productions))
-        (now table)
-        (now winners)
-        i) ⌝ }
-    ensures { λ r. ⌜ ((low high rule follow : List ℕ) (i : Image)
-        → WithTable
-        (now (image .entry))
-        (tables-of read low high rule follow (now (starts .entry)) (now (productions .entry)))
-        (now (table .entry))
-        (now (winners .entry))
-        i
-        → answer-held r ≡ run-image i (length (now (stack .entry))) (now (text .entry))) ⌝ }
-{
-    if stack.len() < 1 {
-        return stage6_machine_turn::answer(17, 0, 0);
-    }
-    let mut state = stage6_machine_turn::first_state();
-    while state.place < text.len() {
-        let p = state.place;
-        let found = stage4_lexer_rows::match_by_rows(&text[p..], table, winners);
-        let quick = stage6_machine_turn::quick_turn(
-            productions,
-            read.empty,
-            read.skips,
-            stack,
-            found,
-            state,
-        );
-        if let Quick::Next(next) = quick {
-            state = next;
-            continue;
-        }
-        let after = stage6_machine_turn::one_turn(
-            image,
-            starts,
-            productions,
-            read.empty,
-            read.skips,
-            stack,
-            found,
-            state,
-        );
-        match after {
-            Turn::Done(done) => return done,
-            Turn::Next(next) => state = next,
-        }
-    }
-    stage6_machine_turn::at_end(read.empty, stack, state)
-}
 
 // Builds the table of a readable image, unless it has more than 256 rows, and runs the image by its rows.
 fn build_and_run<'a>(
@@ -125,19 +56,22 @@ fn build_and_run<'a>(
     if !built {
         return stage6_machine_turn::answer(19, 0, 0);
     }
-    let ran = run_rows(
+    stage6_machine_runner::run_image(
         image,
         read,
+        low,
+        high,
+        rule,
+        follow,
         starts,
         productions,
-        text,
+        &classes,
         table,
         winners,
+        true,
+        text,
         stack,
-    );
-    let entries = stack.len();
-    stage0_buffers::clear_front(stack, entries);
-    ran
+    )
 }
 
 // Reads an image, builds its table and runs it over a text, once the buffers are long enough and the text is short enough.

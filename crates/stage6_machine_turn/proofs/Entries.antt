@@ -1,10 +1,9 @@
 -- What the functions that go through the pending nonterminals answer, from the first on: the taker, and whether all are nullable.
 use mathlib.Core.Path.{_≡_, refl, sym, ap, _∙_}
-use mathlib.Core.Bool.{Bool, true, false, _&&_, cond}
+use mathlib.Core.Bool.{Bool, true, false, _&&_}
 use mathlib.Core.List.{List}
 use Prim.Native.Nat.{ℕ, zero, suc, _+_, _-_, _*_, _≤_, _<_}
 use native.Mathlib.Omega.{arith}
-use lib.Dec.{eqb}
 use lib.ListN.{getD}
 use borrow.Author.Tests.{eq-eqb, ne-eqb}
 use Rattle.stage0_laws.specs.Bits.{bit}
@@ -54,19 +53,6 @@ module _ (productions : List ℕ) (empty : ℕ) (stack : List ℕ) (rule : ℕ) 
   unfolding taker
   taker-none zero n k = refl
   taker-none (suc depth) n k = absurd (omega arith)
-
-  -- The taker is one of those that are pending.
-  pub taker-below : (depth n : ℕ) {below m entry : ℕ} → taker productions empty stack depth n rule ≡ At below m entry → below < depth
-  unfolding taker
-  taker-below zero n {below} {m} {entry} e = let z : _≡_ {A = ℕ} 0 1 = cc in absurd (omega arith)
-  taker-below (suc depth) n {below} {m} {entry} e =
-      go (eqb (entry-of n) 0) (bit empty n) (taker productions empty stack depth (getD stack depth 0) rule) (taker-below depth (getD stack depth 0)) e
-    where
-      go : (x y : Bool) (t : Taker) → (t ≡ At below m entry → below < depth)
-          → cond x (cond y t Nothing) (At depth n (entry-of n)) ≡ At below m entry → below < suc depth
-      go true true t ih f = let k = ih f in omega (arith, k)
-      go true false t ih f = let z : _≡_ {A = ℕ} 0 1 = cc in absurd (omega arith)
-      go false y t ih f = let k : depth ≡ below = cc in omega (arith, k)
 
 -- ---- all nullable, from the first on
 

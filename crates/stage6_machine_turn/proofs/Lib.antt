@@ -4,4 +4,3 @@ pub mod Entries
 pub mod Pushing
 pub mod Replacing
 pub mod Answers
-pub mod QuickTaking

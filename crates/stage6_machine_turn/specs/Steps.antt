@@ -1,6 +1,5 @@
 -- What the functions of a turn answer, in the terms of the tables and of the stack. The machine itself is defined in
 -- stage6_machine; `TurnLaws` joins a turn here to a turn there.
-use mathlib.Core.Path.{_≡_}
 use mathlib.Core.Bool.{Bool, true, false, _&&_, cond}
 use mathlib.Core.List.{List, [], _∷_}
 use Prim.Native.Nat.{ℕ, zero, suc, _+_, _*_, _<_}
@@ -19,8 +18,6 @@ use Rattle.stage6_machine_turn.specs.declared.Taker.the-variants.{Nothin
 use Rattle.stage6_machine_turn.specs.declared.Taken.{Taken}
 use Rattle.stage6_machine_turn.specs.declared.Taken.the-variants.{Pending, NoTaker, TooDeep}
 use Rattle.stage6_machine_turn.specs.declared.State.{State}
-use Rattle.stage6_machine_turn.specs.declared.Quick.{Quick}
-use Rattle.stage6_machine_turn.specs.declared.Quick.the-variants as quick
 use Rattle.stage6_machine_turn.specs.declared.Turn.{Turn}
 use Rattle.stage6_machine_turn.specs.declared.Turn.the-variants.{Next, Done}
 
@@ -108,13 +105,3 @@ turn-step bytes starts productions empty skips stack (found.Rule rule n) s =
 abbrev pub MatchFits : Found → State → Type 0
 MatchFits found.Nothing s = Unit
 MatchFits (found.Rule rule n) s = (rule < 32) × (s .place + n < 18446744073709551616) × (s .count < s .place + n)
-
--- What a quick take and a quick turn leave: the step that is to be taken, or they were not done and the stack is as it was.
-abbrev pub QuickTake : TakeStep → List ℕ → List ℕ → Taken → Type 0
-QuickTake step stack stack' (Pending depth first) = (Pending depth first ≡ step .outcome) × (stack' ≡ step .stack)
-QuickTake step stack stack' NoTaker = stack' ≡ stack
-QuickTake step stack stack' TooDeep = stack' ≡ stack
-
-abbrev pub QuickTurn : TurnStep → List ℕ → List ℕ → Quick → Type 0
-QuickTurn step stack stack' (quick.Next s) = (Next s ≡ step .outcome) × (stack' ≡ step .stack)
-QuickTurn step stack stack' quick.NotDone = stack' ≡ stack

@@ -3,7 +3,7 @@
 // entries of the lent stack, one byte each, from entry 1 on, the second of all on top.
 ghost use mathlib.Core.Path.{_≡_};
 ghost use mathlib.Core.List.{List};
-ghost use Prim.Native.Nat.{ℕ, _+_, _/_, _≤_, _<_};
+ghost use Prim.Native.Nat.{ℕ, _+_, _≤_, _<_};
 ghost use lib.ListN.{length, getD};
 ghost use Rattle.stage0_laws.specs.Bits.{bit};
 ghost use Rattle.stage0_laws.specs.Lists.{All};
@@ -12,7 +12,6 @@ ghost use Rattle.stage6_machine_turn.specs.Stack.{pending, pushed, Ready
 ghost use Rattle.stage5_image_reader.specs.Tables.{part, entry-tail, EntryTail};
 ghost use Rattle.stage6_machine_turn.specs.Steps.{run-answer, state-at, MatchFits};
 ghost use Rattle.stage6_machine_turn.specs.Steps.{taker, replaced, all-members, end-answer, take-step, turn-step};
-ghost use Rattle.stage6_machine_turn.specs.Steps.{QuickTake, QuickTurn};
 use stage4_lexer_scanner::Found;
 
 // What a run returns.
@@ -49,12 +48,6 @@ pub struct State {
 pub enum Turn {
     Next(State),
     Done(RunAnswer),
-}
-
-// What a quick turn leaves: the state from which to go on; or it was not done, and the stack is as it was.
-pub enum Quick {
-    Next(State),
-    NotDone,
 }
 
 pub fn answer(number: u8, place: usize, count: usize) -> RunAnswer
@@ -147,16 +140,20 @@ fn replace_by_long(image: &[u8], at: usize, stack: &mut [u8], below: usize) -> T
     Taken::Pending(below + size, image[at + 1])
 }
 
-// Puts a tail of up to two members, which stands in its entry, in the place of its taker, behind which so many are pending.
-fn replace_by_short(entry: u16, stack: &mut [u8], below: usize) -> Taken
-    requires { ⌜ (below < length (now stack)) × (entry / 16384 < 3) ⌝ }
-    ensures { λ r. ⌜ ((bytes : List ℕ) (start : ℕ)
-        → (r ≡ replaced (now (stack .entry)) below (entry-tail bytes start entry) .outcome)
-        × (now (stack .exit) ≡ replaced (now (stack .entry)) below (entry-tail bytes start entry) .stack)) ⌝ }
+// Puts the tail that an entry stands for in the place of its taker, behind which so many are pending. The row of the taker starts at
+// `start` in the image's bytes.
+fn replace_taker(image: &[u8], start: usize, entry: u16, stack: &mut [u8], below: usize) -> Taken
+    requires { ⌜ (below < length (now stack)) × ((n : ℕ) × (tail : List ℕ) × EntryTail (now image) start n entry tail) ⌝ }
+    ensures { λ r.
+        ⌜ (r ≡ replaced (now (stack .entry)) below (entry-tail (now (image .entry)) start entry) .outcome)
+        × (now (stack .exit) ≡ replaced (now (stack .entry)) below (entry-tail (now (image .entry)) start entry) .stack) ⌝ }
 {
     let size = entry / 16384;
     if size == 0 {
         return Taken::Pending(below, stack[below]);
+    }
+    if size == 3 {
+        return replace_by_long(image, start + (entry % 16384) as usize, stack, below);
     }
     let first = (entry % 64) as u8;
     if size == 1 {
@@ -169,20 +166,6 @@ fn replace_by_short(entry: u16, stack: &mut [u8], below: usize) -> Taken
     let second = (entry / 64 % 64) as u8;
     stack[top] = second;
     Taken::Pending(below + 2, first)
-}
-
-// Puts the tail that an entry stands for in the place of its taker, behind which so many are pending. The row of the taker starts at
-// `start` in the image's bytes.
-fn replace_taker(image: &[u8], start: usize, entry: u16, stack: &mut [u8], below: usize) -> Taken
-    requires { ⌜ (below < length (now stack)) × ((n : ℕ) × (tail : List ℕ) × EntryTail (now image) start n entry tail) ⌝ }
-    ensures { λ r.
-        ⌜ (r ≡ replaced (now (stack .entry)) below (entry-tail (now (image .entry)) start entry) .outcome)
-        × (now (stack .exit) ≡ replaced (now (stack .entry)) below (entry-tail (now (image .entry)) start entry) .stack) ⌝ }
-{
-    if 2 < entry / 16384 {
-        return replace_by_long(image, start + (entry % 16384) as usize, stack, below);
-    }
-    replace_by_short(entry, stack, below)
 }
 
 // Takes a rule: the taker's tail replaces it and those that were passed over.
@@ -260,72 +243,6 @@ pub fn one_turn(
         Taken::TooDeep => return Turn::Done(answer(17, state.place, state.count)),
         Taken::Pending(depth, first) => {
             return Turn::Next(State {
-                place: state.place + n,
-                depth,
-                first,
-                count: state.count + 1,
-            });
-        }
-    }
-}
-
-// Takes a rule if its taker's tail has up to two members and there is room for them. Otherwise nothing is done.
-fn quick_take(
-    productions: &[u16; 2048],
-    empty: u64,
-    stack: &mut [u8],
-    depth: usize,
-    first: u8,
-    rule: u8,
-) -> Taken
-    requires { ⌜ (rule < 32) × (depth ≤ length (now stack)) × All (λ m. m < 64) (pending (now stack) depth first) ⌝ }
-    ensures { λ r. ⌜ ((bytes starts : List ℕ) → QuickTake
-        (take-step bytes starts (now (productions .entry)) empty (now (stack .entry)) depth first rule)
-        (now (stack .entry)) (now (stack .exit)) r) ⌝ }
-{
-    let found = find_taker(productions, empty, stack, depth, first, rule);
-    let Taker::At(below, _, entry) = found else {
-        return Taken::NoTaker;
-    };
-    if 2 < entry / 16384 {
-        return Taken::NoTaker;
-    }
-    replace_by_short(entry, stack, below)
-}
-
-// One turn in the frequent cases: a rule that skips, or one that is taken by a tail of up to two members. In all others nothing is done, and
-// `one_turn` is to be called. This function is small, so that it is put into each loop that calls it.
-pub fn quick_turn(
-    productions: &[u16; 2048],
-    empty: u64,
-    skips: u64,
-    stack: &mut [u8],
-    found: Found,
-    state: State,
-) -> Quick
-    requires { ⌜ MatchFits found state × (state .depth ≤ length (now stack))
-        × All (λ m. m < 64) (pending (now stack) (state .depth) (state .first)) ⌝ }
-    ensures { λ r. ⌜ ((bytes starts : List ℕ) → QuickTurn
-        (turn-step bytes starts (now (productions .entry)) empty skips (now (stack .entry)) found state)
-        (now (stack .entry)) (now (stack .exit)) r) ⌝ }
-{
-    let Found::Rule(rule, n) = found else {
-        return Quick::NotDone;
-    };
-    if is_member(skips, rule) {
-        return Quick::Next(State {
-            place: state.place + n,
-            depth: state.depth,
-            first: state.first,
-            count: state.count,
-        });
-    }
-    let taken = quick_take(productions, empty, stack, state.depth, state.first, rule);
-    match taken {
-        Taken::NoTaker => return Quick::NotDone,
-        Taken::TooDeep => return Quick::NotDone,
-        Taken::Pending(depth, first) => {
-            return Quick::Next(State {
                 place: state.place + n,
                 depth,
                 first,

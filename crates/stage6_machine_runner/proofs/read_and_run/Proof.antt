@@ -1,17 +1,15 @@
 -- `read_and_run` meets its contract: 13, or the run of the image that was read.
 use borrow.Author.Needs.{needs}
-use mathlib.Core.Path.{_≡_, refl, sym, ap, _∙_}
-use Prim.Native.Nat.{ℕ}
-use native.Mathlib.Omega.{arith}
-use lib.ListN.{length, replicate}
+use mathlib.Core.Path.{refl, sym, ap, _∙_}
+use mathlib.Core.Bool.{true≢false}
 use denote.Ref.{now}
-use Rattle.stage0_buffers.specs.Cleared.{cleared-all}
 use Rattle.stage5_image.specs.ReadableImages.{read-in-range}
 use Rattle.stage5_image_reader.proofs.Whole.{room-whole}
 use Rattle.stage6_machine_turn.specs.Steps.{answer-held}
 use Rattle.stage6_machine.specs.RunsLaws.{run-stop, run-got}
 use Rattle.stage6_machine.specs.StackLaws.{stack-cleared}
 use Rattle.stage6_machine_runner.proofs.Ending.{stack-kept-13}
+use Rattle.stage6_machine_runner.proofs.Prepared.{low-high}
 use Rattle.stage6_machine_runner.proofs.read_and_run.Statement.{statement}
 use Rattle.stage6_machine_runner.proofs.read_and_run.Tie as tie
 
@@ -40,33 +38,51 @@ returns c =
 enum-told : tie.Need-enum-told
 enum-told c = search needs
 
+class-table-requires : tie.Need-class-table-requires
+class-table-requires c κs =
+    let told = c .before .before in
+    let readable = told .before .before .read-image .ensures .readable (told .enum-told .given .1) in
+    (readable .2 .most-positions, low-high _ _ _ (readable .2) (read-in-range _ _ _ (readable .1) .0))
+
+slice-aggregate-run-image : tie.Need-slice-aggregate-run-image
+slice-aggregate-run-image c = search needs
+
+slice-aggregate-run-image-2 : tie.Need-slice-aggregate-run-image-2
+slice-aggregate-run-image-2 c = search needs
+
 run-image-requires : tie.Need-run-image-requires
 run-image-requires c κs =
-    let told = c .before .before .before .before .before .before .before in
-    let readable = told .before .before .read-image .ensures .readable (told .enum-told .given .1) in
-    (readable .0, readable .2, read-in-range _ _ _ (readable .1) .0)
-
-clear-front-requires : tie.Need-clear-front-requires
-clear-front-requires c κs = search needs
+    let filled = c .before .before .before .before .before .before .before .before .before .before in
+    let told = filled .before .before .before in
+    let readable = told .before .before .read-image .ensures .readable (told .enum-told .given .1) in (
+      readable .0,
+      record {
+        decoded = readable .2;
+        in-range = read-in-range _ _ _ (readable .1) .0;
+        own-classes = filled .class-table .ensures _ _ _;
+        built = λ e. absurd (true≢false (sym e));
+      },
+    )
 
 same-length : tie.Need-same-length
 same-length c = search needs
 
 returns-2 : tie.Need-returns-2
 returns-2 c =
-    let cleared = c .before .before in
-    let ran = cleared .before .before .before .before in
-    let told = ran .before .before .before .before .before .before .before .before in
+    let ran = c .before .before in
+    let filled = ran .before .before .before .before .before .before .before .before .before .before .before in
+    let told = filled .before .before .before in
     let read = told .before .before in
     let start = start-of read in
     let readable = read .read-image .ensures .readable (told .enum-told .given .1) in
-    let answers = ran .run-image .ensures (readable .0) (readable .2) in
-    let left = ran .run-image .last .1 .1 .1 .1 .1 .1 .1 .1 .1 .0 in (
+    let answers = ran .run-image .ensures .1 (readable .0) (record {
+      decoded = readable .2;
+      in-range = read-in-range _ _ _ (readable .1) .0;
+      own-classes = filled .class-table .ensures _ _ _;
+      built = λ e. absurd (true≢false (sym e));
+    }) in (
       answers ∙ sym (run-got _ _ _ (start .pre) (readable .0) _ (readable .1)),
-      cleared .clear-front .ensures
-          ∙ cleared-all (length left) left (omega arith)
-          ∙ ap (λ (k : ℕ). replicate k 0) (ran .run-image .kept .1 .1 .1 .1 .1 .1 .1 .1 .1 .0)
-          ∙ stack-cleared (readable .0) _ _ _ (now (start .args .stack)) answers,
+      ran .run-image .ensures .0 ∙ stack-cleared (readable .0) _ _ _ (now (start .args .stack)) answers,
     )
 
 pub read-and-run-spec : {M : Type 1} → statement M
@@ -78,7 +94,9 @@ read-and-run-spec =
     answer-requires
     returns
     enum-told
+    class-table-requires
+    slice-aggregate-run-image
+    slice-aggregate-run-image-2
     run-image-requires
-    clear-front-requires
     same-length
     returns-2)

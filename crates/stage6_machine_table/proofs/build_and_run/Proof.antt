@@ -1,18 +1,16 @@
 -- `build_and_run` meets its contract: 19 where the table has too many rows, otherwise the run by its rows.
 use borrow.Author.Needs.{needs}
-use mathlib.Core.Path.{refl, ap, _∙_}
-use Prim.Native.Nat.{ℕ}
+use mathlib.Core.Path.{refl, ap}
+use mathlib.Core.Bool.{true}
 use native.Mathlib.Omega.{arith}
-use lib.ListN.{length, replicate}
 use denote.Ref.{now}
-use Rattle.stage0_buffers.specs.Cleared.{cleared-all}
 use Rattle.stage4_lexer_columns.specs.Held.{held-positions}
 use Rattle.stage5_image.specs.Image.{Image}
 use Rattle.stage5_image.specs.ImageRanges.{InRange}
 use Rattle.stage5_image_reader.specs.Decoded.{ImageTables, Decoded, tables-of}
 use Rattle.stage6_machine_turn.specs.Steps.{answer-held}
+use Rattle.stage6_machine_runner.specs.Prepared.{WithTables}
 use Rattle.stage6_machine_runner.proofs.Prepared.{low-high, prepared}
-use Rattle.stage6_machine_table.specs.Built.{WithTable}
 use Rattle.stage6_machine_table.proofs.Beginnings.{BuiltFrom, built-same, over-rows, within-rows, table-holds}
 use Rattle.stage6_machine_table.proofs.build_and_run.Statement.{statement}
 use Rattle.stage6_machine_table.proofs.build_and_run.Tie as tie
@@ -43,14 +41,16 @@ built-here c i d = built-same _ (i .positions) _ (i .first) (d .positions) (d .f
 with-here : (c : tie.Else1) (i : Image)
     → let built = c .before .before .before .before .before in
     Held built i → InRange i
-    → WithTable (now (start-of built .args .image)) (tables-here built) (built .build-table .last .0) (built .build-table .last .1 .0) i
+    → WithTables (now (start-of built .args .image)) (tables-here built) (filled-of built .class-table .result) true (built .build-table .last .0)
+    (built .build-table .last .1 .0) i
 with-here c i d range =
     let built = c .before .before .before .before .before in
     let w = start-of built .pre in
     record {
       decoded = d;
       in-range = range;
-      built = table-holds i _ _ _ _ _ (built-here built i d) (c .if1 .left)
+      own-classes = filled-of built .class-table .ensures _ _ _;
+      built = λ e. table-holds i _ _ _ _ _ (built-here built i d) (c .if1 .left)
           (omega (arith, built .build-table .kept .0, w .3)) (omega (arith, built .build-table .kept .1 .0, w .4));
     }
 
@@ -83,14 +83,11 @@ returns c =
       within = λ h. absurd (omega (arith, over .0, h));
     }
 
-run-rows-requires : tie.Need-run-rows-requires
-run-rows-requires c κs =
-    let passed = c .before .before .before in
+run-image-requires : tie.Need-run-image-requires
+run-image-requires c κs =
+    let passed = c .before .before .before .before in
     let w = start-of (passed .before .before .before .before .before) .pre in
-    (_, _, _, _, w .0, with-here passed (w .0) (w .1) (w .2))
-
-clear-front-requires : tie.Need-clear-front-requires
-clear-front-requires c κs = search needs
+    (w .0, with-here passed (w .0) (w .1) (w .2))
 
 same-length-3 : tie.Need-same-length-3
 same-length-3 c = search needs
@@ -103,22 +100,13 @@ same-length-5 c = search needs
 
 returns-2 : tie.Need-returns-2
 returns-2 c =
-    let cleared = c .before .before in
-    let ran = cleared .before .before .before .before in
-    let passed = ran .before .before .before .before in
-    let left = ran .run-rows .last .1 .1 .1 .1 .1 .1 .1 .0 in
+    let ran = c .before .before .before .before .before .before in
+    let passed = ran .before .before .before .before .before in
     λ i d range.
     let within = within-rows i _ _ _ _ _ (built-here (passed .before .before .before .before .before) i d) (passed .if1 .left) in
     record {
       over = λ h. absurd (omega (arith, within .0, h));
-      within = λ h. (
-        ran .run-rows .ensures _ _ _ _ i (with-here passed i d range),
-        within .1,
-        within .2,
-        cleared .clear-front .ensures
-            ∙ cleared-all (length left) left (omega arith)
-            ∙ ap (λ (k : ℕ). replicate k 0) (ran .run-rows .kept .1 .1 .1 .1 .1 .1 .1 .0),
-      );
+      within = λ h. (ran .run-image .ensures .1 i (with-here passed i d range), within .1, within .2, ran .run-image .ensures .0);
     }
 
 pub build-and-run-spec : {M : Type 1} → statement M
@@ -131,8 +119,7 @@ build-and-run-spec =
     same-length
     same-length-2
     returns
-    run-rows-requires
-    clear-front-requires
+    run-image-requires
     same-length-3
     same-length-4
     same-length-5

@@ -5,8 +5,6 @@ use Prim.Native.Nat.{ℕ, _≤_}
 use lib.ListN.{length}
 use Rattle.stage4_lexer.specs.Table.{most-rows}
 use Rattle.stage5_image.specs.Image.{Image}
-use Rattle.stage5_image.specs.ImageRanges.{InRange}
-use Rattle.stage5_image_reader.specs.Decoded.{ImageTables, Decoded}
 use Rattle.stage6_machine.specs.TableRun.{lent-entries, rows-of, entries-of, winners-of}
 
 pub record Built (i : Image) (table winners : List ℕ) : Type 0 where
@@ -17,9 +15,3 @@ pub record Built (i : Image) (table winners : List ℕ) : Type 0 where
   pub entries : table ≡ entries-of i ++ more
   pub rest : List ℕ
   pub row-winners : winners ≡ winners-of i ++ rest
-
--- All that a run by rows relies on: the image that the machine's tables hold, which is a readable one, and its table.
-pub record WithTable (bytes : List ℕ) (tables : ImageTables) (table winners : List ℕ) (i : Image) : Type 0 where
-  pub decoded : Decoded bytes tables i
-  pub in-range : InRange i
-  pub built : Built i table winners

@@ -1,24 +1,22 @@
 -- What is found by the rows of an image's table is the image's longest match.
-use mathlib.Core.Path.{_≡_, sym, ap, ap₂, subst, _∙_}
+use mathlib.Core.Path.{_≡_, sym, ap₂, subst, _∙_}
 use mathlib.Core.List.{List, [], _∷_, _++_}
-use Prim.Native.Nat.{ℕ, suc, _+_, _-_, _≤_, _<_}
+use Prim.Native.Nat.{ℕ, suc, _≤_, _<_}
 use native.Mathlib.Omega.{arith}
-use lib.ListN.{getD, length, take, drop}
-use lib.Seq.{getD-drop}
+use lib.ListN.{getD, length}
 use Rattle.stage0_laws.specs.Lists.{All}
 use Rattle.stage0_laws.specs.Members.{all-of, all-member}
 use Rattle.stage4_lexer.specs.Table.{row-entries, no-winner, match-by-rows}
 use Rattle.stage4_lexer.specs.TableLaws.{by-rows}
+use Rattle.stage4_lexer.specs.Walk.{longest-match}
 use Rattle.stage4_lexer_rows.specs.Rows.{RowsIn}
 use Rattle.stage4_lexer_rows.specs.BuiltRows.{built-rows}
 use Rattle.stage4_lexer_scanner.specs.Meaning.{match-of}
 use Rattle.stage4_lexer_scanner.specs.declared.Found.{Found}
 use Rattle.stage5_image.specs.Image.{Image}
 use Rattle.stage5_image.specs.ImageRanges.{InRange}
-use Rattle.stage6_machine.specs.Run.{match-at}
 use Rattle.stage6_machine.specs.TableRun.{winners-of}
-use Rattle.stage6_machine_runner.proofs.Turns.{rest-of}
-use Rattle.stage6_machine_table.specs.Built.{Built}
+use Rattle.stage6_machine_runner.specs.Built.{Built}
 
 all-entries : (bound : ℕ) (l : List ℕ) → ((j : ℕ) → getD l j 0 < bound) → All (λ b. b < bound) l
 all-entries bound [] f = tt
@@ -39,11 +37,9 @@ module _ (i : Image) (range : InRange i) (table winners : List ℕ) (built : Bui
       (subst (λ (l : List ℕ). 65536 ≤ length l) (built .entries) (built .long-table))
       (subst (λ (l : List ℕ). 256 ≤ length l) (built .row-winners) (built .long-winners))))
 
-  pub found-by-rows : (text : List ℕ) → ((j : ℕ) → getD text j 0 < row-entries) → (p : ℕ) (f : Found)
-      → match-of f ≡ match-by-rows table winners (take (length text - p) (drop p text)) → match-of f ≡ match-at i text p
-  found-by-rows text bytes p f e =
+  pub found-by-rows : (text : List ℕ) → ((j : ℕ) → getD text j 0 < row-entries) → (f : Found) → match-of f ≡ match-by-rows table winners text
+      → match-of f ≡ longest-match (i .positions) (i .first) text
+  found-by-rows text bytes f e =
       e
-      ∙ ap (match-by-rows table winners) (rest-of text p)
-      ∙ ap₂ (λ (t w : List ℕ). match-by-rows t w (drop p text)) (built .entries) (built .row-winners)
-      ∙ by-rows (i .positions) (i .first) below (built .few-rows) (built .more) (built .rest) (drop p text)
-      (all-entries row-entries (drop p text) (λ j. subst (λ (k : ℕ). k < row-entries) (sym (getD-drop p text j 0)) (bytes (p + j))))
+      ∙ ap₂ (λ (t w : List ℕ). match-by-rows t w text) (built .entries) (built .row-winners)
+      ∙ by-rows (i .positions) (i .first) below (built .few-rows) (built .more) (built .rest) text (all-entries row-entries text bytes)
