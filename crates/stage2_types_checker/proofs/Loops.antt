@@ -267,7 +267,7 @@ module _ (links : NodeLinks) (fit : LinksFit links) where
 
     later-within : (n : ℕ) → n ∈ later → n < links .count
     later-within n m = ⊎-elim (λ k. w .pending .within n (was-in left i (w .low) (w .high) n (subst (λ (x : ℕ). n ∈ left - x) (w .own-is) k)))
-        (λ k. w .deps .no-more n i (∈-cond changed (getD sets i 0) n (subst (λ (x : ℕ). n ∈ x) (w .again-is) k) .1)) (∈-cases (left - own) again n m)
+        (λ k. w .deps .below-count n i (∈-cond changed (getD sets i 0) n (subst (λ (x : ℕ). n ∈ x) (w .again-is) k) .1)) (∈-cases (left - own) again n m)
 
     pub pending-next : Pending links (stored types i t one) later
     pending-next = record {

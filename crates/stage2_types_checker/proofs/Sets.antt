@@ -134,7 +134,7 @@ module _ (links : NodeLinks) where
   joining-first = record {
     at-most = omega arith;
     long = length-replicate {A = ℕ} 64 0;
-    below = record { all-in = λ n k l. absurd (omega arith); no-more = λ n k h. empty n k h (lt-or-le k 64) };
+    below = record { all-in = λ n k l. absurd (omega arith); below-count = λ n k h. empty n k h (lt-or-le k 64) };
   }
     where
       empty : (n k : ℕ) → n ∈ getD (replicate 64 0) k 0 → (k < 64) ⊎ (64 ≤ k) → n < 0
@@ -187,7 +187,7 @@ module _ (links : NodeLinks) where
         long = length-set once to (bitOr (getD once to 0) other) ∙ once-long;
         below = record {
           all-in = λ n k l g. in-all n k g (lt-or-le n i) l;
-          no-more = λ n k m. ⊎-elim (λ w. omega (arith, h .below .no-more n k w)) (λ e. omega arith) (new n k m);
+          below-count = λ n k m. ⊎-elim (λ w. omega (arith, h .below .below-count n k w)) (λ e. omega arith) (new n k m);
         };
       }
         where

@@ -20,7 +20,7 @@ GoesBy (fixed-point-node b) k = k ≡ b
 GoesBy (variable-node v guarded) k = k ≡ v
 GoesBy (repetition-node b self) k = (k ≡ b) ⊎ (k ≡ self)
 
--- A set for each node: of the first so many nodes, all that go by it.
+-- A set for each node: of the first so many nodes, all that go by it, and perhaps others of them.
 pub record DependentsBelow (links : NodeLinks) (count : ℕ) (sets : List ℕ) : Type 0 where
   pub all-in : (n k : ℕ) → n < count → GoesBy (held-node (links .tag) (links .link) (links .guarded) n) k → n ∈ getD sets k 0
-  pub no-more : (n k : ℕ) → n ∈ getD sets k 0 → n < count
+  pub below-count : (n k : ℕ) → n ∈ getD sets k 0 → n < count

@@ -293,7 +293,8 @@ fn members_if(member: bool, s: u64) -> u64
 }
 
 // The least types that solve the equations. All nodes start with the type of ⊥, and all are left to be raised. The last that is
-// left goes first, since a node's parts stand behind it: so a change goes up to the first node before a variable goes by it.
+// left goes first, since a node's parts stand behind it: so a node is raised after its parts. Where a fixed point changes, its variables
+// and what stands between are raised again before anything above it.
 pub fn least_types(links: NodeLinks) -> TypeColumns
     requires { ⌜ LinksFit links ⌝ }
     ensures { λ r. ⌜ held-types (links .count) r ≡ types-of (held-nodes links) ⌝ }

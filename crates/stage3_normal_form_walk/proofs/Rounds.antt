@@ -29,7 +29,7 @@ use Rattle.stage2_types_columns.specs.declared.NodeLinks.{NodeLinks}
 use Rattle.stage3_normal_form.specs.Derives.{derives-at, node-derives, next-derives, same-flags, derives}
 use Rattle.stage3_normal_form.specs.DerivesExact.{same-flags-path, next-derives-at, derives-solve}
 use Rattle.stage3_normal_form_walk.specs.Columns.{SetOf}
-use Rattle.stage3_normal_form_walk.specs.Raised.{Within, Closed, Raised}
+use Rattle.stage3_normal_form_walk.specs.Raised.{Within, AddsNothing, Raised}
 
 -- A node's equation, by its tag.
 module _ (flags : List Bool) (guarded : Bool) (link n : ℕ) where
@@ -249,7 +249,7 @@ pub record Between (links : NodeLinks) (set left : ℕ) : Type 0 where
   pub above : Within at-once flags
   pub leads : rounds-from (held-nodes links) left at-once
       ≡ rounds-from (held-nodes links) (links .count) (replicate (links .count) false)
-  pub least : (closed : List Bool) → Closed links closed → Within flags closed
+  pub least : (closed : List Bool) → AddsNothing links closed → Within flags closed
 
 pub between-start : (links : NodeLinks) → Between links 0 (links .count)
 between-start links = record {
@@ -286,7 +286,7 @@ module _ (links : NodeLinks) (set : ℕ) where
     whole = ap (λ k. rounds-from (held-nodes links) k (replicate k false)) (sym (held-count links))
         ∙ ap (λ ns. rounds-from ns (length ns) (replicate (length ns) false)) h
 
-    derives-closed : Closed links (derives e)
+    derives-closed : AddsNothing links (derives e)
     derives-closed m t = subst T
         (sym (ap (λ (l : List Bool). derives-at l m) (derives-solve (typed .1)) ∙ next-derives-at (nodes e) (derives e) m))
         (subst (λ ns. T (node-derives (derives e) (node-at ns m))) h t)
@@ -313,5 +313,5 @@ module _ (links : NodeLinks) (set : ℕ) where
         (λ xs f. next-within xs (b .flags) (b .flags) f closed) (links .count) (replicate (links .count) false)
         (none-within (links .count) (b .flags))))
       where
-        closed : Closed links (b .flags)
+        closed : AddsNothing links (b .flags)
         closed m t = subst T (sym (r .set-of m) ∙ ap (λ s. bit s m) q ∙ b .set-of m) (r .applied m (omega arith) t)

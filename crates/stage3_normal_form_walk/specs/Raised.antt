@@ -17,8 +17,8 @@ abbrev pub Within : List Bool → List Bool → Type 0
 Within xs ys = (n : ℕ) → T (derives-at xs n) → T (derives-at ys n)
 
 -- The equations add nothing to the flags.
-abbrev pub Closed : NodeLinks → List Bool → Type 0
-Closed links flags = (n : ℕ) → T (node-derives flags (node-at (held-nodes links) n)) → T (derives-at flags n)
+abbrev pub AddsNothing : NodeLinks → List Bool → Type 0
+AddsNothing links flags = (n : ℕ) → T (node-derives flags (node-at (held-nodes links) n)) → T (derives-at flags n)
 
 -- The set after the equations of the nodes from n on were applied in place, from the last one down.
 pub record Raised (links : NodeLinks) (before : List Bool) (n set : ℕ) : Type 0 where
@@ -27,4 +27,4 @@ pub record Raised (links : NodeLinks) (before : List Bool) (n set : ℕ) : Type 
   pub as-many : length flags ≡ links .count
   pub rising : Within before flags
   pub applied : (m : ℕ) → n ≤ m → T (node-derives before (node-at (held-nodes links) m)) → T (derives-at flags m)
-  pub least : (closed : List Bool) → Closed links closed → Within before closed → Within flags closed
+  pub least : (closed : List Bool) → AddsNothing links closed → Within before closed → Within flags closed

@@ -109,7 +109,7 @@ fn next_productive(links: NodeLinks, set: u64) -> u64
 
 // The nodes that derive a token sequence, as a set. Each round that changes something adds a node.
 pub fn derives(links: NodeLinks) -> u64
-    requires { ⌜ ((e : Expression) × (held-nodes links ≡ nodes e) × (links .count ≤ 64)) ⌝ }
+    requires { ⌜ ((e : Expression) × HasType e × (held-nodes links ≡ nodes e) × (links .count ≤ 64)) ⌝ }
     ensures { λ r. ⌜ ((e : Expression) → HasType e → held-nodes links ≡ nodes e → SetOf r (derives e)) ⌝ }
 {
     let count = links.count;

@@ -186,11 +186,6 @@ columns-next c c' ps low high rule last follow h s e =
     subst (λ (x : PositionColumns). Columns x (ps ++ (p ∷ []))) (sym e)
     (columns-more c ps low high rule last follow h s)
 
-pub columns-count : (c c' : PositionColumns) (low high rule last follow : ℕ) → c' ≡ with-position c low high rule last follow
-    → c' .count ≡ c .count + 1
-unfolding with-position
-columns-count c c' low high rule last follow e = ap (λ (x : PositionColumns). x .count) e
-
 -- Positions with the same values are one.
 same-position : (p q : Position) → p .low ≡ q .low → p .high ≡ q .high → p .rule ≡ q .rule → p .last ≡ q .last → p .follow ≡ q .follow
     → p ≡ q

@@ -13,7 +13,7 @@ use Rattle.stage5_image.specs.Image.{Image}
 use Rattle.stage5_image.specs.ImageReading.{image-field, read-flag, read-list, read-row, image-end, read-image}
 use Rattle.stage5_image_reader.specs.Answers.{positions-in}
 use Rattle.stage5_image_reader.specs.Tables.{held-flags, FlagsOf, FlagsHeld, Room}
-use Rattle.stage5_image_reader.specs.Decoded.{Decoded, tables-of, ImageAnswers, read-grammar, read-lexer}
+use Rattle.stage5_image_reader.specs.Decoded.{Decoded, tables-of, refused-at, ImageAnswers, read-grammar, read-lexer}
 use Rattle.stage5_image_reader.specs.declared.ImageRead.{ImageRead}
 use Rattle.stage5_image_reader.specs.declared.Outcome.the-variants.{Readable, Refused}
 use Rattle.stage5_image_reader.proofs.Positions.{field-set}
@@ -29,15 +29,17 @@ module _ {bytes : List ℕ} {r : ImageRead} {low high rule follow starts product
       → ImageAnswers bytes r low high rule follow starts productions x
   image-readable o i h d = record { readable = λ e. (i, h, d); refusal = λ e. readable-refused (sym o ∙ e) }
 
-  pub image-refused : {place : ℕ} → r .outcome ≡ Refused place → x ≡ stop 13 place
-      → ImageAnswers bytes r low high rule follow starts productions x
-  image-refused {place} h e = record {
-    readable = λ f. readable-refused (sym f ∙ h);
-    refusal = λ f. e ∙ ap (stop 13) (refused-at (sym h ∙ f));
-  }
+  pub image-refused : {place : ℕ} → r ≡ refused-at place → x ≡ stop 13 place → ImageAnswers bytes r low high rule follow starts productions x
+  unfolding refused-at
+  image-refused {place} h e =
+      let o = ap (λ (r : ImageRead). r .outcome) h in
+      record {
+        readable = λ f. readable-refused (sym f ∙ o);
+        refusal = λ f. let p = same-place (sym o ∙ f) in (e ∙ ap (stop 13) p, h ∙ ap refused-at p);
+      }
     where
-      refused-at : {q : ℕ} → Refused place ≡ Refused q → place ≡ q
-      refused-at {q} e = cc
+      same-place : {q : ℕ} → Refused place ≡ Refused q → place ≡ q
+      same-place {q} e = cc
 
   pub image-same : {y : Reading Image} → x ≡ y → ImageAnswers bytes r low high rule follow starts productions y
       → ImageAnswers bytes r low high rule follow starts productions x

@@ -57,12 +57,25 @@ tables-of r low high rule follow starts productions = record {
   productions = productions;
 }
 
+-- What reading returns for a refused image.
+unfoldable pub refused-at : ℕ → ImageRead
+refused-at place = record {
+  outcome = Refused place;
+  rules = 0;
+  skips = 0;
+  count = 0;
+  last = 0;
+  first = 0;
+  nonterminals = 0;
+  empty = 0;
+}
+
 -- The answer to the reading of an image: all bytes were read, and the tables hold the image; or 13 at its place, and what the arrays then
 -- hold is left free.
 pub record ImageAnswers (bytes : List ℕ) (r : ImageRead) (low high rule follow starts productions : List ℕ) (x : Reading Image) : Type 0 where
   pub readable : r .outcome ≡ Readable
       → (i : Image) × (x ≡ got i (length bytes)) × Decoded bytes (tables-of r low high rule follow starts productions) i
-  pub refusal : {place : ℕ} → r .outcome ≡ Refused place → x ≡ stop 13 place
+  pub refusal : {place : ℕ} → r .outcome ≡ Refused place → (x ≡ stop 13 place) × (r ≡ refused-at place)
 
 -- ---- the parts
 

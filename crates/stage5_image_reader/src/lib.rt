@@ -15,8 +15,7 @@ ghost use Rattle.stage5_image_reader.specs.Answers.{field-reading, place
 ghost use Rattle.stage5_image_reader.specs.Answers.{position-reading, positions-in, columns-from};
 ghost use Rattle.stage5_image_reader.specs.Answers.{InBounds, production-in, row-in, ProductionAnswers};
 ghost use Rattle.stage5_image_reader.specs.Answers.{ProductionsEntered, RowEntered};
-ghost use Rattle.stage5_image_reader.specs.Decoded.{ImageAnswers, RulesRead, columns-in, grammar-in, read-lexer};
-ghost use Rattle.stage5_image_reader.specs.declared.Outcome.the-variants.{Refused};
+ghost use Rattle.stage5_image_reader.specs.Decoded.{refused-at, ImageAnswers, RulesRead, columns-in, grammar-in, read-lexer};
 
 // What a field gives: a value and the place after it, or the place of question 13.
 enum Field {
@@ -43,8 +42,8 @@ struct PositionsRead {
     last: u64,
 }
 
-// What stands in no column of an image's rules and positions: the number of rules, those that skip, the number of positions, and the last and
-// the first ones.
+// What stands in no column of an image's rules and positions: the number of rules, those that skip, the number of positions, and the last
+// and the first ones.
 struct Lexer {
     rules: u64,
     skips: u64,
@@ -72,7 +71,8 @@ pub enum Outcome {
 }
 
 // The answer to question 13, and what stands in no array of a readable image's tables: the number of rules, those that skip, the number of
-// positions, the last and the first ones, the number of nonterminals, and those with ε.
+// positions, the last and the first ones, the number of nonterminals, and those with ε. No code reads the two numbers of rules and of
+// nonterminals: the promise speaks of them.
 pub struct ImageRead {
     pub outcome: Outcome,
     pub rules: usize,
@@ -156,7 +156,8 @@ fn read_flags(bytes: &[u8], at: usize, count: u64) -> Field
     Field::Value(set, next)
 }
 
-// So many nonterminals of a tail. A nonterminal is below 64 and so one byte: the tail is later read from the image's bytes.
+// So many nonterminals of a tail. A nonterminal is below 64 and so one byte: a tail of more than two members is later read from the image's
+// bytes.
 fn read_tail(bytes: &[u8], at: usize, size: u64, nonterminals: u64) -> Field
     requires { ⌜ (1 ≤ nonterminals) × (nonterminals ≤ 64) × (at ≤ length (now bytes)) ⌝ }
     ensures { λ r. ⌜ Answers
@@ -304,7 +305,8 @@ fn read_production(bytes: &[u8], at: usize, bounds: Bounds, least: u64) -> Produ
 }
 
 // The entry for a tail whose length stands at a place of the row that starts at `start`: its two highest bits are the number of members, up
-// to two of which stand in it, or 3 for more of them.
+// to two of which stand in it, or 3 for more of them, and then the distance of the place from `start`. The entry of an empty tail is 1, since
+// 0 is that of no production.
 fn tail_entry(bytes: &[u8], start: usize, place: usize) -> u16
     requires { ⌜ (start ≤ place) × (place < start + 16384)
         × ((n : ℕ) × (tail : List ℕ) × TailAt (now bytes) n place tail × (n ≤ 64)) ⌝ }
@@ -419,7 +421,7 @@ fn read_rows(
 
 // The answer of question 13 at a place.
 fn refused(place: usize) -> ImageRead
-    ensures { λ r. ⌜ r .outcome ≡ Refused place ⌝ }
+    ensures { λ r. ⌜ r ≡ refused-at place ⌝ }
 {
     ImageRead {
         outcome: Outcome::Refused(place),

@@ -20,7 +20,7 @@ use Rattle.stage4_lexer_columns.specs.declared.PositionColumns.{PositionColumns
 use Rattle.stage5_image.specs.Fusion.{fused-row, fused}
 use Rattle.stage5_image.specs.Image.{Image, skips-rule, plain-image, image-bytes, flag, flag-numbers, position-numbers, row-numbers, image-numbers}
 use Rattle.stage5_image.specs.ImageNumbers.{flag-number, one-position-numbers, one-row-numbers, flags-are, positions-are, rows-are}
-use Rattle.stage5_image.specs.Numbering.{reached, renumbered, renumbered-row, numbered}
+use Rattle.stage5_image.specs.Numbering.{reached, renumbered-row, numbered}
 use Rattle.stage0_laws.specs.Members.{getD-map-inside}
 use Rattle.stage5_image.specs.NumberingLaws.{numbered-count, numbered-row}
 use Rattle.stage5_image.specs.Simulation.{fused-row-of}

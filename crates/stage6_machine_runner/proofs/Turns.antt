@@ -15,7 +15,7 @@ use Rattle.stage5_image_reader.specs.Decoded.{ImageTables, Decoded}
 use Rattle.stage6_machine.specs.Answer.{Answer}
 use Rattle.stage6_machine.specs.Turn as machine
 use Rattle.stage6_machine.specs.Run.{match-at, text-turn, run-from, first-state}
-use Rattle.stage6_machine.specs.TurnLaws.{turn-before-end, run-goes-on, run-stops, run-at-end, Onward, turn-onward}
+use Rattle.stage6_machine.specs.TurnLaws.{turn-before-end, run-goes-on, run-stops, run-at-end, turn-onward}
 use Rattle.stage6_machine_turn.specs.Stack.{stacked, pending, Ready}
 use Rattle.stage6_machine_turn.specs.Steps.{answer-held, state-at, state-held, end-answer, turn-step, MatchFits}
 use Rattle.stage6_machine_turn.specs.TurnLaws.{turn-done, turn-next, end-is}

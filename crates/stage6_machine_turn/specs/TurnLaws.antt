@@ -15,7 +15,7 @@ use Rattle.stage6_machine.specs.Turn as machine
 use Rattle.stage6_machine.specs.Turn.{take-rule, all-nullable, at-text-end}
 use Rattle.stage6_machine.specs.TurnLaws.{turn-unmatched, turn-skips, turn-refuses, turn-overflows, turn-takes}
 use Rattle.stage6_machine_turn.specs.Stack.{pending, Ready}
-use Rattle.stage6_machine_turn.specs.Steps.{answer-held, run-answer, state-at, state-held, turn-held, all-members, end-answer}
+use Rattle.stage6_machine_turn.specs.Steps.{answer-held, run-answer, state-held, turn-held, all-members, end-answer}
 use Rattle.stage6_machine_turn.specs.Steps.{take-step, step-after-take, turn-by, TurnStep, turn-step, MatchFits}
 use Rattle.stage6_machine_turn.specs.StackLaws.{length-pending}
 use Rattle.stage6_machine_turn.specs.TakingLaws.{TakeLeads, take-leads}

@@ -17,7 +17,7 @@ loop-holds : tie.Need-loop-holds Inv-loop μ-loop
 loop-holds c = (omega arith, subst (Between (c .args .links) 0) (omega arith) (between-start (c .args .links)))
 
 next-productive-requires : tie.Need-next-productive-requires Inv-loop μ-loop
-next-productive-requires c κs = c .before .before .pre .2
+next-productive-requires c κs = c .before .before .pre .3
 
 returns : tie.Need-returns Inv-loop μ-loop
 returns c =

@@ -8,7 +8,9 @@ use Rattle.stage5_image_compiler.proofs.grammar_of.Statement.{statement
 use Rattle.stage5_image_compiler.proofs.grammar_of.Tie as tie
 
 derives-requires : tie.Need-derives-requires
-derives-requires c κs = let w = c .before .before .before .pre in (w .0 .expression, w .1 .linked, w .1 .links-most)
+derives-requires c κs =
+    let w = c .before .before .before .pre in
+    (w .0 .expression, sheet-typed-iff (w .0) (w .1 .limits) .0 (w .1 .no-fault), w .1 .linked, w .1 .links-most)
 
 grammar-from-requires : tie.Need-grammar-from-requires
 grammar-from-requires c κs = search needs

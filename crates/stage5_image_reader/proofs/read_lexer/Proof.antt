@@ -1,6 +1,5 @@
 -- `read_lexer` meets its contract: one law of `Whole` for each answer.
 use borrow.Author.Needs.{needs}
-use native.Mathlib.Omega.{arith}
 use mathlib.Core.Path.{subst}
 use mathlib.Core.List.{List}
 use Prim.Native.Nat.{_<_}

@@ -33,7 +33,7 @@ returns c =
     let read = known .before .before in
     let e = ap answer-held (c .answer .ensures) in
     let refused = read .read-image .ensures .refusal (known .outcome .given .1) in
-    (e ∙ sym (run-stop _ _ _ (start-of read .pre) 13 _ refused), stack-kept-13 _ _ _ e)
+    (e ∙ sym (run-stop _ _ _ (start-of read .pre) 13 _ (refused .0)), stack-kept-13 _ _ _ e)
 
 enum-told : tie.Need-enum-told
 enum-told c = search needs

@@ -100,7 +100,7 @@ same-length-5 c = search needs
 
 returns-2 : tie.Need-returns-2
 returns-2 c =
-    let ran = c .before .before .before .before .before .before in
+    let ran = c .before .before in
     let passed = ran .before .before .before .before .before in
     λ i d range.
     let within = within-rows i _ _ _ _ _ (built-here (passed .before .before .before .before .before) i d) (passed .if1 .left) in

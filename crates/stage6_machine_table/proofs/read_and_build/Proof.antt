@@ -3,7 +3,6 @@ use borrow.Author.Needs.{needs}
 use mathlib.Core.Path.{refl, ap}
 use mathlib.Core.Logic.{⊎-elim}
 use lib.ListN.{length}
-use denote.Ref.{now}
 use Rattle.stage0_laws.specs.Order.{lt-or-le}
 use Rattle.stage4_lexer.specs.Table.{most-rows}
 use Rattle.stage5_image.specs.ReadableImages.{read-in-range}
@@ -35,7 +34,7 @@ returns c =
     let read = known .before .before in
     let p = start-of read .pre in
     let refused = read .read-image .ensures .refusal (known .outcome .given .1) in
-    promised-away _ _ _ _ _ 13 _ (begins-stop _ _ _ _ (p .0) (p .1) (p .2) 13 _ refused) _ (ap answer-held (c .answer .ensures))
+    promised-away _ _ _ _ _ 13 _ (begins-stop _ _ _ _ (p .0) (p .1) (p .2) 13 _ (refused .0)) _ (ap answer-held (c .answer .ensures))
     _ _ _ refl refl refl
 
 enum-told : tie.Need-enum-told
