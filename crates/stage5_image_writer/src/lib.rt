@@ -162,7 +162,7 @@ fn emit_production(
 }
 
 // Where the productions of a row end, how many there are, and the nodes met by then.
-struct RowEnd {
+struct ProductionsEnd {
     next: usize,
     count: usize,
     numbering: Numbering,
@@ -175,7 +175,7 @@ fn emit_productions(
     grammar: Grammar,
     numbering: Numbering,
     node: usize,
-) -> RowEnd
+) -> ProductionsEnd
     requires { ⌜ ((rules : List Rule) × (e : Expression) × GrammarOf grammar rules e × (node < size e)
         × (at ≤ 7000000) × (numbering .count ≤ 64)) ⌝ }
     ensures { λ r. ⌜ (r .next ≤ at + 10880) × (r .count ≤ 32) × (r .numbering .count ≤ 64)
@@ -217,7 +217,7 @@ fn emit_productions(
         met,
         number,
     };
-    RowEnd {
+    ProductionsEnd {
         next,
         count,
         numbering: joined,
@@ -225,7 +225,7 @@ fn emit_productions(
 }
 
 // Where a row ends, and the nodes met by then.
-struct Written {
+struct RowEnd {
     next: usize,
     numbering: Numbering,
 }
@@ -238,7 +238,7 @@ fn emit_row(
     grammar: Grammar,
     numbering: Numbering,
     node: usize,
-) -> Written
+) -> RowEnd
     requires { ⌜ ((rules : List Rule) × (e : Expression) × GrammarOf grammar rules e × (node < size e)
         × (at ≤ 6000000) × (numbering .count ≤ 64)) ⌝ }
     ensures { λ r. ⌜ (r .next ≤ at + 10900) × (r .numbering .count ≤ 64)
@@ -253,7 +253,7 @@ fn emit_row(
     let row = emit_productions(image, after_count, grammar, numbering, node);
     emit(image, after_flag, row.count as u64);
     let joined = row.numbering;
-    Written {
+    RowEnd {
         next: row.next,
         numbering: joined,
     }
