@@ -304,9 +304,9 @@ fn read_production(bytes: &[u8], at: usize, bounds: Bounds, least: u64) -> Produ
     }
 }
 
-// The entry for a tail whose length stands at a place of the row that starts at `start`: its two highest bits are the number of members, up
-// to two of which stand in it, or 3 for more of them, and then the distance of the place from `start`. The entry of an empty tail is 1, since
-// 0 is that of no production.
+// The entry for a tail whose length stands at a place of the row that starts at `start`: its two highest bits are the number of members,
+// up to two of which stand in it, or 3 for more of them, and then the distance of the place from `start`. The entry of an empty tail is 1,
+// since 0 is that of no production.
 fn tail_entry(bytes: &[u8], start: usize, place: usize) -> u16
     requires { ⌜ (start ≤ place) × (place < start + 16384)
         × ((n : ℕ) × (tail : List ℕ) × TailAt (now bytes) n place tail × (n ≤ 64)) ⌝ }

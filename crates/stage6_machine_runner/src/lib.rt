@@ -1,5 +1,5 @@
-// The machine: runs an image over a text, turn by turn. Question 12 of a run without a table and 17 of a stack without an entry are answered
-// here, question 13 by the image reader, the others by the turns.
+// The machine: runs an image over a text, turn by turn. Question 12 of a run without a table and 17 of a stack without an entry are
+// answered here, question 13 by the image reader, the others by the turns.
 ghost use mathlib.Core.Path.{_≡_};
 ghost use mathlib.Core.List.{List};
 ghost use Prim.Native.Nat.{ℕ, _≤_};
@@ -56,8 +56,8 @@ fn scan<'a>(
     )
 }
 
-// The turns of a readable image over a text, by rows or by sets. There is one loop for both, so that the compiler puts the code of a turn into
-// it: a function that is called from two places it leaves apart. What is left on the stack is not promised.
+// The turns of a readable image over a text, by rows or by sets. There is one loop for both, so that the compiler puts the code of a turn
+// into it: a function that is called from two places it leaves apart. What is left on the stack is not promised.
 fn run_turns<'a>(
     image: &[u8],
     read: ImageRead,
@@ -120,8 +120,8 @@ fn run_turns<'a>(
     stage6_machine_turn::at_end(read.empty, stack, state)
 }
 
-// Runs a readable image, given by its bytes and its tables, none of which is copied, with the table of its scanner or without. The stack ends
-// all zero.
+// Runs a readable image, given by its bytes and its tables, none of which is copied, with the table of its scanner or without. The stack
+// ends all zero.
 pub fn run_image<'a>(
     image: &[u8],
     read: ImageRead,

@@ -66,8 +66,8 @@ fn make_image(sheet: &[u8], output: &mut Output) -> Option<[usize; 2]> {
     None
 }
 
-/// Where the image is made. No image of a sheet has more than some 37,000 bytes: 64 nodes give at most 33
-/// nonterminals with 32 tails of 32 members, or more with shorter ones.
+/// Where the image is made. No image of a sheet has more than some 37,000 bytes: at most 32 nonterminals, each
+/// with 32 productions of at most 34 bytes, and some 1,200 bytes for the rest.
 struct Output<'a> {
     bytes: &'a mut [u8],
     length: usize,

@@ -262,7 +262,7 @@ fn clear(stack: &mut [u8]) {
 /// memory takes alone.
 fn clearing_table(grammars: &[Grammar], buffers: &mut Buffers) {
     println!(
-        "\nClearing the stack alone: `slice::fill` over 1 + 31 × 1 MiB bytes, and by how much a run takes longer \
+        "\nClearing the stack alone: `slice::fill` over 1 + 31 × the text's length, and by how much a run takes longer \
         on a long enough stack than on {SMALL_STACK} entries, {ROUNDS} rounds, median:\n"
     );
     println!(
@@ -270,8 +270,8 @@ fn clearing_table(grammars: &[Grammar], buffers: &mut Buffers) {
         | Baseline time / `fill` time |"
     );
     println!("|---|---|---|---|---|---|---|");
-    let gibibytes = buffers.stack.len() as f64 / (1 << 30) as f64;
     for grammar in grammars {
+        let gibibytes = stack_length(grammar.text.len()) as f64 / (1 << 30) as f64;
         let [fill, library, baseline] = clearing_times(grammar, buffers);
         let milliseconds =
             |time: Option<Duration>| shown(time.map(|time| time.as_secs_f64() * 1e3));
@@ -295,7 +295,7 @@ fn clearing_times(grammar: &Grammar, buffers: &mut Buffers) -> [Option<Duration>
     let long = Case::long_enough_stack(grammar, &grammar.text);
     let mut times = [(); 3].map(|()| Vec::new());
     for _ in 0..ROUNDS {
-        times[0].push(time(1, || clear(&mut buffers.stack)));
+        times[0].push(time(1, || clear(&mut buffers.stack[..long.room])));
         let library = [&small, &long].map(|case| case.library_time(1, buffers));
         if let [Some(small), Some(long)] = library {
             times[1].push(long.saturating_sub(small));

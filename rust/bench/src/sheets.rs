@@ -28,11 +28,10 @@ pub fn all() -> Vec<Case> {
 
 /// Sheets with 24 tokens, 32 rules, 64 byte classes, 256 regex nodes and 64 expression nodes.
 ///
-/// The library finds the least types by rounds from the last node to the first, in place. The tower has
-/// the deepest expression and takes 4 rounds; with all nodes of a round at once, from the types of the
-/// round before, it would take 126. The chain takes 23, and the refused one 43. The wide one takes 3: it
-/// has alternatives side by side, and rules that are all of one size. With each number in 7 bytes it is
-/// still within the limit.
+/// The library finds the least types by raising nodes, each again where a type that it goes by has changed,
+/// the last of those that are left first: 128 times a node for the tower, which has the deepest expression,
+/// 146 for the chain, 284 for the refused one and 80 for the wide one. The wide one has alternatives side by
+/// side, and rules that are all of one size. With each number in 7 bytes it is still within the limit.
 fn largest() -> [Case; 5] {
     let wide_sheet = |name| sheet(name, wide_rules, wide, 0);
     [
@@ -96,8 +95,8 @@ fn wide_rules(builder: &mut SheetBuilder, tokens: &[Token]) {
     }
 }
 
-/// Fixed points around `t·x ∨ ε`, where x is the outermost. A type goes up through all of them, which is
-/// one round from the last node to the first, then back by the variable and up through all of them again.
+/// Fixed points around `t·x ∨ ε`, where x is the outermost. A type goes up through all of them, then back
+/// by the variable and up through all of them again.
 fn tower(tokens: &[Token]) -> Expression {
     Expression::fix(|outermost| {
         let body = tokens[0].then(outermost).or(Expression::epsilon());
@@ -106,7 +105,8 @@ fn tower(tokens: &[Token]) -> Expression {
 }
 
 /// μx.t·μy.x·μz.y·…: what begins a fixed point is known once it is known of the one around it, which
-/// stands before it. So from the last node to the first each round leads one fixed point further.
+/// stands before it. By rounds over all nodes, from the last to the first, each would lead one fixed point
+/// further.
 fn chain(tokens: &[Token]) -> Expression {
     fn link(before: Expression, links: usize) -> Expression {
         Expression::fix(|own| match links {
@@ -132,8 +132,7 @@ fn wide(tokens: &[Token]) -> Expression {
 
 /// μx.(μy.(μz.(… ∨ y) ∨ x))*. That it is nullable goes from each fixed point to the one in it; then what
 /// begins it, which the innermost knows once it is nullable, goes back to the outermost; then what follows
-/// its last token goes the first way again. None that passes was found to take so long, and this one is
-/// refused, but not before its types are known.
+/// its last token goes the first way again. It is refused, but not before its types are known.
 fn refused(tokens: &[Token]) -> Expression {
     fn link(before: Expression, links: usize, token: Token) -> Expression {
         Expression::fix(|own| {
