@@ -17,6 +17,8 @@ pub mod SheetD
 pub mod Computing
 pub mod ListLaws
 pub mod FieldLaws
+pub mod Format
+pub mod FormatLaws
 pub mod NumberLaws
 pub mod RefusalLaws
 pub mod TwinLaws

@@ -11,7 +11,7 @@ use lib.Dec.{T}
 use lib.ListN.{length, length-append}
 use Rattle.stage0_laws.specs.Truth.{true-holds}
 use Rattle.stage2_types.specs.Denotation.{Language}
-use Rattle.stage3_normal_form.specs.Productions.{Production, Row}
+use Rattle.stage3_normal_form.specs.Productions.{Production, Row, Taking, taken-by}
 use Rattle.stage3_normal_form.specs.Unfolding.{_of_, concatenation, ByRow, by-epsilon, by-production, UnfoldsOnce, concatenation-append, concatenation-split, production-word, null-exact}
 
 -- The token c begins a word of L.
@@ -204,28 +204,29 @@ module _ (N : ℕ → Language) (M : ℕ → Row) (fits : Fits N M) where
 
 -- What a token does to the pending nodes: they are tried from the first; one with a production for it takes it, a nullable one
 -- without is dropped, any other, or none left, ends the run.
-pub data TokenStep (M : ℕ → Row) (t : ℕ) : List ℕ → Option (List ℕ) → Type 0 where
-  takes : {n : ℕ} {β : List ℕ} (q : Production) → q of M n → q .head ≡ t → TokenStep M t (n ∷ β) (some (q .tail ++ β))
-  drops : {n : ℕ} {β : List ℕ} {o : Option (List ℕ)} → Lacks (M n) t → (M n) .has-epsilon ≡ true → TokenStep M t β o → TokenStep M t (n ∷ β) o
+pub data TokenStep (M : ℕ → Row) (t : ℕ) : List ℕ → Option Taking → Type 0 where
+  takes : {n : ℕ} {β : List ℕ} (q : Production) → q of M n → q .head ≡ t → TokenStep M t (n ∷ β) (some (taken-by n (q .tail ++ β)))
+  drops : {n : ℕ} {β : List ℕ} {o : Option Taking} → Lacks (M n) t → (M n) .has-epsilon ≡ true → TokenStep M t β o → TokenStep M t (n ∷ β) o
   stops : {n : ℕ} {β : List ℕ} → Lacks (M n) t → (M n) .has-epsilon ≡ false → TokenStep M t (n ∷ β) none
   none-left : TokenStep M t [] none
 
 -- What it then says of the words: those that go on with t, of which there is one, are the new list's; or none goes on with t.
-abbrev pub StepWords : (ℕ → Language) → ℕ → List ℕ → Option (List ℕ) → Type 0
+abbrev pub StepWords : (ℕ → Language) → ℕ → List ℕ → Option Taking → Type 0
 StepWords N t β none = (w : List ℕ) → concatenation N β (t ∷ w) → ⊥
-StepWords N t β (some α) =
-    Ready N α × ((w : List ℕ) → concatenation N β (t ∷ w) ↔ concatenation N α w) × ((w : List ℕ) × concatenation N β (t ∷ w))
+StepWords N t β (some x) =
+    Ready N (x .pending) × ((w : List ℕ) → concatenation N β (t ∷ w) ↔ concatenation N (x .pending) w)
+    × ((w : List ℕ) × concatenation N β (t ∷ w))
 
 module _ (N : ℕ → Language) (M : ℕ → Row) (fits : Fits N M) where
-  dropped : (n t : ℕ) (β : List ℕ) → Lacks (M n) t → (M n) .has-epsilon ≡ true → (o : Option (List ℕ)) → StepWords N t β o → StepWords N t (n ∷ β) o
+  dropped : (n t : ℕ) (β : List ℕ) → Lacks (M n) t → (M n) .has-epsilon ≡ true → (o : Option Taking) → StepWords N t β o → StepWords N t (n ∷ β) o
   dropped n t β l e none f = λ w h. f w (drop-words N M fits n t β l e w .0 h)
-  dropped n t β l e (some α) f = let d = drop-words N M fits n t β l e in (
+  dropped n t β l e (some x) f = let d = drop-words N M fits n t β l e in (
     f .0,
     (λ w. (λ h. f .1 w .0 (d w .0 h), λ h. d w .1 (f .1 w .1 h))),
     (f .2 .0, d (f .2 .0) .1 (f .2 .1)),
   )
 
-  pub step-words : {t : ℕ} {β : List ℕ} {o : Option (List ℕ)} → TokenStep M t β o → Ready N β → StepWords N t β o
+  pub step-words : {t : ℕ} {β : List ℕ} {o : Option Taking} → TokenStep M t β o → Ready N β → StepWords N t β o
   step-words (takes {n = n} {β = β} q m e) r =
       let tw = rw e at (take-words N M fits n β q m (r .0)) in
       let x = taken-has-word N M fits n β q m r in
@@ -236,16 +237,16 @@ module _ (N : ℕ → Language) (M : ℕ → Row) (fits : Fits N M) where
 
 -- A take removes at least one node and adds a tail: if tails have at most one member more than some number, the list grows by no
 -- more than that number.
-abbrev pub GrowsBy : ℕ → List ℕ → Option (List ℕ) → Type 0
+abbrev pub GrowsBy : ℕ → List ℕ → Option Taking → Type 0
 GrowsBy most β none = Unit
-GrowsBy most β (some α) = length α ≤ length β + most
+GrowsBy most β (some x) = length (x .pending) ≤ length β + most
 
 module _ (most : ℕ) (M : ℕ → Row) (short : (n : ℕ) (q : Production) → q of M n → length (q .tail) ≤ suc most) where
-  grows-more : (n : ℕ) (β : List ℕ) (o : Option (List ℕ)) → GrowsBy most β o → GrowsBy most (n ∷ β) o
+  grows-more : (n : ℕ) (β : List ℕ) (o : Option Taking) → GrowsBy most β o → GrowsBy most (n ∷ β) o
   grows-more n β none g = tt
-  grows-more n β (some α) g = omega arith
+  grows-more n β (some x) g = omega arith
 
-  pub step-grows : {t : ℕ} {β : List ℕ} {o : Option (List ℕ)} → TokenStep M t β o → GrowsBy most β o
+  pub step-grows : {t : ℕ} {β : List ℕ} {o : Option Taking} → TokenStep M t β o → GrowsBy most β o
   step-grows (takes {n = n} {β = β} q m e) = let a = short n q m in let b = length-append (q .tail) β in omega arith
   step-grows (drops {n = n} {β = β} {o = o} l e f) = grows-more n β o (step-grows f)
   step-grows (stops l e) = tt

@@ -36,6 +36,14 @@ pub record Row : Type 0 where
 abbrev pub no-productions : Row
 no-productions = record { has-epsilon = false; productions = [] }
 
+-- Which pending nonterminal took a symbol, and those that are pending then.
+pub record Taking : Type 0 where
+  pub taker : ℕ
+  pub pending : List ℕ
+
+abbrev pub taken-by : ℕ → List ℕ → Taking
+taken-by taker pending = record { taker = taker; pending = pending }
+
 -- A nonterminal added at the end of a production's tail.
 unfoldable pub ended-by : ℕ → Production → Production
 ended-by n p = record { head = p .head; tail = p .tail ++ (n ∷ []) }

@@ -18,7 +18,7 @@ use Rattle.stage2_types.specs.Types.{LanguageType, Context, _⊢_∶_, type-eps
 use Rattle.stage2_types.specs.SetOrder.{flag, flag-rises, flag-most}
 use Rattle.stage2_types.specs.NodeRanges.{NodeInRange, node-in-range, nodes-in-range}
 use Rattle.stage2_types.specs.Nodes.{Node, epsilon-node, bottom-node, token-node, sequence-node, alternative-node, fixed-point-node, variable-node, repetition-node, nodes, node-at}
-use Rattle.stage3_normal_form.specs.Productions.{Production, most-tail, most-growth, Row, no-productions, ended-by, row-of, node-row, rows-after, rows}
+use Rattle.stage3_normal_form.specs.Productions.{Production, most-tail, most-growth, Row, Taking, no-productions, ended-by, row-of, node-row, rows-after, rows}
 use Rattle.stage3_normal_form.specs.NormalForm.{normal-form}
 use Rattle.stage3_normal_form.specs.Places.{Placed, nodes-placed, everywhere-all, none-usable}
 use Rattle.stage3_normal_form.specs.Descent.{weight, head-weight, weight-parts, VariablesKeep, keep-in-body, bounded}
@@ -112,7 +112,7 @@ tails-at-most {e} d h n q m =
 
 -- So a take adds at most `most-growth` pending nodes.
 pub pending-grows : {e : Expression} {a : LanguageType} → [] ⊢ e ∶ a → size e ≤ most-expression-nodes
-    → {t : ℕ} {β : List ℕ} {o : Option (List ℕ)} → TokenStep (row-of (normal-form e)) t β o → GrowsBy most-growth β o
+    → {t : ℕ} {β : List ℕ} {o : Option Taking} → TokenStep (row-of (normal-form e)) t β o → GrowsBy most-growth β o
 pending-grows {e} d h = step-grows most-growth (row-of (normal-form e)) (tails-at-most d h)
 
 -- What every production has if tokens give it and sequence and repetition nodes keep it.

@@ -2,3 +2,4 @@
 pub mod ClassTable
 pub mod Filling
 pub mod ClassTableLaws
+pub mod BetweenEdges

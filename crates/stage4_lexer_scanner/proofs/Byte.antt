@@ -5,23 +5,22 @@ use mathlib.Core.Bool.{Bool, true, false, _&&_, _||_, cond}
 use mathlib.Core.Bool as B
 use mathlib.Core.List.{List, [], _∷_}
 use mathlib.Core.Option.{some}
-use Prim.Native.Nat.{ℕ, zero, suc, _+_, _^_, _≤_, _<_}
+use Prim.Native.Nat.{ℕ, suc, _+_, _^_, _≤_, _<_}
 use lib.Dec.{eqb}
-use lib.ListN.{getD}
+use native.Mathlib.Omega.{arith}
+use lib.ListN.{length, getD, drop}
 use lib.Bits.{bitOr, bitAnd, or-zero-l}
-use borrow.Author.Tests.{eqb-true}
+use borrow.Author.Tests.{eqb-true, ne-eqb}
 use Rattle.stage0_laws.specs.Bits.{bit}
 use Rattle.stage0_laws.specs.BitLaws.{bit-or, bit-and, bit-one-if, bit-zero, bit-ext-all}
 use Rattle.stage4_lexer.specs.Positions.{Position}
 use Rattle.stage4_lexer.specs.Walk.{has-byte, keep, follows, ended}
-use Rattle.stage4_lexer.specs.SetWalk.{members, members-from, set-walk}
-use Rattle.stage4_lexer.specs.SetWalkLaws.{members-shorter, walk-meets-members}
+use Rattle.stage4_lexer.specs.SetWalk.{members, members-from}
+use Rattle.stage4_lexer.specs.SetWalkLaws.{members-shorter}
 use Rattle.stage4_lexer.specs.LowestPosition.{first-ended, ended-first}
-use Rattle.stage4_lexer_columns.specs.Held.{held-position, held-from}
 use Rattle.stage4_lexer_classes.specs.ClassTable.{having}
-use Rattle.stage4_lexer_classes.specs.ClassTableLaws.{having-first, having-above}
-use Rattle.stage4_lexer_scanner.specs.declared.AfterByte.{AfterByte}
-use Rattle.stage4_lexer_scanner.specs.Meaning.{rule-of, LeadsTo, Prepared}
+use Rattle.stage4_lexer_classes.specs.ClassTableLaws.{having-first}
+use Rattle.stage4_lexer_scanner.specs.Meaning.{HeldAt, Prepared}
 use Rattle.stage4_lexer_scanner.specs.Sets.{joined, first-entry}
 
 -- ---- the kept positions
@@ -49,77 +48,76 @@ keep-and : (ps : List Position) (held b : ℕ) → bitAnd held (having ps 0 b) �
 keep-and ps held b =
     bit-ext-all (bitAnd held (having ps 0 b)) (keep ps 0 held b) (λ j. bit-and held (having ps 0 b) j ∙ sym (keep-bit ps 0 held b j))
 
--- ---- the columns at a set's positions
+-- No position past the last is in the set of a byte.
+having-above : (ps : List Position) (i b j : ℕ) → i + length ps ≤ j → bit (having ps i b) j ≡ false
+unfolding having
+having-above [] i b j h = bit-zero j
+having-above (p ∷ ps) i b j h =
+    having-first p ps i b j ∙ rw (ne-eqb i j (λ e. omega arith), B.and-false (has-byte p b)) (having-above ps (suc i) b j (omega arith))
 
-module _ (low high rule follow : List ℕ) (last : ℕ) where
-  abbrev column-positions : ℕ → ℕ → List Position
-  column-positions i n = held-from low high rule follow last i n
+-- ---- the tables at a set's positions
 
-  follows-members : (i n kept : ℕ) → joined follow (members-from kept i n) ≡ follows (column-positions i n) i kept
-  unfolding held-from held-position follows joined members-from
-  follows-members i zero kept = refl
-  follows-members i (suc n) kept = go (bit kept i) (follows-members (suc i) n kept)
+module _ (tables : List ℕ) (last : ℕ) where
+  abbrev follow-sets : List ℕ
+  follow-sets = drop 256 tables
+
+  abbrev rules : List ℕ
+  rules = drop 320 tables
+
+  follows-members : (ps : List Position) (i kept : ℕ) → HeldAt tables last i ps
+      → joined follow-sets (members-from kept i (length ps)) ≡ follows ps i kept
+  unfolding follows joined members-from
+  follows-members [] i kept h = refl
+  follows-members (p ∷ ps) i kept h = go (bit kept i) (follows-members ps (suc i) kept (h .3))
     where
-      go : (b : Bool) → joined follow (members-from kept (suc i) n) ≡ follows (column-positions (suc i) n) (suc i) kept
-          → joined follow (cond b (i ∷ members-from kept (suc i) n) (members-from kept (suc i) n))
-          ≡ bitOr (cond b (getD follow i 0) 0) (follows (column-positions (suc i) n) (suc i) kept)
-      go true h = ap (bitOr (getD follow i 0)) h
-      go false h = h ∙ sym (or-zero-l (follows (column-positions (suc i) n) (suc i) kept))
+      go : (b : Bool) → joined follow-sets (members-from kept (suc i) (length ps)) ≡ follows ps (suc i) kept
+          → joined follow-sets (cond b (i ∷ members-from kept (suc i) (length ps)) (members-from kept (suc i) (length ps)))
+          ≡ bitOr (cond b (p .follow) 0) (follows ps (suc i) kept)
+      go true e = rw (h .0, e)
+      go false e = e ∙ sym (or-zero-l (follows ps (suc i) kept))
 
-  ended-members : (i n kept : ℕ) → first-entry rule (members-from (bitAnd kept last) i n) ≡ first-ended (column-positions i n) i kept
-  unfolding held-from held-position first-ended first-entry members-from
-  ended-members i zero kept = refl
-  ended-members i (suc n) kept =
-      ap (λ (x : Bool). first-entry rule (cond x (i ∷ rest) rest)) (bit-and kept last i)
-      ∙ go (bit kept i && bit last i) (ended-members (suc i) n kept)
+  ended-members : (ps : List Position) (i kept : ℕ) → HeldAt tables last i ps
+      → first-entry rules (members-from (bitAnd kept last) i (length ps)) ≡ first-ended ps i kept
+  unfolding first-ended first-entry members-from
+  ended-members [] i kept h = refl
+  ended-members (p ∷ ps) i kept h =
+      ap (λ (x : Bool). first-entry rules (cond x (i ∷ rest) rest)) (bit-and kept last i ∙ ap (λ (x : Bool). bit kept i && x) (h .2))
+      ∙ go (bit kept i && p .last) (ended-members ps (suc i) kept (h .3))
     where
       rest : List ℕ
-      rest = members-from (bitAnd kept last) (suc i) n
+      rest = members-from (bitAnd kept last) (suc i) (length ps)
 
-      go : (b : Bool) → first-entry rule rest ≡ first-ended (column-positions (suc i) n) (suc i) kept
-          → first-entry rule (cond b (i ∷ rest) rest)
-          ≡ elim b [ true ↦ some (getD rule i 0) | false ↦ first-ended (column-positions (suc i) n) (suc i) kept ]
-      go true h = refl
-      go false h = h
+      go : (b : Bool) → first-entry rules rest ≡ first-ended ps (suc i) kept
+          → first-entry rules (cond b (i ∷ rest) rest) ≡ elim b [ true ↦ some (p .rule) | false ↦ first-ended ps (suc i) kept ]
+      go true e = ap some (h .1)
+      go false e = e
 
-  module _ (count : ℕ) (most : count ≤ 64) (classes : List ℕ) (prepared : Prepared (column-positions 0 count) classes) where
-    abbrev all-positions : List Position
-    all-positions = column-positions 0 count
+  module _ (ps : List Position) (prepared : Prepared ps last tables) where
+    pub kept-is : (held b : ℕ) → b < 256 → bitAnd held (getD tables b 0) ≡ keep ps 0 held b
+    kept-is held b h = ap (bitAnd held) (prepared .own-classes b h) ∙ keep-and ps held b
 
-    pub kept-is : (held b : ℕ) → b < 256 → bitAnd held (getD classes b 0) ≡ keep all-positions 0 held b
-    kept-is held b h = ap (bitAnd held) (prepared .own-classes b h) ∙ keep-and all-positions held b
+    -- No position past the last is kept.
+    kept-high : (held b j : ℕ) → 0 + length ps ≤ j → bit (keep ps 0 held b) j ≡ false
+    kept-high held b j h = keep-bit ps 0 held b j ∙ rw (having-above ps 0 b j h) (B.and-false (bit held j))
 
-    -- No position from the count on is kept.
-    kept-high : (held b j : ℕ) → 0 + count ≤ j → bit (keep all-positions 0 held b) j ≡ false
-    kept-high held b j h =
-        keep-bit all-positions 0 held b j ∙ rw (having-above low high rule follow last b 0 count j h) (B.and-false (bit held j))
-
-    -- The follow sets of a set's positions together, and the rule of the lowest that is last, where no position from the count on is in it.
-    pub follows-of : (kept : ℕ) → ((j : ℕ) → 0 + count ≤ j → bit kept j ≡ false) → joined follow (members kept) ≡ follows all-positions 0 kept
+    -- The follow sets of a set's positions together, and the rule of the lowest that is last, where no position past the last is in it.
+    pub follows-of : (kept : ℕ) → ((j : ℕ) → 0 + length ps ≤ j → bit kept j ≡ false) → joined follow-sets (members kept) ≡ follows ps 0 kept
     unfolding members
-    follows-of kept high = ap (joined follow) (members-shorter kept 0 count 64 most high) ∙ follows-members 0 count kept
+    follows-of kept high =
+        ap (joined follow-sets) (members-shorter kept 0 (length ps) 64 (prepared .few) high) ∙ follows-members ps 0 kept (prepared .held)
 
-    pub ended-of : (kept : ℕ) → ((j : ℕ) → 0 + count ≤ j → bit kept j ≡ false)
-        → first-entry rule (members (bitAnd kept last)) ≡ ended all-positions 0 kept
+    pub ended-of : (kept : ℕ) → ((j : ℕ) → 0 + length ps ≤ j → bit kept j ≡ false)
+        → first-entry rules (members (bitAnd kept last)) ≡ ended ps 0 kept
     unfolding members
     ended-of kept high =
-        ap (first-entry rule) (members-shorter (bitAnd kept last) 0 count 64 most (λ j h. bit-and kept last j ∙ rw (high j h)))
-        ∙ ended-members 0 count kept
-        ∙ sym (ended-first all-positions 0 (prepared .never-falling) 0 kept)
+        ap (first-entry rules) (members-shorter (bitAnd kept last) 0 (length ps) 64 (prepared .few) (λ j h. bit-and kept last j ∙ rw (high j h)))
+        ∙ ended-members ps 0 kept (prepared .held)
+        ∙ sym (ended-first ps 0 (prepared .never-falling) 0 kept)
 
-    pub follows-kept : (held b : ℕ) → joined follow (members (keep all-positions 0 held b)) ≡ follows all-positions 0 (keep all-positions 0 held b)
-    follows-kept held b = follows-of (keep all-positions 0 held b) (kept-high held b)
+    -- What the kept positions of a byte lead to, and the rule that ends with it.
+    pub follows-kept : (held b kept : ℕ) → kept ≡ keep ps 0 held b → joined follow-sets (members kept) ≡ follows ps 0 kept
+    follows-kept held b kept e =
+        follows-of kept (λ j h. ap (λ (x : ℕ). bit x j) e ∙ kept-high held b j h)
 
-    pub ended-kept : (held b : ℕ)
-        → first-entry rule (members (bitAnd (keep all-positions 0 held b) last)) ≡ ended all-positions 0 (keep all-positions 0 held b)
-    ended-kept held b = ended-of (keep all-positions 0 held b) (kept-high held b)
-
-    pub leads-to : (held b kept : ℕ) (s : AfterByte) → b < 256 → kept ≡ bitAnd held (getD classes b 0) → kept < 2 ^ 64
-        → s .held ≡ joined follow (set-walk kept) → rule-of (s .ended) ≡ first-entry rule (members (bitAnd kept last))
-        → LeadsTo all-positions held b s
-    leads-to held b kept s h e l f g =
-        let k : kept ≡ keep all-positions 0 held b = e ∙ kept-is held b h in
-        record {
-          next-held = f ∙ ap (joined follow) (walk-meets-members kept l) ∙ ap (λ (x : ℕ). joined follow (members x)) k ∙ follows-kept held b;
-          rule-ended = g ∙ ap (λ (x : ℕ). first-entry rule (members (bitAnd x last))) k ∙ ended-kept held b;
-        }
+    pub ended-kept : (held b kept : ℕ) → kept ≡ keep ps 0 held b → first-entry rules (members (bitAnd kept last)) ≡ ended ps 0 kept
+    ended-kept held b kept e = ended-of kept (λ j h. ap (λ (x : ℕ). bit x j) e ∙ kept-high held b j h)

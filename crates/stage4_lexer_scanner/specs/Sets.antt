@@ -3,7 +3,7 @@
 use mathlib.Core.Bool.{cond}
 use mathlib.Core.List.{List, [], _∷_}
 use mathlib.Core.Option.{Option, none, some}
-use Prim.Native.Nat.{ℕ}
+use Prim.Native.Nat.{ℕ, _%_}
 use lib.Bits.{bitOr}
 use lib.Dec.{eqb}
 use lib.ListN.{getD}
@@ -19,7 +19,7 @@ joined sets (i ∷ l) = bitOr (getD sets i 0) (joined sets l)
 -- The entry of the first position of a list, if there is one.
 unfoldable pub first-entry : List ℕ → List ℕ → Option ℕ
 first-entry entries [] = none
-first-entry entries (i ∷ l) = some (getD entries i 0)
+first-entry entries (i ∷ l) = some (getD entries i 0 % 256)
 
 -- The match that a set of last positions stands for, after so many bytes: the lowest position's rule; none by the empty set.
 unfoldable pub match-by : List ℕ → ℕ → ℕ → Match

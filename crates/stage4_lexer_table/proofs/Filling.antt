@@ -17,7 +17,6 @@ use Rattle.stage4_lexer.specs.SetWalk.{set-walk, members}
 use Rattle.stage4_lexer.specs.Table.{row-entries, no-winner, bytes-from, start-row, held-in, next-sets, table-rows, table-entries}
 use Rattle.stage4_lexer.specs.Table.{rule-or-none, winner-in, table-winners, written-over}
 use Rattle.stage4_lexer.specs.TableLaws.{power-some, bytes-count, mapped-byte, rows-length, row-length, rows-front, start-held, start-winner, set-winner, empty-second, entries-length}
-use Rattle.stage4_lexer_columns.specs.Held.{held-from}
 use Rattle.stage4_lexer_scanner.proofs.Byte.{ended-of}
 use Rattle.stage4_lexer_scanner.specs.Meaning.{Prepared}
 use Rattle.stage4_lexer_scanner.specs.Sets.{joined, first-entry}
@@ -79,10 +78,9 @@ EntriesTo ps first buffer i table =
 abbrev pub WinnersTo : List Position → ℕ → List ℕ → ℕ → List ℕ → Type 0
 WinnersTo ps first buffer i winners = winners ≡ map (winner-in ps) (take (suc i) (table-rows ps first)) ++ drop (suc i) buffer
 
-module _ (low high rule follow : List ℕ) (last first count : ℕ) (most : count ≤ 64) (classes : List ℕ)
-    (prepared : Prepared (held-from low high rule follow last 0 count) classes) where
-  abbrev ps : List Position
-  ps = held-from low high rule follow last 0 count
+module _ (ps : List Position) (last first : ℕ) (classes : List ℕ) (prepared : Prepared ps last classes) where
+  abbrev count : ℕ
+  count = length ps
 
   abbrev rows : List ℕ
   rows = table-rows ps first
@@ -116,9 +114,9 @@ module _ (low high rule follow : List ℕ) (last first count : ℕ) (most : coun
     unfolding numbers-by sets-by
     numbers-are held x e =
         map-bytes (λ b. suc (number-of (take met sets) (bitAnd held (getD classes b 0)))) (λ b. number-of rows (bitAnd held (getD classes b 0))) 0 row-entries
-        (λ b h. number-is (bitAnd held (getD classes b 0)) (sets-below low high rule follow last first count most classes prepared held b (omega arith)))
+        (λ b h. number-is (bitAnd held (getD classes b 0)) (sets-below ps last first classes prepared held b (omega arith)))
         ∙ sym (map-map (number-of rows) (λ b. bitAnd held (getD classes b 0)) (bytes-from 0 row-entries))
-        ∙ ap (map (number-of rows)) (sets-are low high rule follow last first count most classes prepared held x e)
+        ∙ ap (map (number-of rows)) (sets-are ps last first classes prepared held x e)
 
     front-length : (i : ℕ) → suc i ≤ length rows → length (flatMap (row-numbers ps first) (take (suc i) rows)) ≡ suc i * row-entries
     front-length i h =
@@ -137,7 +135,7 @@ module _ (low high rule follow : List ℕ) (last first count : ℕ) (most : coun
         (sym (append-nil (row-numbers ps first (start-row ps))) ∙ sym (ap (λ (l : List ℕ). flatMap (row-numbers ps first) (take 1 l)) (rows-front ps first .1)))
 
     pub next-written : (buffer table table' : List ℕ) (i held : ℕ) → i < met
-        → held ≡ joined follow (set-walk (getD sets i 0)) → EntriesTo ps first buffer i table
+        → held ≡ joined (drop 256 classes) (set-walk (getD sets i 0)) → EntriesTo ps first buffer i table
         → table' ≡ paste table ((i + 1) * row-entries) (numbers-by (take met sets) classes held row-entries) row-entries
         → EntriesTo ps first buffer (i + 1) table'
     next-written buffer table table' i held h e w f =
@@ -146,7 +144,7 @@ module _ (low high rule follow : List ℕ) (last first count : ℕ) (most : coun
         let x-is = row-is i h in
         let row : numbers-by (take met sets) classes held row-entries ≡ row-numbers ps first (getD rows (suc i) 0) =
         numbers-are held (getD rows (suc i) 0)
-        (e ∙ held-is low high rule follow last first count most classes prepared (getD sets i 0) (row-small i h) ∙ ap (held-in ps first) (sym x-is)) in
+        (e ∙ held-is ps last first classes prepared (getD sets i 0) (row-small i h) ∙ ap (held-in ps first) (sym x-is)) in
         let more : front ++ row-numbers ps first (getD rows (suc i) 0) ≡ flatMap (row-numbers ps first) (take (suc (suc i)) rows) =
         sym (flatMap-last (row-numbers ps first) (take (suc i) rows) (getD rows (suc i) 0)) ∙ ap (flatMap (row-numbers ps first)) (sym (take-suc rows (suc i) 0 inside)) in
         f
@@ -180,7 +178,7 @@ module _ (low high rule follow : List ℕ) (last first count : ℕ) (most : coun
         ∙ ap (λ (l : List ℕ). map (winner-in ps) (take 1 l) ++ drop 1 buffer) (sym (rows-front ps first .1))
 
     pub next-winner : (buffer winners winners' : List ℕ) (i v : ℕ) → i < met → suc i < length buffer
-        → v ≡ rule-or-none (first-entry rule (members (bitAnd (getD sets i 0) last))) → WinnersTo ps first buffer i winners
+        → v ≡ rule-or-none (first-entry (drop 320 classes) (members (bitAnd (getD sets i 0) last))) → WinnersTo ps first buffer i winners
         → winners' ≡ set winners (i + 1) v → WinnersTo ps first buffer (i + 1) winners'
     next-winner buffer winners winners' i v h room e w f =
         let inside : suc i < length rows = omega (arith, rows-count) in
@@ -189,8 +187,8 @@ module _ (low high rule follow : List ℕ) (last first count : ℕ) (most : coun
         let value : v ≡ winner-in ps (getD rows (suc i) 0) =
         e
         ∙ ap rule-or-none
-        (ended-of low high rule follow last count most classes prepared (getD sets i 0) (λ j l. bit-high count (getD sets i 0) j (row-small i h) (omega arith)))
-        ∙ sym (set-winner ps (getD sets i 0) (omega (arith, row-small i h, start-is low high rule follow last first count most classes prepared)))
+        (ended-of classes last ps prepared (getD sets i 0) (λ j l. bit-high count (getD sets i 0) j (row-small i h) (omega arith)))
+        ∙ sym (set-winner ps (getD sets i 0) (omega (arith, row-small i h, start-is ps last first classes prepared)))
         ∙ ap (winner-in ps) (sym (row-is i h)) in
         let more : front ++ (winner-in ps (getD rows (suc i) 0) ∷ []) ≡ map (winner-in ps) (take (suc (suc i)) rows) =
         sym (map-append (winner-in ps) (take (suc i) rows) (getD rows (suc i) 0 ∷ [])) ∙ ap (map (winner-in ps)) (sym (take-suc rows (suc i) 0 inside)) in

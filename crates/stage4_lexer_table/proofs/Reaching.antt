@@ -8,7 +8,7 @@ use native.Mathlib.Omega.{arith}
 use native.Mathlib.Numerals.{add-one}
 use lib.Bits.{bitAnd}
 use lib.Dec.{eqb}
-use lib.ListN.{getD, length, take, length-append}
+use lib.ListN.{getD, length, take, drop, length-append}
 use lib.Seq.{getD-take, take-suc, length-take-le}
 use borrow.Author.Tests.{ne-eqb}
 use Rattle.stage0_laws.specs.BitLaws.{bit-high}
@@ -26,7 +26,6 @@ use Rattle.stage4_lexer.specs.SetWalkLaws.{walk-meets-members}
 use Rattle.stage4_lexer.specs.Table.{most-rows, row-entries, bytes-from, start-row, held-in, next-sets, table-rows}
 use Rattle.stage4_lexer.specs.TableLaws.{power-some, start-held}
 use Rattle.stage4_lexer.specs.Walk.{keep}
-use Rattle.stage4_lexer_columns.specs.Held.{held-from}
 use Rattle.stage4_lexer_scanner.proofs.Byte.{kept-is, follows-of}
 use Rattle.stage4_lexer_scanner.specs.Meaning.{Prepared}
 use Rattle.stage4_lexer_scanner.specs.Sets.{joined}
@@ -43,55 +42,49 @@ map-bytes f g b (suc n) h =
     ap (λ (k : ℕ). k ∷ map f (bytes-from (suc b) n)) (h b (omega arith))
     ∙ ap (λ (l : List ℕ). g b ∷ l) (map-bytes f g (suc b) n (λ i k. h i (omega arith)))
 
-held-count : (low high rule follow : List ℕ) (last i n : ℕ) → length (held-from low high rule follow last i n) ≡ n
-unfolding held-from
-held-count low high rule follow last i zero = refl
-held-count low high rule follow last i (suc n) = ap suc (held-count low high rule follow last (suc i) n)
-
--- The rows before row i + 1 are done, and those met lead to all rows. The start's number is 2^count.
-pub record Reached (ps : List Position) (first count : ℕ) (sets : List ℕ) (met i : ℕ) : Type 0 where
+-- The rows before row i + 1 are done, and those met lead to all rows. The start's number is 2 to the number of positions.
+pub record Reached (ps : List Position) (first : ℕ) (sets : List ℕ) (met i : ℕ) : Type 0 where
   pub so-far : List ℕ
-  pub held : RowsHeld (2 ^ count) sets met so-far
+  pub held : RowsHeld (2 ^ length ps) sets met so-far
   pub empty-met : Met 0 so-far
   pub rest : meet-rows (next-sets ps first) (most-rows - suc i) (suc i) so-far ≡ table-rows ps first
 
-module _ (low high rule follow : List ℕ) (last first count : ℕ) (most : count ≤ 64) (classes : List ℕ)
-    (prepared : Prepared (held-from low high rule follow last 0 count) classes) where
-  abbrev pub columns : List Position
-  columns = held-from low high rule follow last 0 count
+module _ (columns : List Position) (last first : ℕ) (classes : List ℕ) (prepared : Prepared columns last classes) where
+  abbrev count : ℕ
+  count = length columns
 
   pub start-is : start-row columns ≡ 2 ^ count
-  start-is = ap (λ (k : ℕ). 2 ^ k) (held-count low high rule follow last 0 count)
+  start-is = refl
 
   -- The sets that a held set leads to, by the class table.
   pub sets-below : (held : ℕ) → SetsBelow (2 ^ count) held classes
   sets-below held b h =
-      subst (λ (k : ℕ). k < 2 ^ count) (sym (kept-is low high rule follow last count most classes prepared held b h))
-      (subst (λ (k : ℕ). keep columns 0 held b < 2 ^ k) (let z : 0 + length columns ≡ count = omega (arith, held-count low high rule follow last 0 count) in z)
+      subst (λ (k : ℕ). k < 2 ^ count) (sym (kept-is classes last columns prepared held b h))
+      (subst (λ (k : ℕ). keep columns 0 held b < 2 ^ k) (let z : 0 + length columns ≡ count = omega arith in z)
       (keep-below columns 0 held b))
 
   pub sets-are : (held x : ℕ) → held ≡ held-in columns first x → sets-by classes held row-entries ≡ next-sets columns first x
   unfolding sets-by next-sets
   sets-are held x e =
       map-bytes (λ b. bitAnd held (getD classes b 0)) (keep columns 0 held) 0 row-entries
-      (λ b h. kept-is low high rule follow last count most classes prepared held b (omega arith))
+      (λ b h. kept-is classes last columns prepared held b (omega arith))
       ∙ ap (λ (k : ℕ). map (keep columns 0 k) (bytes-from 0 row-entries)) e
 
   -- The positions held in a row of kept positions, as the walk over them joins their follow sets.
-  pub held-is : (x : ℕ) → x < 2 ^ count → joined follow (set-walk x) ≡ held-in columns first x
+  pub held-is : (x : ℕ) → x < 2 ^ count → joined (drop 256 classes) (set-walk x) ≡ held-in columns first x
   unfolding held-in
   held-is x h =
-      let small : x < 2 ^ 64 = below-power x 64 (λ j m. let l = members-below x count j h m in omega arith) in
+      let small : x < 2 ^ 64 = below-power x 64 (λ j m. let l = members-below x count j h m in omega (arith, prepared .few)) in
       let other = ne-eqb x (start-row columns) (λ e. let s = start-is in absurd (omega arith)) in
-      ap (joined follow) (walk-meets-members x small)
-      ∙ follows-of low high rule follow last count most classes prepared x (λ j l. bit-high count x j h (omega arith))
+      ap (joined (drop 256 classes)) (walk-meets-members x small)
+      ∙ follows-of classes last columns prepared x (λ j l. bit-high count x j h (omega arith))
       ∙ (rw other)
 
   -- Row 0 is done: the start leads to the first sets, and the empty set is row 1.
   pub reached-start : (sets sets' : List ℕ) (met : ℕ) → length sets ≡ 256 → getD sets 0 0 ≡ 0
       → ((so-far : List ℕ) → SetsBelow (2 ^ count) first classes → Met 0 so-far → RowsHeld (2 ^ count) sets 1 so-far
       → RowsHeld (2 ^ count) sets' met (meet-all so-far (sets-by classes first row-entries)))
-      → Reached columns first count sets' met 0
+      → Reached columns first sets' met 0
   unfolding table-rows
   reached-start sets sets' met size zero-first joins =
       let start : List ℕ = start-row columns ∷ 0 ∷ [] in
@@ -121,14 +114,14 @@ module _ (low high rule follow : List ℕ) (last first count : ℕ) (most : coun
       )
 
   -- One row more is done.
-  pub reached-next : (sets sets' : List ℕ) (met met' i : ℕ) → met ≤ length sets → i < met → met < most-rows → Reached columns first count sets met i
-      → (held : ℕ) → held ≡ joined follow (set-walk (getD sets i 0))
+  pub reached-next : (sets sets' : List ℕ) (met met' i : ℕ) → met ≤ length sets → i < met → met < most-rows → Reached columns first sets met i
+      → (held : ℕ) → held ≡ joined (drop 256 classes) (set-walk (getD sets i 0))
       → ((so-far : List ℕ) → SetsBelow (2 ^ count) held classes → Met 0 so-far → RowsHeld (2 ^ count) sets met so-far
       → RowsHeld (2 ^ count) sets' met' (meet-all so-far (sets-by classes held row-entries)))
-      → Reached columns first count sets' met' (i + 1)
+      → Reached columns first sets' met' (i + 1)
   reached-next sets sets' met met' i long l few r held e joins = go (r .held)
     where
-      go : RowsHeld (2 ^ count) sets met (r .so-far) → Reached columns first count sets' met' (i + 1)
+      go : RowsHeld (2 ^ count) sets met (r .so-far) → Reached columns first sets' met' (i + 1)
       go (too-many full many) = absurd (omega arith)
       go (all-held h) =
           let below = h .below in
@@ -149,7 +142,7 @@ module _ (low high rule follow : List ℕ) (last first count : ℕ) (most : coun
           }
 
   -- No row is left, or there are more than 256.
-  pub reached-end : (sets : List ℕ) (met i : ℕ) → met ≤ length sets → (met ≤ i) ⊎ (most-rows ≤ met) → Reached columns first count sets met i
+  pub reached-end : (sets : List ℕ) (met i : ℕ) → met ≤ length sets → (met ≤ i) ⊎ (most-rows ≤ met) → Reached columns first sets met i
       → RowsHeld (2 ^ count) sets met (table-rows columns first)
   reached-end sets met i long h r = go (r .held)
     where

@@ -5,13 +5,13 @@ ghost use mathlib.Core.Bool.{cond};
 ghost use mathlib.Core.List.{List};
 ghost use Prim.Native.Nat.{ℕ, _+_, _^_, _≤_, _<_};
 ghost use lib.Dec.{leb};
-ghost use lib.ListN.{length, take};
+ghost use lib.ListN.{length, take, drop};
 ghost use lib.Seq.{paste};
 ghost use Rattle.stage0_laws.specs.Meeting.{meet, meet-all, number-of};
 ghost use Rattle.stage0_laws.specs.MeetingLaws.{Met};
 ghost use Rattle.stage4_lexer.specs.Table.{most-rows, table-rows, table-entries, rule-or-none, table-winners, written-over};
 ghost use Rattle.stage4_lexer.specs.SetWalk.{members};
-ghost use Rattle.stage4_lexer_columns.specs.Held.{held-from};
+ghost use Rattle.stage4_lexer.specs.Positions.{Position};
 ghost use Rattle.stage4_lexer_scanner.specs.Meaning.{Prepared};
 ghost use Rattle.stage4_lexer_scanner.specs.Sets.{first-entry};
 ghost use Rattle.stage4_lexer_table.specs.Rows.{RowsHeld, AllHeld, SetsBelow, sets-by, numbers-by};
@@ -58,18 +58,18 @@ fn meet_set(sets: &mut [u64; 256], count: usize, set: u64) -> usize
 
 // The sets that a row leads to join those met, bytes rising. Most bytes keep what the byte before kept, which has been met; and so has
 // the empty set.
-fn meet_row(sets: &mut [u64; 256], count: usize, held: u64, classes: &[u64; 256]) -> usize
+fn meet_row(sets: &mut [u64; 256], count: usize, held: u64, tables: &[u64; 448]) -> usize
     requires { ⌜ (length (now sets) ≡ 256) × (count ≤ 256) ⌝ }
     ensures { λ r. ⌜ (length (now (sets .exit)) ≡ 256) × (r ≤ 256)
-        × ((start : ℕ) (met : List ℕ) → SetsBelow start held (now (classes .entry)) → Met 0 met
+        × ((start : ℕ) (met : List ℕ) → SetsBelow start held (now (tables .entry)) → Met 0 met
         → RowsHeld start (now (sets .entry)) count met
-        → RowsHeld start (now (sets .exit)) r (meet-all met (sets-by (now (classes .entry)) held 256))) ⌝ }
+        → RowsHeld start (now (sets .exit)) r (meet-all met (sets-by (now (tables .entry)) held 256))) ⌝ }
 {
     let mut next = count;
     let mut before: u64 = 0;
     let mut byte: usize = 0;
     while byte < 256 {
-        let set = held & classes[byte];
+        let set = held & tables[byte];
         if set != before {
             next = meet_set(sets, next, set);
             before = set;
@@ -81,31 +81,22 @@ fn meet_row(sets: &mut [u64; 256], count: usize, held: u64, classes: &[u64; 256]
 
 // The rows of a table: the start leads to the first sets, then row by row, until none is left or there are more than 256.
 fn reach_rows<'a>(
-    count: usize,
-    low: &'a [u8; 64],
-    high: &'a [u8; 64],
-    rule: &'a [u8; 64],
-    follow: &'a [u64; 64],
     last: u64,
     first: u64,
-    classes: &'a [u64; 256],
+    tables: &'a [u64; 448],
 ) -> Rows
-    requires { ⌜ (count ≤ 64)
-        × Prepared (held-from (now low) (now high) (now rule) (now follow) last 0 count) (now classes) ⌝ }
-    ensures { λ r. ⌜ (r .count ≤ 256)
-        × RowsHeld (2 ^ count) (r .sets) (r .count) (table-rows
-        (held-from (now (low .entry)) (now (high .entry)) (now (rule .entry)) (now (follow .entry)) last 0 count)
-        first) ⌝ }
+    ensures { λ r. ⌜ (r .count ≤ 256) × ((ps : List Position) → Prepared ps last (now (tables .entry))
+        → RowsHeld (2 ^ length ps) (r .sets) (r .count) (table-rows ps first)) ⌝ }
 {
     let mut sets = [0u64; 256];
-    let mut met = meet_row(&mut sets, 1, first, classes);
+    let mut met = meet_row(&mut sets, 1, first, tables);
     let mut i: usize = 0;
     while i < met {
         if 256 <= met {
             break;
         }
-        let held = stage4_lexer_scanner::follow_sets(sets[i], follow);
-        met = meet_row(&mut sets, met, held, classes);
+        let held = stage4_lexer_scanner::follow_sets(sets[i], tables);
+        met = meet_row(&mut sets, met, held, tables);
         i += 1;
     }
     Rows { count: met, sets }
@@ -119,17 +110,17 @@ fn fill_row(
     sets: &[u64; 256],
     count: usize,
     held: u64,
-    classes: &[u64; 256],
+    tables: &[u64; 448],
 )
     requires { ⌜ (length (now sets) ≡ 256) × (count ≤ 256) × (number-of (take count (now sets)) 0 ≡ 0) × (at + 256 ≤ length (now table)) ⌝ }
     ensures { λ r. ⌜ now (table .exit)
-        ≡ paste (now (table .entry)) at (numbers-by (take count (now (sets .entry))) (now (classes .entry)) held 256) 256 ⌝ }
+        ≡ paste (now (table .entry)) at (numbers-by (take count (now (sets .entry))) (now (tables .entry)) held 256) 256 ⌝ }
 {
     let mut before: u64 = 0;
     let mut number: u16 = 1;
     let mut byte: usize = 0;
     while byte < 256 {
-        let kept = held & classes[byte];
+        let kept = held & tables[byte];
         if kept != before {
             number = (place_of(sets, count, kept) + 1) as u16;
             before = kept;
@@ -143,41 +134,32 @@ fn fill_row(
 fn fill_table<'a>(
     table: &mut [u16],
     rows: Rows,
-    count: usize,
-    low: &'a [u8; 64],
-    high: &'a [u8; 64],
-    rule: &'a [u8; 64],
-    follow: &'a [u64; 64],
     last: u64,
     first: u64,
-    classes: &'a [u64; 256],
+    tables: &'a [u64; 448],
 )
-    requires { ⌜ (count ≤ 64) × Prepared (held-from (now low) (now high) (now rule) (now follow) last 0 count) (now classes)
-        × AllHeld (2 ^ count) (rows .sets) (rows .count)
-        (table-rows (held-from (now low) (now high) (now rule) (now follow) last 0 count) first)
+    requires { ⌜ ((ps : List Position) × Prepared ps last (now tables) × AllHeld (2 ^ length ps) (rows .sets) (rows .count) (table-rows ps first))
         × (65536 ≤ length (now table)) ⌝ }
-    ensures { λ r. ⌜ now (table .exit) ≡ written-over
-        (table-entries
-        (held-from (now (low .entry)) (now (high .entry)) (now (rule .entry)) (now (follow .entry)) last 0 count)
-        first)
-        (now (table .entry)) ⌝ }
+    ensures { λ r. ⌜ ((ps : List Position) → Prepared ps last (now (tables .entry))
+        → AllHeld (2 ^ length ps) (rows .sets) (rows .count) (table-rows ps first)
+        → now (table .exit) ≡ written-over (table-entries ps first) (now (table .entry))) ⌝ }
 {
     let sets = rows.sets;
     let met = rows.count;
-    fill_row(table, 0, &sets, met, first, classes);
+    fill_row(table, 0, &sets, met, first, tables);
     let mut i: usize = 0;
     while i < met {
-        let held = stage4_lexer_scanner::follow_sets(sets[i], follow);
-        fill_row(table, (i + 1) * 256, &sets, met, held, classes);
+        let held = stage4_lexer_scanner::follow_sets(sets[i], tables);
+        fill_row(table, (i + 1) * 256, &sets, met, held, tables);
         i += 1;
     }
 }
 
 // The rule of the lowest of some last positions, 32 for none.
-fn winner(ending: u64, rule: &[u8; 64]) -> u16
-    ensures { λ r. ⌜ r ≡ rule-or-none (first-entry (now (rule .entry)) (members ending)) ⌝ }
+fn winner(ending: u64, tables: &[u64; 448]) -> u16
+    ensures { λ r. ⌜ r ≡ rule-or-none (first-entry (drop 320 (now (tables .entry))) (members ending)) ⌝ }
 {
-    let ended = stage4_lexer_scanner::lowest_rule(ending, rule);
+    let ended = stage4_lexer_scanner::lowest_rule(ending, tables);
     match ended {
         Ended::NoRule => return 32,
         Ended::Lowest(number) => return number as u16,
@@ -188,31 +170,22 @@ fn winner(ending: u64, rule: &[u8; 64]) -> u16
 fn fill_winners<'a>(
     winners: &mut [u16],
     rows: Rows,
-    count: usize,
-    low: &'a [u8; 64],
-    high: &'a [u8; 64],
-    rule: &'a [u8; 64],
-    follow: &'a [u64; 64],
     last: u64,
     first: u64,
-    classes: &'a [u64; 256],
+    tables: &'a [u64; 448],
 )
-    requires { ⌜ (count ≤ 64) × Prepared (held-from (now low) (now high) (now rule) (now follow) last 0 count) (now classes)
-        × AllHeld (2 ^ count) (rows .sets) (rows .count)
-        (table-rows (held-from (now low) (now high) (now rule) (now follow) last 0 count) first)
+    requires { ⌜ ((ps : List Position) × Prepared ps last (now tables) × AllHeld (2 ^ length ps) (rows .sets) (rows .count) (table-rows ps first))
         × (256 ≤ length (now winners)) ⌝ }
-    ensures { λ r. ⌜ now (winners .exit) ≡ written-over
-        (table-winners
-        (held-from (now (low .entry)) (now (high .entry)) (now (rule .entry)) (now (follow .entry)) last 0 count)
-        first)
-        (now (winners .entry)) ⌝ }
+    ensures { λ r. ⌜ ((ps : List Position) → Prepared ps last (now (tables .entry))
+        → AllHeld (2 ^ length ps) (rows .sets) (rows .count) (table-rows ps first)
+        → now (winners .exit) ≡ written-over (table-winners ps first) (now (winners .entry))) ⌝ }
 {
     let sets = rows.sets;
     let met = rows.count;
     winners[0] = 32;
     let mut i: usize = 0;
     while i < met {
-        winners[i + 1] = winner(sets[i] & last, rule);
+        winners[i + 1] = winner(sets[i] & last, tables);
         i += 1;
     }
 }
@@ -222,38 +195,17 @@ fn fill_winners<'a>(
 pub fn build_table<'a>(
     table: &mut [u16],
     winners: &mut [u16],
-    count: usize,
-    low: &'a [u8; 64],
-    high: &'a [u8; 64],
-    rule: &'a [u8; 64],
-    follow: &'a [u64; 64],
     last: u64,
     first: u64,
-    classes: &'a [u64; 256],
+    tables: &'a [u64; 448],
 ) -> bool
-    requires { ⌜ (count ≤ 64) × Prepared (held-from (now low) (now high) (now rule) (now follow) last 0 count) (now classes)
-        × (65536 ≤ length (now table)) × (256 ≤ length (now winners)) ⌝ }
-    ensures { λ r. ⌜ (r ≡ leb
-        (length (table-rows
-        (held-from (now (low .entry)) (now (high .entry)) (now (rule .entry)) (now (follow .entry)) last 0 count)
-        first))
-        most-rows)
-        × (now (table .exit) ≡ cond r
-        (written-over
-        (table-entries
-        (held-from (now (low .entry)) (now (high .entry)) (now (rule .entry)) (now (follow .entry)) last 0 count)
-        first)
-        (now (table .entry)))
-        (now (table .entry)))
-        × (now (winners .exit) ≡ cond r
-        (written-over
-        (table-winners
-        (held-from (now (low .entry)) (now (high .entry)) (now (rule .entry)) (now (follow .entry)) last 0 count)
-        first)
-        (now (winners .entry)))
-        (now (winners .entry))) ⌝ }
+    requires { ⌜ ((ps : List Position) × Prepared ps last (now tables)) × (65536 ≤ length (now table)) × (256 ≤ length (now winners)) ⌝ }
+    ensures { λ r. ⌜ ((ps : List Position) → Prepared ps last (now (tables .entry))
+        → (r ≡ leb (length (table-rows ps first)) most-rows)
+        × (now (table .exit) ≡ cond r (written-over (table-entries ps first) (now (table .entry))) (now (table .entry)))
+        × (now (winners .exit) ≡ cond r (written-over (table-winners ps first) (now (winners .entry))) (now (winners .entry)))) ⌝ }
 {
-    let rows = reach_rows(count, low, high, rule, follow, last, first, classes);
+    let rows = reach_rows(last, first, tables);
     let met = rows.count;
     if 256 <= met {
         return false;
@@ -261,26 +213,16 @@ pub fn build_table<'a>(
     fill_table(
         table,
         rows,
-        count,
-        low,
-        high,
-        rule,
-        follow,
         last,
         first,
-        classes,
+        tables,
     );
     fill_winners(
         winners,
         rows,
-        count,
-        low,
-        high,
-        rule,
-        follow,
         last,
         first,
-        classes,
+        tables,
     );
     true
 }

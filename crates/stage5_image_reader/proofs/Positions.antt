@@ -3,10 +3,10 @@ use mathlib.Core.Path.{_≡_, refl, sym, ap, subst, _∙_}
 use mathlib.Core.Bool.{Bool, false, _&&_}
 use mathlib.Core.Logic.{⊎-elim}
 use mathlib.Core.List.{List, [], _∷_, _++_}
-use Prim.Native.Nat.{ℕ, zero, suc, _+_, _-_, _^_, _≤_, _<_}
+use Prim.Native.Nat.{ℕ, zero, suc, _+_, _-_, _%_, _^_, _≤_, _<_}
 use native.Mathlib.Omega.{arith}
 use lib.ListN.{length, getD, set, length-append, length-set}
-use lib.Seq.{getD-set-same, getD-set-other}
+use lib.Seq.{getD-drop}
 use lib.Dec.{eqb, leb, ltb}
 use lib.Pow.{pow-pos}
 use borrow.Author.Tests.{ltb-true}
@@ -15,14 +15,13 @@ use Rattle.stage0_laws.specs.Order.{lt-or-le}
 use Rattle.stage0_laws.specs.Truth.{and-true-second}
 use Rattle.stage1_sheet.specs.Field.{stop, got, between}
 use Rattle.stage4_lexer.specs.Positions.{Position}
-use Rattle.stage4_lexer_columns.specs.Held.{held-position, held-from, held-positions}
-use Rattle.stage4_lexer_columns.specs.declared.PositionColumns.{PositionColumns}
 use Rattle.stage5_image.specs.ImageReading.{image-field, read-flag, read-position}
-use Rattle.stage5_image_reader.specs.Answers.{positions-in, columns-from, with-position}
-use Rattle.stage5_image_reader.specs.Tables.{listed, FlagsOf}
-use Rattle.stage5_image_reader.proofs.Fields.{field-got, field-same, field-below, below-limit, flag-reads, flag-stops}
+use Rattle.stage5_image_reader.specs.Answers.{positions-in}
+use Rattle.stage5_image_reader.proofs.Fields.{field-got, field-range, field-same, field-below, below-limit, flag-reads, flag-stops}
+use Rattle.stage4_lexer_scanner.specs.Meaning.{HeldAt, Prepared}
+use Rattle.stage4_lexer_tables.specs.Holding.{no-position}
+use Rattle.stage5_image_reader.specs.Tables.{SameBelow}
 use Rattle.stage5_image_reader.proofs.Turns.{then-got, many-all}
-use Rattle.stage5_image_reader.proofs.Flags.{flags-none, flags-more, snoc-below, snoc-last, listed-is}
 
 -- ---- reading a position
 
@@ -105,109 +104,51 @@ positions-below bytes rules count at e =
     many-all (read-position bytes rules count) (λ least p. p .rule) (λ p. p .rule < rules)
     (λ least at p next. position-below bytes rules count least at) 0 count at e
 
--- ---- columns
-
-pub no-position : Position
-no-position = record { low = 0; high = 0; rule = 0; last = false; follow = 0 }
-
--- A column has what f gives of each position.
-abbrev Column : (Position → ℕ) → List ℕ → List Position → Type 0
-Column f col ps = (k : ℕ) → k < length ps → getD col k 0 ≡ f (getD ps k no-position)
-
-column-more : (f : Position → ℕ) (col : List ℕ) (ps : List Position) (p : Position) (i : ℕ) → length ps ≡ i → i < length col
-    → Column f col ps
-    → Column f (set col i (f p)) (ps ++ (p ∷ []))
-column-more f col ps p i hl h c k m = ⊎-elim below last (lt-or-le k i)
+-- And its class's low byte is not above its high byte.
+position-ordered : (bytes : List ℕ) (rules count least at : ℕ) {p : Position} {next : ℕ}
+    → read-position bytes rules count least at ≡ got p next
+    → p .low ≤ p .high
+unfolding read-position
+position-ordered bytes rules count least at {p} {next} e =
+    let low = then-got (image-field (between 0 255) bytes at) _ e in
+    let high = then-got (image-field (between (low .0) 255) bytes (low .1)) _ (low .3) in
+    let rule = then-got (image-field (λ v. leb least v && ltb v rules) bytes (high .1)) _ (high .3) in
+    let last = then-got (read-flag bytes (rule .1)) _ (rule .3) in
+    let follow = then-got (image-field (λ v. ltb v (2 ^ count)) bytes (last .1)) _ (last .3) in
+    let g = field-range (low .0) 255 bytes (low .1) (high .2) in
+    let h = got-class (follow .3) in
+    omega (arith, g .0, h .0, h .1)
   where
-    below : k < i → getD (set col i (f p)) k 0 ≡ f (getD (ps ++ (p ∷ [])) k no-position)
-    below l =
-        getD-set-other col i k (f p) 0 (λ e. omega arith) ∙ c k (omega arith) ∙ ap f (sym (snoc-below ps p no-position k (omega arith)))
+    got-class : {q : Position} {n : ℕ} → got q n ≡ got p next → (q .low ≡ p .low) × (q .high ≡ p .high)
+    got-class {q} {n} f = let g : q ≡ p = cc in (ap (λ (x : Position). x .low) g, ap (λ (x : Position). x .high) g)
 
-    last : i ≤ k → getD (set col i (f p)) k 0 ≡ f (getD (ps ++ (p ∷ [])) k no-position)
-    last l =
-        let e : k ≡ i = omega (arith, length-append ps (p ∷ [])) in
-        ap (λ (x : ℕ). getD (set col i (f p)) x 0) e ∙ getD-set-same col i (f p) 0 h
-        ∙ ap f (sym (snoc-last ps p no-position k (omega arith)))
+all-at : (P : Position → Type 0) (ps : List Position) → All P ps → (k : ℕ) → k < length ps → P (getD ps k no-position)
+all-at P [] h k l = absurd (omega arith)
+all-at P (p ∷ ps) h zero l = h .0
+all-at P (p ∷ ps) h (suc k) l = all-at P ps (h .1) k (omega arith)
 
--- Columns that hold these positions.
-pub record Columns (c : PositionColumns) (ps : List Position) : Type 0 where
-  pub size : length ps ≡ c .count
-  pub low-size : length (c .low) ≡ 64
-  pub high-size : length (c .high) ≡ 64
-  pub rule-size : length (c .rule) ≡ 64
-  pub follow-size : length (c .follow) ≡ 64
-  pub low : Column (λ p. p .low) (c .low) ps
-  pub high : Column (λ p. p .high) (c .high) ps
-  pub rule : Column (λ p. p .rule) (c .rule) ps
-  pub follow : Column (λ p. p .follow) (c .follow) ps
-  pub last : FlagsOf (λ p. p .last) no-position (c .last) ps
+pub positions-ordered : (bytes : List ℕ) (rules count at : ℕ) {ps : List Position} {next : ℕ}
+    → positions-in bytes rules count at ≡ got ps next
+    → (k : ℕ) → k < length ps → (getD ps k no-position) .low ≤ (getD ps k no-position) .high
+positions-ordered bytes rules count at {ps} e =
+    all-at (λ p. p .low ≤ p .high) ps (many-all (read-position bytes rules count) (λ least p. p .rule) (λ p. p .low ≤ p .high)
+    (λ least at p next. position-ordered bytes rules count least at) 0 count at e)
 
-pub columns-none : (low high rule follow : List ℕ) → length low ≡ 64 → length high ≡ 64 → length rule ≡ 64 → length follow ≡ 64
-    → Columns (columns-from 0 low high rule follow 0 0) []
-unfolding no-position
-columns-none low high rule follow a b c d = record {
-  size = refl;
-  low-size = a;
-  high-size = b;
-  rule-size = c;
-  follow-size = d;
-  low = λ k h. absurd (omega arith);
-  high = λ k h. absurd (omega arith);
-  rule = λ k h. absurd (omega arith);
-  follow = λ k h. absurd (omega arith);
-  last = flags-none (λ p. p .last) no-position refl;
+-- ---- the lexer's words stay
+
+held-same : (ps : List Position) (last i : ℕ) (t t' : List ℕ) → i + length ps ≤ 64 → SameBelow 384 t t' → HeldAt t last i ps → HeldAt t' last i ps
+held-same [] last i t t' few same h = tt
+held-same (p ∷ ps) last i t t' few same h = (
+  getD-drop 256 t' i 0 ∙ same (256 + i) (omega arith) ∙ sym (getD-drop 256 t i 0) ∙ h .0,
+  ap (λ (x : ℕ). x % 256) (getD-drop 320 t' i 0 ∙ same (320 + i) (omega arith) ∙ sym (getD-drop 320 t i 0)) ∙ h .1,
+  h .2,
+  held-same ps last (suc i) t t' (omega arith) same (h .3),
+)
+
+pub prepared-same : (ps : List Position) (last : ℕ) (t t' : List ℕ) → SameBelow 384 t t' → Prepared ps last t → Prepared ps last t'
+prepared-same ps last t t' same h = record {
+  few = h .few;
+  own-classes = λ b l. same b (omega arith) ∙ h .own-classes b l;
+  held = held-same ps last 0 t t' (omega (arith, h .few)) same (h .held);
+  never-falling = h .never-falling;
 }
-
-columns-more : (c : PositionColumns) (ps : List Position) (low high rule last follow : ℕ) → c .count < 64 → Columns c ps
-    → Columns (with-position c low high rule last follow)
-    (ps ++ (record { low = low; high = high; rule = rule; last = eqb last 1; follow = follow } ∷ []))
-unfolding with-position no-position
-columns-more c ps low high rule last follow h s =
-    let p : Position = record { low = low; high = high; rule = rule; last = eqb last 1; follow = follow } in
-    record {
-      size = length-append ps (p ∷ []) ∙ ap (λ (n : ℕ). n + 1) (s .size);
-      low-size = length-set (c .low) (c .count) low ∙ s .low-size;
-      high-size = length-set (c .high) (c .count) high ∙ s .high-size;
-      rule-size = length-set (c .rule) (c .count) rule ∙ s .rule-size;
-      follow-size = length-set (c .follow) (c .count) follow ∙ s .follow-size;
-      low = column-more (λ p. p .low) (c .low) ps p (c .count) (s .size) (omega (arith, s .low-size)) (s .low);
-      high = column-more (λ p. p .high) (c .high) ps p (c .count) (s .size) (omega (arith, s .high-size)) (s .high);
-      rule = column-more (λ p. p .rule) (c .rule) ps p (c .count) (s .size) (omega (arith, s .rule-size)) (s .rule);
-      follow = column-more (λ p. p .follow) (c .follow) ps p (c .count) (s .size) (omega (arith, s .follow-size)) (s .follow);
-      last = flags-more (λ p. p .last) no-position p (c .last) (c .count) ps refl (s .size) (s .last) refl;
-    }
-
--- The same for columns that are so.
-pub columns-next : (c c' : PositionColumns) (ps : List Position) (low high rule last follow : ℕ) → c .count < 64 → Columns c ps
-    → c' ≡ with-position c low high rule last follow
-    → Columns c' (ps ++ (record { low = low; high = high; rule = rule; last = eqb last 1; follow = follow } ∷ []))
-columns-next c c' ps low high rule last follow h s e =
-    let p : Position = record { low = low; high = high; rule = rule; last = eqb last 1; follow = follow } in
-    subst (λ (x : PositionColumns). Columns x (ps ++ (p ∷ []))) (sym e)
-    (columns-more c ps low high rule last follow h s)
-
--- Positions with the same values are one.
-same-position : (p q : Position) → p .low ≡ q .low → p .high ≡ q .high → p .rule ≡ q .rule → p .last ≡ q .last → p .follow ≡ q .follow
-    → p ≡ q
-same-position p q a b c d e =
-    ap (λ (x : ℕ). record { low = x; high = p .high; rule = p .rule; last = p .last; follow = p .follow }) a
-    ∙ ap (λ (x : ℕ). record { low = q .low; high = x; rule = p .rule; last = p .last; follow = p .follow }) b
-    ∙ ap (λ (x : ℕ). record { low = q .low; high = q .high; rule = x; last = p .last; follow = p .follow }) c
-    ∙ ap (λ (x : Bool). record { low = q .low; high = q .high; rule = q .rule; last = x; follow = p .follow }) d
-    ∙ ap (λ (x : ℕ). record { low = q .low; high = q .high; rule = q .rule; last = q .last; follow = x }) e
-
-from-listed : (low high rule follow : List ℕ) (last i n : ℕ)
-    → held-from low high rule follow last i n ≡ listed (held-position low high rule follow last) i n
-unfolding held-from listed
-from-listed low high rule follow last i zero = refl
-from-listed low high rule follow last i (suc n) =
-    ap (λ (l : List Position). held-position low high rule follow last i ∷ l) (from-listed low high rule follow last (suc i) n)
-
-pub columns-held : (c : PositionColumns) (ps : List Position) → Columns c ps → ps ≡ held-positions c
-unfolding held-positions held-position
-columns-held c ps s =
-    listed-is (held-position (c .low) (c .high) (c .rule) (c .follow) (c .last)) no-position (c .count) ps (s .size)
-    (λ k h. let m : k < length ps = omega (arith, s .size) in
-    same-position (held-position (c .low) (c .high) (c .rule) (c .follow) (c .last) k) (getD ps k no-position)
-    (s .low k m) (s .high k m) (s .rule k m) (s .last k) (s .follow k m))
-    ∙ sym (from-listed (c .low) (c .high) (c .rule) (c .follow) (c .last) 0 (c .count))

@@ -23,13 +23,13 @@ use Rattle.stage5_image_reader.proofs.Positions.{field-set}
 readable-refused : {X : Type 0} {p : ℕ} → Readable ≡ Refused p → X
 readable-refused {X} {p} e = let z : _≡_ {A = ℕ} 0 1 = cc in absurd (omega arith)
 
-module _ {bytes : List ℕ} {r : ImageRead} {low high rule follow starts productions : List ℕ} {x : Reading Image} where
+module _ {bytes : List ℕ} {r : ImageRead} {tables productions : List ℕ} {x : Reading Image} where
   pub image-readable : r .outcome ≡ Readable → (i : Image) → x ≡ got i (length bytes)
-      → Decoded bytes (tables-of r low high rule follow starts productions) i
-      → ImageAnswers bytes r low high rule follow starts productions x
+      → Decoded bytes (tables-of r tables productions) i
+      → ImageAnswers bytes r tables productions x
   image-readable o i h d = record { readable = λ e. (i, h, d); refusal = λ e. readable-refused (sym o ∙ e) }
 
-  pub image-refused : {place : ℕ} → r ≡ refused-at place → x ≡ stop 13 place → ImageAnswers bytes r low high rule follow starts productions x
+  pub image-refused : {place : ℕ} → r ≡ refused-at place → x ≡ stop 13 place → ImageAnswers bytes r tables productions x
   unfolding refused-at
   image-refused {place} h e =
       let o = ap (λ (r : ImageRead). r .outcome) h in
@@ -41,9 +41,9 @@ module _ {bytes : List ℕ} {r : ImageRead} {low high rule follow starts product
       same-place : {q : ℕ} → Refused place ≡ Refused q → place ≡ q
       same-place {q} e = cc
 
-  pub image-same : {y : Reading Image} → x ≡ y → ImageAnswers bytes r low high rule follow starts productions y
-      → ImageAnswers bytes r low high rule follow starts productions x
-  image-same e a = subst (λ (z : Reading Image). ImageAnswers bytes r low high rule follow starts productions z) (sym e) a
+  pub image-same : {y : Reading Image} → x ≡ y → ImageAnswers bytes r tables productions y
+      → ImageAnswers bytes r tables productions x
+  image-same e a = subst (λ (z : Reading Image). ImageAnswers bytes r tables productions z) (sym e) a
 
 -- ---- the table before any row
 
@@ -97,11 +97,10 @@ module _ (bytes : List ℕ) (rules : ℕ) (skips : List Bool) (at : ℕ) where
       unfolding read-lexer
       first-stops e₃ = rw (e, e₂, sym (field-set bytes count at-first l) ∙ e₃)
 
-      pub lexer-reads : {first next : ℕ} {held : List Position} → ps ≡ held → image-field (between 0 m) bytes at-first ≡ got first next
-          → read-lexer bytes rules skips at ≡ read-grammar bytes skips held first next
+      pub lexer-reads : {first next : ℕ} → image-field (between 0 m) bytes at-first ≡ got first next
+          → read-lexer bytes rules skips at ≡ read-grammar bytes skips ps first next
       unfolding read-lexer
-      lexer-reads {first} {next} h e₃ =
-          rw (e, e₂, sym (field-set bytes count at-first l) ∙ e₃) (ap (λ (x : List Position). read-grammar bytes skips x first next) h)
+      lexer-reads {first} {next} e₃ = rw (e, e₂, sym (field-set bytes count at-first l) ∙ e₃)
 
 -- ---- from the version on
 

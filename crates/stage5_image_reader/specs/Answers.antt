@@ -10,7 +10,6 @@ use lib.ListN.{set}
 use Rattle.stage1_sheet.specs.Field.{Reading, stop, got, read-many}
 use Rattle.stage3_normal_form.specs.Productions.{Production, Row}
 use Rattle.stage4_lexer.specs.Positions.{Position}
-use Rattle.stage4_lexer_columns.specs.declared.PositionColumns.{PositionColumns}
 use Rattle.stage5_image.specs.ImageReading.{read-position, read-production, read-row}
 use Rattle.stage5_image_reader.specs.Tables.{held-flags, TailAt, EntriesHeld, RowHeld, Room, SameBelow}
 use Rattle.stage5_image_reader.specs.declared.Bounds.{Bounds}
@@ -53,23 +52,6 @@ position-reading (position.Refused place) = stop 13 place
 -- So many positions.
 abbrev pub positions-in : List ℕ → ℕ → ℕ → ℕ → Reading (List Position)
 positions-in bytes rules count at = read-many (read-position bytes rules count) (λ before p. p .rule) 0 count at
-
--- Columns of so many positions, from their parts.
-abbrev pub columns-from : ℕ → List ℕ → List ℕ → List ℕ → List ℕ → ℕ → ℕ → PositionColumns
-columns-from count low high rule follow last first =
-    record { count = count; low = low; high = high; rule = rule; follow = follow; last = last; first = first }
-
--- Columns with one position more.
-unfoldable pub with-position : PositionColumns → ℕ → ℕ → ℕ → ℕ → ℕ → PositionColumns
-with-position c low high rule last follow = record {
-  count = c .count + 1;
-  low = set (c .low) (c .count) low;
-  high = set (c .high) (c .count) high;
-  rule = set (c .rule) (c .count) rule;
-  follow = set (c .follow) (c .count) follow;
-  last = with-flag (c .last) (c .count) (eqb last 1);
-  first = c .first;
-}
 
 -- ---- productions and rows
 

@@ -5,55 +5,59 @@ use mathlib.Core.Bool.{Bool, false}
 use mathlib.Core.List.{List}
 use Prim.Native.Nat.{ℕ, _^_, _≤_, _<_}
 use lib.Dec.{ltb}
-use lib.ListN.{length}
+use lib.ListN.{length, drop}
 use Rattle.stage0_laws.specs.Lists.{All}
 use Rattle.stage1_sheet.specs.Limits.{most-classes, most-expression-nodes}
 use Rattle.stage1_sheet.specs.Field.{Reading, stop, got, and-then, between}
 use Rattle.stage4_lexer.specs.Positions.{Position}
-use Rattle.stage4_lexer_columns.specs.Held.{held-positions}
-use Rattle.stage4_lexer_columns.specs.declared.PositionColumns.{PositionColumns}
+use Rattle.stage4_lexer.specs.PositionBounds.{NeverFalling}
+use Rattle.stage4_lexer_scanner.specs.Meaning.{Prepared}
 use Rattle.stage5_image.specs.Image.{Image}
 use Rattle.stage5_image.specs.ImageReading.{image-field, read-list, read-row, image-end}
-use Rattle.stage5_image_reader.specs.Answers.{positions-in, columns-from}
+use Rattle.stage5_image_reader.specs.Answers.{positions-in}
 use Rattle.stage5_image_reader.specs.Tables.{held-flags, FlagsOf, RowsHeld}
 use Rattle.stage5_image_reader.specs.declared.ImageRead.{ImageRead}
-use Rattle.stage5_image_reader.specs.declared.Lexer.{Lexer}
 use Rattle.stage5_image_reader.specs.declared.Outcome.the-variants.{Readable, Refused}
 
--- The tables of an image. The entry of `productions` for a nonterminal n and a rule r stands at n * 32 + r, and the entry of `starts` for n
--- is the place where its row starts in the image's bytes.
+-- The tables hold these positions, as the scanner relies on it, where their rules never fall.
+abbrev pub LexerHeld : List Position → ℕ → List ℕ → Type 0
+LexerHeld ps last tables = NeverFalling 0 ps → Prepared ps last tables
+
+-- The tables of an image. The entry of `productions` for a nonterminal n and a rule r stands at n * 32 + r, and word 384 + n of `tables` is
+-- the place where the row of n starts in the image's bytes.
 pub record ImageTables : Type 0 where
   pub rules : ℕ
   pub skips : ℕ
-  pub positions : PositionColumns
+  pub last : ℕ
+  pub first : ℕ
   pub nonterminals : ℕ
   pub empty : ℕ
-  pub starts : List ℕ
+  pub tables : List ℕ
   pub productions : List ℕ
 
--- The tables hold an image that stands in these bytes. Left free: the columns' entries from the position count on, and the entries of
--- `starts` and `productions` from the last nonterminal's on; no function reads them.
+-- The tables hold an image that stands in these bytes. Left free: the words of positions from the position count on, and the entries of
+-- starts and `productions` from the last nonterminal's on; no function reads them.
 pub record Decoded (bytes : List ℕ) (t : ImageTables) (i : Image) : Type 0 where
   pub rules : t .rules ≡ length (i .skips)
   pub most-rules : t .rules ≤ 32
   pub skips : FlagsOf (λ b. b) false (t .skips) (i .skips)
-  pub positions : held-positions (t .positions) ≡ i .positions
-  pub most-positions : t .positions .count ≤ 64
+  pub positions : LexerHeld (i .positions) (t .last) (t .tables)
   pub positions-below : All (λ p. p .rule < t .rules) (i .positions)
-  pub first : t .positions .first ≡ i .first
+  pub first : t .first ≡ i .first
   pub some-nonterminals : 1 ≤ t .nonterminals
   pub most-nonterminals : t .nonterminals ≤ 64
-  pub rows : RowsHeld bytes (t .nonterminals) (t .starts) (t .productions) (t .empty) (i .rows)
+  pub rows : RowsHeld bytes (t .nonterminals) (drop 384 (t .tables)) (t .productions) (t .empty) (i .rows)
 
 -- The tables out of what reading returns and the arrays that it filled.
-abbrev pub tables-of : ImageRead → List ℕ → List ℕ → List ℕ → List ℕ → List ℕ → List ℕ → ImageTables
-tables-of r low high rule follow starts productions = record {
+abbrev pub tables-of : ImageRead → List ℕ → List ℕ → ImageTables
+tables-of r tables productions = record {
   rules = r .rules;
   skips = r .skips;
-  positions = columns-from (r .count) low high rule follow (r .last) (r .first);
+  last = r .last;
+  first = r .first;
   nonterminals = r .nonterminals;
   empty = r .empty;
-  starts = starts;
+  tables = tables;
   productions = productions;
 }
 
@@ -63,7 +67,6 @@ refused-at place = record {
   outcome = Refused place;
   rules = 0;
   skips = 0;
-  count = 0;
   last = 0;
   first = 0;
   nonterminals = 0;
@@ -72,9 +75,9 @@ refused-at place = record {
 
 -- The answer to the reading of an image: all bytes were read, and the tables hold the image; or 13 at its place, and what the arrays then
 -- hold is left free.
-pub record ImageAnswers (bytes : List ℕ) (r : ImageRead) (low high rule follow starts productions : List ℕ) (x : Reading Image) : Type 0 where
+pub record ImageAnswers (bytes : List ℕ) (r : ImageRead) (tables productions : List ℕ) (x : Reading Image) : Type 0 where
   pub readable : r .outcome ≡ Readable
-      → (i : Image) × (x ≡ got i (length bytes)) × Decoded bytes (tables-of r low high rule follow starts productions) i
+      → (i : Image) × (x ≡ got i (length bytes)) × Decoded bytes (tables-of r tables productions) i
   pub refusal : {place : ℕ} → r .outcome ≡ Refused place → (x ≡ stop 13 place) × (r ≡ refused-at place)
 
 -- ---- the parts
@@ -91,14 +94,6 @@ read-grammar bytes skips ps first at =
     and-then (image-field (between 1 most-expression-nodes) bytes at)
     (λ nonterminals at-rows. and-then (read-list (read-row bytes skips nonterminals) nonterminals at-rows)
     (λ rows end. image-end bytes (record { skips = skips; positions = ps; first = first; rows = rows }) end))
-
--- The same for the flags and positions that the code holds.
-abbrev pub columns-in : Lexer → List ℕ → List ℕ → List ℕ → List ℕ → PositionColumns
-columns-in l low high rule follow = columns-from (l .count) low high rule follow (l .last) (l .first)
-
-abbrev pub grammar-in : List ℕ → Lexer → List ℕ → List ℕ → List ℕ → List ℕ → ℕ → Reading Image
-grammar-in bytes l low high rule follow at =
-    read-grammar bytes (held-flags (l .skips) (l .rules)) (held-positions (columns-in l low high rule follow)) (l .first) at
 
 -- From the position count on.
 unfoldable pub read-lexer : List ℕ → ℕ → List Bool → ℕ → Reading Image

@@ -11,8 +11,7 @@ use Rattle.stage0_laws.specs.Bits.{bit}
 use Rattle.stage0_laws.specs.Lists.{All}
 use Rattle.stage3_normal_form.specs.Productions.{Production, Row, row-of, no-productions, most-tail, production-of}
 use Rattle.stage4_lexer.specs.Positions.{Position}
-use Rattle.stage4_lexer_columns.specs.Held.{held-positions}
-use Rattle.stage4_lexer_columns.specs.declared.PositionColumns.{PositionColumns}
+use Rattle.stage4_lexer_tables.specs.Holding.{no-position, Holding}
 
 -- ---- sets of flags
 
@@ -37,10 +36,11 @@ pub record FlagsHeld (count s : ℕ) (l : List Bool) : Type 0 where
 
 -- ---- positions
 
--- So many positions in columns. The value that stands for them says nothing.
-pub record PositionsHeld (rules count : ℕ) (c : PositionColumns) (v : ℕ) (ps : List Position) : Type 0 where
-  pub size : c .count ≡ count
-  pub list : ps ≡ held-positions c
+-- So many positions in the tables, with the set of those that are last. The value that stands for them says nothing.
+pub record PositionsHeld (rules count last : ℕ) (tables : List ℕ) (v : ℕ) (ps : List Position) : Type 0 where
+  pub size : length ps ≡ count
+  pub held : Holding ps tables
+  pub last-ones : FlagsOf (λ p. p .last) no-position last ps
   pub below : All (λ p. p .rule < rules) ps
 
 -- ---- productions

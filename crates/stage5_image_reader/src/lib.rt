@@ -1,21 +1,24 @@
 // The image reader: an image's bytes are read once, before the text, into tables for the machine. Question 13 is answered here,
 // and no other: the text is not looked at.
 ghost use mathlib.Core.Path.{_≡_};
-ghost use mathlib.Core.List.{List};
+ghost use mathlib.Core.List.{List, []};
 ghost use Prim.Native.Nat.{ℕ, _+_, _-_, _^_, _≤_, _<_};
 ghost use lib.Dec.{eqb, ltb};
-ghost use lib.ListN.{length};
-ghost use Rattle.stage0_laws.specs.Lists.{All};
+ghost use lib.ListN.{length, drop};
 ghost use Rattle.stage1_sheet.specs.Field.{between};
-ghost use Rattle.stage4_lexer_columns.specs.Held.{held-positions};
+use stage4_lexer_tables::hold_position;
+use stage4_lexer_tables::sweep;
+ghost use Rattle.stage0_laws.specs.Lists.{All};
+ghost use Rattle.stage4_lexer.specs.Positions.{Position};
+ghost use Rattle.stage5_image_reader.specs.Decoded.{refused-at, ImageAnswers, RulesRead, LexerHeld, read-grammar, read-lexer};
+ghost use Rattle.stage4_lexer_tables.specs.Holding.{Holding};
 ghost use Rattle.stage5_image.specs.ImageReading.{image-field, read-flag, read-list, read-position, read-image};
 ghost use Rattle.stage5_image_reader.specs.Tables.{held-flags, FlagsHeld, PositionsHeld, MembersHeld, TailAt, EntryTail};
-ghost use Rattle.stage5_image_reader.specs.Tables.{RowsHeld, Room};
+ghost use Rattle.stage5_image_reader.specs.Tables.{RowsHeld, Room, SameBelow};
 ghost use Rattle.stage5_image_reader.specs.Answers.{field-reading, place-of, Answers, with-flag};
-ghost use Rattle.stage5_image_reader.specs.Answers.{position-reading, positions-in, columns-from};
+ghost use Rattle.stage5_image_reader.specs.Answers.{position-reading, positions-in};
 ghost use Rattle.stage5_image_reader.specs.Answers.{InBounds, production-in, row-in, ProductionAnswers};
 ghost use Rattle.stage5_image_reader.specs.Answers.{ProductionsEntered, RowEntered};
-ghost use Rattle.stage5_image_reader.specs.Decoded.{refused-at, ImageAnswers, RulesRead, columns-in, grammar-in, read-lexer};
 
 // What a field gives: a value and the place after it, or the place of question 13.
 enum Field {
@@ -42,16 +45,6 @@ struct PositionsRead {
     last: u64,
 }
 
-// What stands in no column of an image's rules and positions: the number of rules, those that skip, the number of positions, and the last
-// and the first ones.
-struct Lexer {
-    rules: u64,
-    skips: u64,
-    count: usize,
-    last: u64,
-    first: u64,
-}
-
 // A production that was read: its rule, the place of its tail's length and the place after it, or the place of question 13.
 enum ProductionRead {
     Production { rule: u64, tail: usize, next: usize },
@@ -63,6 +56,15 @@ struct Bounds {
     rules: u64,
     skips: u64,
     nonterminals: u64,
+}
+
+// What stands in no column of an image's rules and positions: the number of rules, those that skip, the number of positions, and the last
+// and the first ones.
+struct Lexer {
+    rules: u64,
+    skips: u64,
+    last: u64,
+    first: u64,
 }
 
 pub enum Outcome {
@@ -77,7 +79,6 @@ pub struct ImageRead {
     pub outcome: Outcome,
     pub rules: usize,
     pub skips: u64,
-    pub count: usize,
     pub last: u64,
     pub first: u64,
     pub nonterminals: usize,
@@ -213,22 +214,11 @@ fn read_position(bytes: &[u8], at: usize, rules: u64, count: u64, least: u64) ->
     }
 }
 
-// So many positions, into columns.
-fn read_positions(
-    bytes: &[u8],
-    at: usize,
-    rules: u64,
-    count: u64,
-    low: &mut [u8; 64],
-    high: &mut [u8; 64],
-    rule: &mut [u8; 64],
-    follow: &mut [u64; 64],
-) -> PositionsRead
-    requires { ⌜ (1 ≤ rules) × (rules ≤ 32) × (count ≤ 64)
-        × (length (now low) ≡ 64) × (length (now high) ≡ 64) × (length (now rule) ≡ 64) × (length (now follow) ≡ 64) ⌝ }
-    ensures { λ r. ⌜ Answers
-        (PositionsHeld rules count
-        (columns-from count (now (low .exit)) (now (high .exit)) (now (rule .exit)) (now (follow .exit)) (r .last) 0))
+// So many positions, into the tables.
+fn read_positions(bytes: &[u8], at: usize, rules: u64, count: u64, tables: &mut [u64; 448]) -> PositionsRead
+    requires { ⌜ (1 ≤ rules) × (rules ≤ 32) × (count ≤ 64) × (length (now tables) ≡ 448) × Holding [] (now tables) ⌝ }
+    ensures { λ r. ⌜ (length (now (tables .exit)) ≡ 448) × Answers
+        (PositionsHeld rules count (r .last) (now (tables .exit)))
         (r .end)
         (positions-in (now (bytes .entry)) rules count at) ⌝ }
 {
@@ -254,10 +244,8 @@ fn read_positions(
                 next: after,
             } => {
                 let n = i as usize;
-                low[n] = low_byte;
-                high[n] = high_byte;
-                rule[n] = rule_number;
-                follow[n] = follow_set;
+                let one = 1u64 << i;
+                hold_position(low_byte, high_byte, rule_number, follow_set, n, one, tables);
                 last_ones = with_flag(last_ones, i, last);
                 least = rule_number as u64;
                 next = after;
@@ -390,12 +378,12 @@ fn read_rows(
     bytes: &[u8],
     at: usize,
     bounds: Bounds,
-    starts: &mut [usize; 64],
+    tables: &mut [u64; 448],
     table: &mut [u16; 2048],
 ) -> Field
-    requires { ⌜ InBounds bounds × (length (now starts) ≡ 64) × Room (now table) 0 ⌝ }
-    ensures { λ r. ⌜ Answers
-        (RowsHeld (now (bytes .entry)) (bounds .nonterminals) (now (starts .exit)) (now (table .exit)))
+    requires { ⌜ InBounds bounds × (length (now tables) ≡ 448) × Room (now table) 0 ⌝ }
+    ensures { λ r. ⌜ SameBelow 384 (now (tables .entry)) (now (tables .exit)) × Answers
+        (RowsHeld (now (bytes .entry)) (bounds .nonterminals) (drop 384 (now (tables .exit))) (now (table .exit)))
         r
         (read-list (row-in (now (bytes .entry)) bounds) (bounds .nonterminals) at) ⌝ }
 {
@@ -406,7 +394,7 @@ fn read_rows(
     let mut i: u64 = 0;
     while i < count {
         let n = i as usize;
-        starts[n] = next;
+        tables[384 + n] = next as u64;
         let row = read_row(bytes, next, bounds, base, table);
         let Field::Value(flag, after) = row else {
             return Field::Refused(place_of(row));
@@ -427,7 +415,6 @@ fn refused(place: usize) -> ImageRead
         outcome: Outcome::Refused(place),
         rules: 0,
         skips: 0,
-        count: 0,
         last: 0,
         first: 0,
         nonterminals: 0,
@@ -440,15 +427,13 @@ fn read_grammar(
     bytes: &[u8],
     at: usize,
     lexer: Lexer,
-    starts: &mut [usize; 64],
+    tables: &mut [u64; 448],
     productions: &mut [u16; 2048],
 ) -> ImageRead
-    requires { ⌜ RulesRead (lexer .rules) (lexer .skips) × (lexer .count ≤ 64)
-        × (length (now starts) ≡ 64) × Room (now productions) 0 ⌝ }
-    ensures { λ r. ⌜ ((low high rule follow : List ℕ)
-        → All (λ p. p .rule < lexer .rules) (held-positions (columns-in lexer low high rule follow))
-        → ImageAnswers (now (bytes .entry)) r low high rule follow (now (starts .exit)) (now (productions .exit))
-        (grammar-in (now (bytes .entry)) lexer low high rule follow at)) ⌝ }
+    requires { ⌜ RulesRead (lexer .rules) (lexer .skips) × (length (now tables) ≡ 448) × Room (now productions) 0 ⌝ }
+    ensures { λ r. ⌜ ((ps : List Position) → LexerHeld ps (lexer .last) (now (tables .entry)) → All (λ p. p .rule < lexer .rules) ps
+        → ImageAnswers (now (bytes .entry)) r (now (tables .exit)) (now (productions .exit))
+        (read-grammar (now (bytes .entry)) (held-flags (lexer .skips) (lexer .rules)) ps (lexer .first) at)) ⌝ }
 {
     let count = read_between(bytes, at, 1, 64);
     let Field::Value(nonterminals, at_rows) = count else {
@@ -459,7 +444,7 @@ fn read_grammar(
         skips: lexer.skips,
         nonterminals,
     };
-    let rows = read_rows(bytes, at_rows, bounds, starts, productions);
+    let rows = read_rows(bytes, at_rows, bounds, tables, productions);
     let Field::Value(empty, end) = rows else {
         return refused(place_of(rows));
     };
@@ -470,7 +455,6 @@ fn read_grammar(
         outcome: Outcome::Readable,
         rules: lexer.rules as usize,
         skips: lexer.skips,
-        count: lexer.count,
         last: lexer.last,
         first: lexer.first,
         nonterminals: nonterminals as usize,
@@ -484,29 +468,25 @@ fn read_lexer(
     at: usize,
     rules: u64,
     skips: u64,
-    low: &mut [u8; 64],
-    high: &mut [u8; 64],
-    rule: &mut [u8; 64],
-    follow: &mut [u64; 64],
-    starts: &mut [usize; 64],
+    tables: &mut [u64; 448],
     productions: &mut [u16; 2048],
 ) -> ImageRead
     requires { ⌜ RulesRead rules skips
-        × (length (now low) ≡ 64) × (length (now high) ≡ 64) × (length (now rule) ≡ 64) × (length (now follow) ≡ 64)
-        × (length (now starts) ≡ 64) × Room (now productions) 0 ⌝ }
+        × (length (now tables) ≡ 448) × Holding [] (now tables) × Room (now productions) 0 ⌝ }
     ensures { λ r. ⌜ ImageAnswers (now (bytes .entry)) r
-        (now (low .exit)) (now (high .exit)) (now (rule .exit)) (now (follow .exit)) (now (starts .exit)) (now (productions .exit))
+        (now (tables .exit)) (now (productions .exit))
         (read-lexer (now (bytes .entry)) rules (held-flags skips rules) at) ⌝ }
 {
     let size = read_between(bytes, at, 1, 64);
     let Field::Value(count, at_positions) = size else {
         return refused(place_of(size));
     };
-    let positions = read_positions(bytes, at_positions, rules, count, low, high, rule, follow);
+    let positions = read_positions(bytes, at_positions, rules, count, tables);
     let end = positions.end;
     let Field::Value(_, at_first) = end else {
         return refused(place_of(end));
     };
+    sweep(tables);
     let first = read_between(bytes, at_first, 0, largest_set(count));
     let Field::Value(first_set, at_nonterminals) = first else {
         return refused(place_of(first));
@@ -514,28 +494,22 @@ fn read_lexer(
     let lexer = Lexer {
         rules,
         skips,
-        count: count as usize,
         last: positions.last,
         first: first_set,
     };
-    read_grammar(bytes, at_nonterminals, lexer, starts, productions)
+    read_grammar(bytes, at_nonterminals, lexer, tables, productions)
 }
 
 // Reads an image: question 13, and the tables for the machine, into arrays that the caller has: the columns of its positions, the start of
 // each row, and the table of productions, which is all zero before.
 pub fn read_image(
     bytes: &[u8],
-    low: &mut [u8; 64],
-    high: &mut [u8; 64],
-    rule: &mut [u8; 64],
-    follow: &mut [u64; 64],
-    starts: &mut [usize; 64],
+    tables: &mut [u64; 448],
     productions: &mut [u16; 2048],
 ) -> ImageRead
-    requires { ⌜ (length (now low) ≡ 64) × (length (now high) ≡ 64) × (length (now rule) ≡ 64) × (length (now follow) ≡ 64)
-        × (length (now starts) ≡ 64) × Room (now productions) 0 ⌝ }
+    requires { ⌜ (length (now tables) ≡ 448) × Holding [] (now tables) × Room (now productions) 0 ⌝ }
     ensures { λ r. ⌜ ImageAnswers (now (bytes .entry)) r
-        (now (low .exit)) (now (high .exit)) (now (rule .exit)) (now (follow .exit)) (now (starts .exit)) (now (productions .exit))
+        (now (tables .exit)) (now (productions .exit))
         (read-image (now (bytes .entry))) ⌝ }
 {
     let version = read_between(bytes, 0, 1, 1);
@@ -555,11 +529,7 @@ pub fn read_image(
         at_count,
         rules,
         skips,
-        low,
-        high,
-        rule,
-        follow,
-        starts,
+        tables,
         productions,
     )
 }

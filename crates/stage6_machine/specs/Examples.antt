@@ -8,7 +8,9 @@ use Rattle.stage1_sheet.specs.Expression.{Expression, epsilon, bottom, token, s
 use Rattle.stage1_sheet.specs.Sheet.{Rule, Sheet}
 use Rattle.stage5_image.specs.Image.{image-of}
 use Rattle.stage6_machine.specs.Answer.{Answer, answer}
-use Rattle.stage6_machine.specs.Run.{run-image, long-enough}
+use Rattle.stage6_machine.specs.Trace.{answer-of}
+use Rattle.stage6_machine.specs.Lent.{long-enough}
+use Rattle.stage6_machine.specs.Run.{trace}
 use Rattle.stage6_machine.specs.Computing.{computing-machine}
 
 pub record Example : Type 0 where
@@ -48,6 +50,6 @@ examples =
     ∷ example letters (sequence (token 0) (sequence (token 1) (token 0))) (97 ∷ 98 ∷ []) (answer 16 2 2)
     ∷ []
 
-pub examples-answered : map (λ x. run-image (image-of (x .sheet)) (long-enough (x .text)) (x .text)) examples ≡ map (λ x. x .answered) examples
+pub examples-answered : map (λ x. answer-of (trace (image-of (x .sheet)) (long-enough (x .text)) (x .text))) examples ≡ map (λ x. x .answered) examples
 unfolding examples computing-machine
 examples-answered = refl

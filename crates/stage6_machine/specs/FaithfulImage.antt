@@ -15,7 +15,7 @@ use Rattle.stage1_sheet.specs.Sheet.{Rule, Sheet}
 use Rattle.stage1_sheet.specs.WellFormed.{WithinLimits}
 use Rattle.stage2_types.specs.Denotation.{Language, Denotes}
 use Rattle.stage2_types.specs.Types.{LanguageType, _⊢_∶_}
-use Rattle.stage3_normal_form.specs.Productions.{Row, row-of, most-growth}
+use Rattle.stage3_normal_form.specs.Productions.{Row, row-of, Taking, most-growth}
 use Rattle.stage3_normal_form.specs.NormalForm.{normal-form}
 use Rattle.stage3_normal_form.specs.NodeLanguages.{language-of}
 use Rattle.stage3_normal_form.specs.Unfolding.{concatenation}
@@ -33,9 +33,10 @@ use Rattle.stage5_image.specs.Simulation.{Simulates, image-simulates}
 use Rattle.stage5_image.specs.ImageLaws.{normal-form-inside, normal-form-some}
 use Rattle.stage5_image.specs.Image.{Image, plain-image, skips-rule}
 use Rattle.stage5_image.specs.Unfolding.{Returns}
-use Rattle.stage6_machine.specs.Turn.{take-rule, all-nullable}
-use Rattle.stage6_machine.specs.Run.{first-state, run-from, long-enough}
-use Rattle.stage6_machine.specs.RunsLaws.{start-runs}
+use Rattle.stage6_machine.specs.Trace.{taking, all-nullable, start-state, answer-of}
+use Rattle.stage6_machine.specs.Lent.{long-enough}
+use Rattle.stage6_machine.specs.Run.{trace-from}
+use Rattle.stage6_machine.specs.RunLaws.{start-traces}
 use Rattle.stage6_machine.specs.OwnAnswer.{ActionOf, OwnAnswerByNumber}
 use Rattle.stage6_machine.specs.TakingLaws.{Taken, taken, nullable-same, numbers-of, AllKnown}
 use Rattle.stage6_machine.specs.RunAnswers.{TakenIs, Faithful, runs-own-answer}
@@ -88,30 +89,30 @@ module _ (s : Sheet) {a : LanguageType} (limits : WithinLimits s) (typed : [] �
       rw (h .pending-are) (λ y. w .0 (x .0 (n .0 y)), λ y. n .1 (x .1 (w .1 y)))
 
   -- What the token's step says of the words is what the sheet allows.
-  after-step : (pending tokens : List ℕ) (h : StandsFor pending tokens) (t : ℕ) (o : Option (List ℕ)) → StepWords (language-of e) t (h .nodes) o
+  after-step : (pending tokens : List ℕ) (h : StandsFor pending tokens) (t : ℕ) (o : Option Taking) → StepWords (language-of e) t (h .nodes) o
       → AllKnown Known o → GrowsBy most-growth (h .nodes) o → TakenIs s StandsFor pending tokens t (numbers-of number o)
   after-step pending tokens h t none f k g = λ l. f (l .0) (h .words (t ∷ l .0) .1 (l .1))
-  after-step pending tokens h t (some next) f k g = (
+  after-step pending tokens h t (some x) f k g = (
     (f .2 .0, h .words (t ∷ f .2 .0) .0 (f .2 .1)),
     record {
-      nodes = next;
+      nodes = x .pending;
       pending-are = refl;
-      known = k;
+      known = k .1;
       ready = f .0;
-      words = λ w. rw (append-assoc tokens (t ∷ []) w) (λ x. h .words (t ∷ w) .0 (f .1 w .1 x), λ x. f .1 w .0 (h .words (t ∷ w) .1 x));
+      words = λ w. rw (append-assoc tokens (t ∷ []) w) (λ y. h .words (t ∷ w) .0 (f .1 w .1 y), λ y. f .1 w .0 (h .words (t ∷ w) .1 y));
     },
-    omega (arith, ap length (h .pending-are), length-map (h .nodes) number, length-map next number),
+    omega (arith, ap length (h .pending-are), length-map (h .nodes) number, length-map (x .pending) number),
   )
 
   takes-right : (pending tokens : List ℕ) (k t : ℕ) → StandsFor pending tokens → ActionOf s k (suc t)
-      → TakenIs s StandsFor pending tokens t (take-rule ((plain-image s) .rows) pending k)
+      → TakenIs s StandsFor pending tokens t (taking ((plain-image s) .rows) pending k)
   unfolding plain-image
   takes-right pending tokens k t h act =
       let r : Returns (s .rules) k t = record { rule = act .0; at = act .1; returns = act .2 } in
       let x = taken (s .rules) (normal-form e) (numbered (fused (s .rules) (normal-form e))) number Known same t k r (h .nodes) (h .known) in
       let step = step-words (language-of e) (row-of (normal-form e)) (normal-form-fits typed) (x .token-step) (h .ready) in
-      let o : take-rule (numbered (fused (s .rules) (normal-form e))) pending k ≡ numbers-of number (x .after) =
-      ap (λ (l : List ℕ). take-rule (numbered (fused (s .rules) (normal-form e))) l k) (h .pending-are) ∙ x .numbered in
+      let o : taking (numbered (fused (s .rules) (normal-form e))) pending k ≡ numbers-of number (x .after) =
+      ap (λ (l : List ℕ). taking (numbered (fused (s .rules) (normal-form e))) l k) (h .pending-are) ∙ x .numbered in
       rw o (after-step pending tokens h t (x .after) step (x .known) (pending-grows typed (limits .nodes-most) (x .token-step)))
 
   pub image-faithful : empty-match (s .rules) 0 ≡ none → Faithful s (plain-image s) StandsFor
@@ -125,7 +126,7 @@ module _ (s : Sheet) {a : LanguageType} (limits : WithinLimits s) (typed : [] �
 
   -- So there is an own answer by number to every text: what a run of this image answers.
   pub answered-by-number : empty-match (s .rules) 0 ≡ none → (text : List ℕ)
-      → OwnAnswerByNumber s text (run-from (plain-image s) (long-enough text) text (length text) first-state)
+      → OwnAnswerByNumber s text (answer-of (trace-from (plain-image s) (long-enough text) text (length text) start-state))
   answered-by-number no-empty text =
       runs-own-answer s text (plain-image s) (long-enough text) StandsFor (image-faithful no-empty) (omega arith) start-stands
-      (start-runs (plain-image s) text (long-enough text))
+      (start-traces (plain-image s) (long-enough text) text)

@@ -1,15 +1,15 @@
 -- Running an image over a text, and the sheet's own answer to a text: first the definitions, then the laws.
 pub mod Answer
-pub mod Turn
-pub mod Run
+pub mod Trace
+pub mod Lent
 pub mod Runs
-pub mod TableRun
-pub mod TableRuns
+pub mod Run
 pub mod OwnAnswer
 pub mod Lexes
 pub mod Computing
-pub mod TurnLaws
+pub mod RunLaws
 pub mod RunsLaws
+pub mod LentLaws
 pub mod OwnAnswerLaws
 pub mod OrderedAnswers
 pub mod AcceptanceLaws
@@ -17,6 +17,4 @@ pub mod SpelledOutAnswers
 pub mod TakingLaws
 pub mod RunAnswers
 pub mod FaithfulImage
-pub mod StackLaws
-pub mod TableRunLaws
 pub mod Examples

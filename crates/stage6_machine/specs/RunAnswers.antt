@@ -13,7 +13,7 @@ use lib.Dec.{eqb}
 use borrow.Author.Tests.{le-ltb, eq-eqb, ne-eqb}
 use Rattle.stage1_sheet.specs.Sheet.{Rule, Sheet}
 use Rattle.stage2_types.specs.Denotation.{Denotes}
-use Rattle.stage3_normal_form.specs.Productions.{most-growth}
+use Rattle.stage3_normal_form.specs.Productions.{Taking, most-growth}
 use Rattle.stage4_lexer.specs.Words.{RuleAt}
 use Rattle.stage4_lexer.specs.RuleOrder.{by-number}
 use Rattle.stage4_lexer.specs.LongestMatch.{LongestMatch, NoMatch}
@@ -22,35 +22,36 @@ use Rattle.stage4_lexer.specs.Walk.{longest-match}
 use Rattle.stage4_lexer.specs.LongestMatchLaws.{Right}
 use Rattle.stage5_image.specs.Image.{Image}
 use Rattle.stage6_machine.specs.Answer.{Answer, answer}
-use Rattle.stage6_machine.specs.Turn.{take-rule, all-nullable}
-use Rattle.stage6_machine.specs.Run.{match-at, long-enough}
-use Rattle.stage6_machine.specs.Runs.{RunsFrom, nullable-at-end, pending-at-end, nothing-matched, rule-skipped, rule-untaken, stack-overflowed, rule-taken}
+use Rattle.stage6_machine.specs.Trace.{match-at, taking, all-nullable, take-of, State, start-state, Ended, answer-of}
+use Rattle.stage6_machine.specs.Lent.{long-enough}
+use Rattle.stage6_machine.specs.Runs.{Matches, Traces, rule-skipped, rule-taken, nothing-matched, rule-untaken, stack-overflowed}
+use Rattle.stage6_machine.specs.Runs.{nullable-at-end, pending-at-end}
 use Rattle.stage6_machine.specs.OwnAnswer.{Allowed, ActionOf, AnswersFrom, accepts, ends-early, no-rule, skips, takes, refuses, OwnAnswerByNumber}
 
 -- What taking a token's rule answers: refused, and no denoted sequence goes on with the token; or taken, some does, and the
 -- pending ones that are left stand for the tokens with it. `StandsFor pending tokens` is what they stand for.
-abbrev pub TakenIs : Sheet → (List ℕ → List ℕ → Type 0) → List ℕ → List ℕ → ℕ → Option (List ℕ) → Type 0
+abbrev pub TakenIs : Sheet → (List ℕ → List ℕ → Type 0) → List ℕ → List ℕ → ℕ → Option Taking → Type 0
 TakenIs s StandsFor pending tokens t none = Allowed s tokens t → ⊥
-TakenIs s StandsFor pending tokens t (some next) =
-    Allowed s tokens t × StandsFor next (tokens ++ (t ∷ [])) × (length next ≤ length pending + most-growth)
+TakenIs s StandsFor pending tokens t (some x) =
+    Allowed s tokens t × StandsFor (x .pending) (tokens ++ (t ∷ [])) × (length (x .pending) ≤ length pending + most-growth)
 
 -- The four facts about an image of a sheet.
 pub record Faithful (s : Sheet) (image : Image) (StandsFor : List ℕ → List ℕ → Type 0) : Type 0 where
   pub matching : (text : List ℕ) → Right (s .rules) text (longest-match (image .positions) (image .first) text)
   pub skipping : (k : ℕ) (r : Rule) → RuleAt (s .rules) k r → getD (image .skips) k false ≡ eqb (r .action) 0
   pub taking : (pending tokens : List ℕ) (k t : ℕ) → StandsFor pending tokens → ActionOf s k (suc t)
-      → TakenIs s StandsFor pending tokens t (take-rule (image .rows) pending k)
+      → TakenIs s StandsFor pending tokens t (taking (image .rows) pending k)
   pub ending : (pending tokens : List ℕ) → StandsFor pending tokens → (all-nullable (image .rows) pending ≡ true) ↔ Denotes (s .expression) tokens
 
 module _ (s : Sheet) (text : List ℕ) (image : Image) (entries : ℕ) (StandsFor : List ℕ → List ℕ → Type 0)
     (faithful : Faithful s image StandsFor) (room : long-enough text ≤ entries) where
-  -- At place p, with the pending ones for the tokens so far, of which there are `count`.
-  record Here (p : ℕ) (pending tokens : List ℕ) (count : ℕ) : Type 0 where
-    inside : p ≤ length text
-    counted : count ≡ length tokens
-    stands : StandsFor pending tokens
-    few : length pending ≤ 1 + most-growth * count
-    earlier : count ≤ p
+  -- In a state whose pending nonterminals stand for the tokens so far.
+  record Here (x : State) (tokens : List ℕ) : Type 0 where
+    inside : x .place ≤ length text
+    counted : length (x .takes) ≡ length tokens
+    stands : StandsFor (x .pending) tokens
+    few : length (x .pending) ≤ 1 + most-growth * length (x .takes)
+    earlier : length (x .takes) ≤ x .place
 
   -- A match that the image finds is the sheet's, with the action of its rule.
   record MatchFound (p rule n : ℕ) : Type 0 where
@@ -93,16 +94,52 @@ module _ (s : Sheet) (text : List ℕ) (image : Image) (entries : ℕ) (StandsFo
       → length next ≤ length pending + most-growth → (length next ≤ 1 + most-growth * suc count) × (length next ≤ entries)
   few-next p count pending next l c f g = (omega arith, omega (arith, room))
 
-  runs-answer : {p : ℕ} {pending : List ℕ} {count : ℕ} {a : Answer} → RunsFrom image text entries p pending count a → (tokens : List ℕ)
-      → Here p pending tokens count → AnswersFrom by-number s text p tokens a
-  runs-answer (nullable-at-end {pending = pending} e n) tokens h =
-      rw (h .counted) (accepts e (faithful .ending pending tokens (h .stands) .0 n))
-  runs-answer (pending-at-end {pending = pending} e n) tokens h =
-      rw (h .counted) (ends-early e (λ d. true≢false (sym (faithful .ending pending tokens (h .stands) .1 d) ∙ n)))
-  runs-answer (nothing-matched {p = p} l m) tokens h = rw (h .counted) (no-rule l (not-found p m))
-  runs-answer (rule-skipped {p = p} rule n l m k r) tokens h =
-      let f = found p rule n l m in
-      skips rule n l (f .longest) (skipping rule (f .action) (f .acts) k)
+  -- What the sheet says of the token of a rule that a run takes or refuses.
+  module _ (x : State) (tokens : List ℕ) (h : Here x tokens) (rule n : ℕ) (w : Matches image text x rule n false) where
+    match-here : MatchFound (x .place) rule n
+    match-here = found (x .place) rule n (w .before-end) (w .longest)
+
+    token-here : (t : ℕ) × ActionOf s rule (suc t)
+    token-here = returning rule (match-here .action) (match-here .acts) (w .skipping)
+
+    taken-here : (o : Option Taking) → taking (image .rows) (x .pending) rule ≡ o → TakenIs s StandsFor (x .pending) tokens (token-here .0) o
+    taken-here o e =
+        subst (TakenIs s StandsFor (x .pending) tokens (token-here .0)) e
+        (faithful .taking (x .pending) tokens rule (token-here .0) (h .stands) (token-here .1))
+
+    fits-here : (t : Taking) → taking (image .rows) (x .pending) rule ≡ some t
+        → (length (t .pending) ≤ 1 + most-growth * suc (length (x .takes))) × (length (t .pending) ≤ entries)
+    fits-here t e =
+        few-next (x .place) (length (x .takes)) (x .pending) (t .pending) (w .before-end) (h .earlier) (h .few) (taken-here (some t) e .2)
+
+    -- The state after the take.
+    next-here : (t : Taking) (e : taking (image .rows) (x .pending) rule ≡ some t)
+        → Here (record {
+          place = x .place + n;
+          pending = t .pending;
+          takes = x .takes ++ (take-of (x .place) n rule (t .taker) ∷ []);
+        })
+        (tokens ++ (token-here .0 ∷ []))
+    next-here t e =
+        let one = length-append (x .takes) (take-of (x .place) n rule (t .taker) ∷ []) in
+        let few = fits-here t e .0 in record {
+          inside = match-here .further;
+          counted = omega (arith, h .counted, length-append tokens (token-here .0 ∷ []), one);
+          stands = taken-here (some t) e .1;
+          few = omega (arith, few, one);
+          earlier = omega (arith, h .earlier, match-here .some-bytes, one);
+        }
+
+  runs-answer : {x : State} {e : Ended} → Traces image text entries x e → (tokens : List ℕ) → Here x tokens
+      → AnswersFrom by-number s text (x .place) tokens (answer-of e)
+  unfolding answer-of
+  runs-answer {x} (nullable-at-end e n) tokens h = rw (h .counted) (accepts e (faithful .ending (x .pending) tokens (h .stands) .0 n))
+  runs-answer {x} (pending-at-end e n) tokens h =
+      rw (h .counted) (ends-early e (λ d. true≢false (sym (faithful .ending (x .pending) tokens (h .stands) .1 d) ∙ n)))
+  runs-answer {x} (nothing-matched l m) tokens h = rw (h .counted) (no-rule l (not-found (x .place) m))
+  runs-answer {x} (rule-skipped rule n w r) tokens h =
+      let f = found (x .place) rule n (w .before-end) (w .longest) in
+      skips rule n (w .before-end) (f .longest) (skipping rule (f .action) (f .acts) (w .skipping))
       (runs-answer r tokens (record {
         inside = f .further;
         counted = h .counted;
@@ -110,31 +147,17 @@ module _ (s : Sheet) (text : List ℕ) (image : Image) (entries : ℕ) (StandsFo
         few = h .few;
         earlier = (let c = h .earlier in omega arith);
       }))
-  runs-answer (rule-untaken {p = p} {pending = pending} rule n l m k t) tokens h =
-      let f = found p rule n l m in
-      let token = returning rule (f .action) (f .acts) k in
-      let x = subst (TakenIs s StandsFor pending tokens (token .0)) t (faithful .taking pending tokens rule (token .0) (h .stands) (token .1)) in
-      rw (h .counted) (refuses rule n (token .0) l (f .longest) (token .1) x)
-  runs-answer (stack-overflowed {p = p} {pending = pending} {count = count} rule n next l m k t o) tokens h =
-      let f = found p rule n l m in
-      let token = returning rule (f .action) (f .acts) k in
-      let x = subst (TakenIs s StandsFor pending tokens (token .0)) t (faithful .taking pending tokens rule (token .0) (h .stands) (token .1)) in
-      let fits = few-next p count pending next l (h .earlier) (h .few) (x .2) in
-      absurd (omega (arith, fits .1))
-  runs-answer (rule-taken {p = p} {pending = pending} {count = count} rule n next l m k t o r) tokens h =
-      let f = found p rule n l m in
-      let token = returning rule (f .action) (f .acts) k in
-      let x = subst (TakenIs s StandsFor pending tokens (token .0)) t (faithful .taking pending tokens rule (token .0) (h .stands) (token .1)) in
-      takes rule n (token .0) l (f .longest) (token .1) (x .0)
-      (runs-answer r (tokens ++ (token .0 ∷ [])) (record {
-        inside = f .further;
-        counted = (let e = h .counted in omega (arith, length-append tokens (token .0 ∷ [])));
-        stands = x .1;
-        few = few-next p count pending next l (h .earlier) (h .few) (x .2) .0;
-        earlier = (let c = h .earlier in let b = f .some-bytes in omega arith);
-      }))
+  runs-answer {x} (rule-untaken rule n w t) tokens h =
+      let token = token-here x tokens h rule n w in
+      rw (h .counted)
+      (refuses rule n (token .0) (w .before-end) (match-here x tokens h rule n w .longest) (token .1) (taken-here x tokens h rule n w none t))
+  runs-answer {x} (stack-overflowed rule n t w e o) tokens h = absurd (omega (arith, o, fits-here x tokens h rule n w t e .1))
+  runs-answer {x} (rule-taken rule n t w e o r) tokens h =
+      let token = token-here x tokens h rule n w in
+      takes rule n (token .0) (w .before-end) (match-here x tokens h rule n w .longest) (token .1) (taken-here x tokens h rule n w (some t) e .0)
+      (runs-answer r (tokens ++ (token .0 ∷ [])) (next-here x tokens h rule n w t e))
 
   -- From the start: nonterminal 0 alone stands for no tokens yet.
-  pub runs-own-answer : StandsFor (0 ∷ []) [] → {a : Answer} → RunsFrom image text entries 0 (0 ∷ []) 0 a → OwnAnswerByNumber s text a
+  pub runs-own-answer : StandsFor (0 ∷ []) [] → {e : Ended} → Traces image text entries start-state e → OwnAnswerByNumber s text (answer-of e)
   runs-own-answer start r =
       runs-answer r [] (record { inside = omega arith; counted = refl; stands = start; few = omega arith; earlier = omega arith })

@@ -1,178 +1,188 @@
--- What `run` answers is what the relation says, by one induction over the turns; and the relation has no other answer.
+-- A run with all that it is lent: `run` gives what the relation says, and nothing else does. First how a run begins, question by question.
 use mathlib.Core.Path.{_≡_, refl, sym, ap, ap₂, subst, _∙_}
-use mathlib.Core.Bool.{Bool, true, false, cond}
-use mathlib.Core.List.{List, [], _∷_}
-use mathlib.Core.Logic.{⊎-elim}
-use Prim.Native.Nat.{ℕ, zero, suc, _+_, _≤_, _<_}
+use mathlib.Core.Bool.{Bool, true, false, true≢false, _||_, cond}
+use mathlib.Core.List.{List}
+use mathlib.Core.Logic.{_⊎_, inl, inr, ⊎-elim, _↔_}
+use mathlib.Core.Option.{Option, none, some}
+use Prim.Native.Nat.{ℕ, _≤_, _<_}
 use native.Mathlib.Omega.{arith}
 use lib.ListN.{length}
+use lib.Dec.{ltb}
 use borrow.Author.Tests.{lt-ltb, le-ltb}
 use Rattle.stage0_laws.specs.Order.{lt-or-le}
 use Rattle.stage1_sheet.specs.Field.{Reading, stop, got}
 use Rattle.stage1_sheet.specs.FieldLaws.{Bytes}
-use Rattle.stage4_lexer.specs.Match.{Match, no-match, matched}
+use Rattle.stage4_lexer.specs.Table.{most-rows}
 use Rattle.stage5_image.specs.Image.{Image}
 use Rattle.stage5_image.specs.ImageFields.{ReadableAs, Readable}
 use Rattle.stage5_image.specs.ImageReading.{read-image}
 use Rattle.stage5_image.specs.ReadableImages.{read-refusal}
 use Rattle.stage5_image.specs.FieldsLaws.{first-offence-one, stop-offends, read-readable, readable-read}
-use Rattle.stage6_machine.specs.Answer.{Answer, answer}
-use Rattle.stage6_machine.specs.Turn.{State, state, Turn, goes-on, ends, turn, all-nullable, at-text-end}
-use Rattle.stage6_machine.specs.Run.{most-text-bytes, match-at, text-turn, run-from, first-state, run-image, run-reading, run}
-use Rattle.stage6_machine.specs.TurnLaws.{TurnGoes, by-no-match, by-skip, by-refusal, by-overflow, by-taking, turn-goes}
-use Rattle.stage6_machine.specs.TurnLaws.{turn-unmatched, turn-skips, turn-refuses, turn-overflows, turn-takes}
-use Rattle.stage6_machine.specs.TurnLaws.{turn-at-end, turn-before-end, run-goes-on, run-stops, run-at-end, Onward, turn-onward}
-use Rattle.stage6_machine.specs.Runs.{RunsFrom, nullable-at-end, pending-at-end, nothing-matched, rule-skipped, rule-untaken, stack-overflowed, rule-taken}
-use Rattle.stage6_machine.specs.Runs.{Runs, long-text, unreadable, no-entry, started}
+use Rattle.stage6_machine.specs.Trace.{start-state, Ended, ended}
+use Rattle.stage6_machine.specs.Lent.{most-text-bytes, lent-entries, Scanner, Lent, stack-alone, Ran, rows-of, turned-away, finished}
+use Rattle.stage6_machine.specs.Runs.{Traces, Short, ManyRows, Begins, Runs, short, long-text, unreadable, many-rows, no-entry, started}
+use Rattle.stage6_machine.specs.Run.{trace, is-short, has-many-rows, run-image, run-reading, run}
+use Rattle.stage6_machine.specs.RunLaws.{traces-only, trace-no-entry, trace-some-entry, start-traces}
 
-module _ (image : Image) (text : List ℕ) (entries : ℕ) where
-  abbrev Gives : State → Answer → Type 0
-  Gives s a = RunsFrom image text entries (s .place) (s .pending) (s .count) a
+-- ---- the two tests
 
-  end-runs : (s : State) → s .place ≡ length text → Gives s (at-text-end (image .rows) s)
-  unfolding at-text-end
-  end-runs s e = by-test (all-nullable (image .rows) (s .pending)) refl
-    where
-      by-test : (b : Bool) → all-nullable (image .rows) (s .pending) ≡ b
-          → Gives s (cond b (answer 0 (s .place) (s .count)) (answer 16 (s .place) (s .count)))
-      by-test true f = nullable-at-end e f
-      by-test false f = pending-at-end e f
+or-true : (x : Bool) → (x || true) ≡ true
+or-true true = refl
+or-true false = refl
 
-  pub from-runs : (turns : ℕ) (s : State) → s .place ≤ length text → length text ≤ s .place + turns
-      → Gives s (run-from image entries text turns s)
-  from-runs zero s h enough = rw (run-at-end image entries text 0 s (omega arith)) (end-runs s (omega arith))
-  from-runs (suc turns) s h enough =
-      ⊎-elim
-      (λ m. by-way (from-runs turns) m (turn-goes image entries s (match-at image text (s .place))) refl (turn-before-end image entries text s m))
-      (λ m. rw (run-at-end image entries text (suc turns) s m) (end-runs s (omega arith)))
-      (lt-or-le (s .place) (length text))
-    where
-      by-way : ((next : State) → next .place ≤ length text → length text ≤ next .place + turns → Gives next (run-from image entries text turns next))
-          → s .place < length text → {m : Match} {t : Turn} → TurnGoes image entries s m t → match-at image text (s .place) ≡ m
-          → text-turn image entries text s ≡ t → Gives s (run-from image entries text (suc turns) s)
-      by-way later l by-no-match f e = rw (run-stops image entries text turns s _ e) (nothing-matched l f)
-      by-way later l (by-skip rule n k) f e =
-          let next = state (s .place + n) (s .pending) (s .count) in
-          let o = turn-onward image entries text s next e in
-          rw (run-goes-on image entries text turns s next e)
-          (rule-skipped rule n l f k (later next (o .within) (omega (arith, o .further))))
-      by-way later l (by-refusal rule n k t) f e = rw (run-stops image entries text turns s _ e) (rule-untaken rule n l f k t)
-      by-way later l (by-overflow rule n more k t o) f e = rw (run-stops image entries text turns s _ e) (stack-overflowed rule n more l f k t o)
-      by-way later l (by-taking rule n more k t fits) f e =
-          let next = state (s .place + n) more (suc (s .count)) in
-          let o = turn-onward image entries text s next e in
-          rw (run-goes-on image entries text turns s next e)
-          (rule-taken rule n more l f k t fits (later next (o .within) (omega (arith, o .further))))
+-- Of two numbers, the test for the first being below.
+below-or-not : (m n : ℕ) → ((m < n) × (ltb m n ≡ true)) ⊎ ((m < n → ⊥) × (ltb m n ≡ false))
+below-or-not m n = ⊎-elim (λ l. inl (l, lt-ltb m n l)) (λ l. inr ((λ k. omega arith), le-ltb m n l)) (lt-or-le m n)
 
-  -- From the start.
-  pub start-runs : RunsFrom image text entries 0 (0 ∷ []) 0 (run-from image entries text (length text) first-state)
-  start-runs = from-runs (length text) first-state (omega arith) (omega arith)
+-- A test tells whether something holds.
+abbrev Tells : Bool → Type 0 → Type 0
+Tells b P = (P × (b ≡ true)) ⊎ ((P → ⊥) × (b ≡ false))
 
-  -- ---- no other answer
+is-short-tells : (o : Option Scanner) → Tells (is-short o) (Short o)
+unfolding is-short
+is-short-tells none = inr ((λ x. x), refl)
+is-short-tells (some s) =
+    ⊎-elim
+    (λ a. inl (inl (a .0), rw (a .1)))
+    (λ a. ⊎-elim
+    (λ b. inl (inr (b .0), rw (b .1) (or-true (ltb (length (s .table)) lent-entries))))
+    (λ b. inr (⊎-elim (a .0) (b .0), rw (a .1, b .1)))
+    (below-or-not (length (s .winners)) most-rows))
+    (below-or-not (length (s .table)) lent-entries)
 
-  abbrev Only : State → Answer → Type 0
-  Only s a = (turns : ℕ) → length text ≤ s .place + turns → run-from image entries text turns s ≡ a
+many-rows-tells : (o : Option Scanner) (image : Image) → Tells (has-many-rows o image) (ManyRows o image)
+unfolding has-many-rows
+many-rows-tells none image = inr ((λ x. x), refl)
+many-rows-tells (some s) image = below-or-not most-rows (length (rows-of image))
 
-  -- A run that ends with this turn, and one that goes on.
-  only-stops : (s : State) (a : Answer) → s .place < length text → turn image entries (match-at image text (s .place)) s ≡ ends a → Only s a
-  only-stops s a l e zero h = absurd (omega arith)
-  only-stops s a l e (suc turns) h = run-stops image entries text turns s a (turn-before-end image entries text s l ∙ e)
+told-true : {b : Bool} {P : Type 0} → Tells b P → P → b ≡ true
+told-true (inl x) p = x .1
+told-true (inr x) p = absurd (x .0 p)
 
-  only-goes-on : (s next : State) (a : Answer) → s .place < length text
-      → turn image entries (match-at image text (s .place)) s ≡ goes-on next → Only next a → Only s a
-  only-goes-on s next a l e later zero h = absurd (omega arith)
-  only-goes-on s next a l e later (suc turns) h =
-      let f = turn-before-end image entries text s l ∙ e in
-      let o = turn-onward image entries text s next f in
-      run-goes-on image entries text turns s next f ∙ later turns (omega (arith, o .further))
+told-false : {b : Bool} {P : Type 0} → Tells b P → (P → ⊥) → b ≡ false
+told-false (inl x) n = absurd (n (x .0))
+told-false (inr x) n = x .1
 
-  -- The turn by what matches.
-  by-match : (s : State) (m : Match) (t : Turn) → match-at image text (s .place) ≡ m → turn image entries m s ≡ t
-      → turn image entries (match-at image text (s .place)) s ≡ t
-  by-match s m t e f = ap (λ (x : Match). turn image entries x s) e ∙ f
+pub short-told : (o : Option Scanner) → is-short o ≡ true → Short o
+short-told o e = ⊎-elim (λ x. x .0) (λ x. absurd (true≢false (sym e ∙ x .1))) (is-short-tells o)
 
-  pub runs-from-only : {p : ℕ} {pending : List ℕ} {count : ℕ} {a : Answer} → RunsFrom image text entries p pending count a
-      → Only (state p pending count) a
-  unfolding at-text-end
-  runs-from-only (nullable-at-end {p = p} {pending = pending} {count = count} e n) = λ turns h.
-      run-at-end image entries text turns (state p pending count) (omega arith) ∙ rw n
-  runs-from-only (pending-at-end {p = p} {pending = pending} {count = count} e n) = λ turns h.
-      run-at-end image entries text turns (state p pending count) (omega arith) ∙ rw n
-  runs-from-only (nothing-matched {p = p} {pending = pending} {count = count} l m) =
-      let s = state p pending count in
-      only-stops s _ l (by-match s no-match _ m (turn-unmatched image entries s))
-  runs-from-only (rule-skipped {p = p} {pending = pending} {count = count} rule n l m k r) =
-      let s = state p pending count in
-      only-goes-on s _ _ l (by-match s (matched rule n) _ m (turn-skips image entries s rule n k)) (runs-from-only r)
-  runs-from-only (rule-untaken {p = p} {pending = pending} {count = count} rule n l m k t) =
-      let s = state p pending count in
-      only-stops s _ l (by-match s (matched rule n) _ m (turn-refuses image entries s rule n k t))
-  runs-from-only (stack-overflowed {p = p} {pending = pending} {count = count} rule n next l m k t o) =
-      let s = state p pending count in
-      only-stops s _ l (by-match s (matched rule n) _ m (turn-overflows image entries s rule n k next t o))
-  runs-from-only (rule-taken {p = p} {pending = pending} {count = count} rule n next l m k t o r) =
-      let s = state p pending count in
-      only-goes-on s _ _ l (by-match s (matched rule n) _ m (turn-takes image entries s rule n k next t o)) (runs-from-only r)
+pub long-told : (o : Option Scanner) → is-short o ≡ false → Short o → ⊥
+long-told o e h = true≢false (sym (told-true (is-short-tells o) h) ∙ e)
 
--- ---- running an image's bytes
+-- ---- how a run begins
 
--- What `run` answers, question by question.
-module _ (bytes text : List ℕ) (entries : ℕ) where
-  pub run-long : most-text-bytes < length text → run bytes text entries ≡ answer 12 0 0
+module _ (bytes text : List ℕ) (lent : Lent) where
+  pub run-short : Short (lent .scanner) → run bytes text lent ≡ turned-away 18 0 lent
   unfolding run
-  run-long h = rw (lt-ltb most-text-bytes (length text) h)
+  run-short h = rw (told-true (is-short-tells (lent .scanner)) h)
 
-  pub run-stop : length text ≤ most-text-bytes → (question place : ℕ) → read-image bytes ≡ stop question place
-      → run bytes text entries ≡ answer question place 0
-  unfolding run run-reading
-  run-stop h question place e = rw (le-ltb most-text-bytes (length text) h, e)
+  module _ (enough : Short (lent .scanner) → ⊥) where
+    pub run-long : most-text-bytes < length text → run bytes text lent ≡ turned-away 12 0 lent
+    unfolding run
+    run-long h = rw (told-false (is-short-tells (lent .scanner)) enough, lt-ltb most-text-bytes (length text) h)
 
-  pub run-got : length text ≤ most-text-bytes → (i : Image) (end : ℕ) → read-image bytes ≡ got i end
-      → run bytes text entries ≡ run-image i entries text
-  unfolding run run-reading
-  run-got h i end e = rw (le-ltb most-text-bytes (length text) h, e)
+    module _ (within : length text ≤ most-text-bytes) where
+      run-reads : (r : Reading Image) → read-image bytes ≡ r → run bytes text lent ≡ run-reading r text lent
+      unfolding run
+      run-reads r e = rw (told-false (is-short-tells (lent .scanner)) enough, le-ltb most-text-bytes (length text) within, e)
 
-module _ (bytes text : List ℕ) (entries : ℕ) (b : Bytes bytes) where
-  pub run-runs : Runs bytes text entries (run bytes text entries)
-  unfolding run-image
+      pub run-stop : (question place : ℕ) → read-image bytes ≡ stop question place → run bytes text lent ≡ turned-away question place lent
+      unfolding run-reading
+      run-stop question place e = run-reads (stop question place) e
+
+      module _ (image : Image) (end : ℕ) (reads : read-image bytes ≡ got image end) where
+        pub run-got : run bytes text lent ≡ run-image image text lent
+        unfolding run-reading
+        run-got = run-reads (got image end) reads
+
+        run-over : ManyRows (lent .scanner) image → run bytes text lent ≡ turned-away 19 0 lent
+        unfolding run-image
+        run-over m = run-got ∙ rw (told-true (many-rows-tells (lent .scanner) image) m)
+
+        run-begun : (ManyRows (lent .scanner) image → ⊥)
+            → run bytes text lent ≡ finished image lent (trace image (length (lent .stack)) text)
+        unfolding run-image
+        run-begun m = run-got ∙ rw (told-false (many-rows-tells (lent .scanner) image) m)
+
+-- ---- what the relation says, and nothing else
+
+module _ (bytes text : List ℕ) (lent : Lent) (b : Bytes bytes) where
+  abbrev Here : Ran → Type 0
+  Here r = Runs bytes text lent r
+
+  begins-runs : (image : Image) → Begins bytes text lent image → Here (finished image lent (trace image (length (lent .stack)) text))
+  begins-runs image begins =
+      ⊎-elim
+      (λ z. rw (trace-no-entry image (length (lent .stack)) text z) (no-entry image begins z))
+      (λ z. rw (trace-some-entry image (length (lent .stack)) text z)
+      (started image _ begins z (start-traces image (length (lent .stack)) text)))
+      (lt-or-le (length (lent .stack)) 1)
+
+  reading-runs : (Short (lent .scanner) → ⊥) → length text ≤ most-text-bytes → (r : Reading Image) → read-image bytes ≡ r → Here (run bytes text lent)
+  reading-runs h l (stop question place) e =
+      let q = read-refusal bytes question place e .0 in
+      let f : read-image bytes ≡ stop 13 place = e ∙ ap (λ (k : ℕ). stop k place) q in
+      rw (run-stop bytes text lent h l 13 place f)
+      (unreadable place h l (λ x. let g = sym f ∙ readable-read bytes b (x .0) (x .1) in let z : _≡_ {A = ℕ} 0 1 = cc in omega arith)
+      (stop-offends bytes b 13 place f))
+  reading-runs h l (got image end) e =
+      let readable = read-readable bytes b image end e in
+      ⊎-elim
+      (λ m. rw (run-over bytes text lent h l image end e (m .0)) (many-rows image h l readable (m .0)))
+      (λ m. rw (run-begun bytes text lent h l image end e (m .0))
+      (begins-runs image (record { not-short = h; within = l; readable = readable; few-rows = m .0 })))
+      (many-rows-tells (lent .scanner) image)
+
+  pub run-runs : Runs bytes text lent (run bytes text lent)
   run-runs =
       ⊎-elim
-      (λ h. subst (Runs bytes text entries) (sym (run-long bytes text entries h)) (long-text h))
-      (λ h. by-reading h (read-image bytes) refl)
-      (lt-or-le most-text-bytes (length text))
-    where
-      started-runs : length text ≤ most-text-bytes → (i : Image) → ReadableAs bytes i → Runs bytes text entries (run-image i entries text)
-      started-runs h i r =
-          ⊎-elim
-          (λ l. rw (lt-ltb entries 1 l) (no-entry h (i, r) l))
-          (λ l. rw (le-ltb entries 1 l) (started i h r l (start-runs i text entries)))
-          (lt-or-le entries 1)
+      (λ h. rw (run-short bytes text lent (h .0)) (short (h .0)))
+      (λ h. ⊎-elim
+      (λ l. rw (run-long bytes text lent (h .0) l) (long-text (h .0) l))
+      (λ l. reading-runs (h .0) l (read-image bytes) refl)
+      (lt-or-le most-text-bytes (length text)))
+      (is-short-tells (lent .scanner))
 
-      by-reading : length text ≤ most-text-bytes → (r : Reading Image) → read-image bytes ≡ r → Runs bytes text entries (run bytes text entries)
-      by-reading h (stop question place) e =
-          let q = read-refusal bytes question place e .0 in
-          let f : read-image bytes ≡ stop 13 place = e ∙ ap (λ (k : ℕ). stop k place) q in
-          subst (Runs bytes text entries) (sym (run-stop bytes text entries h 13 place f))
-          (unreadable place h (λ x. let g = sym f ∙ readable-read bytes b (x .0) (x .1) in let z : _≡_ {A = ℕ} 0 1 = cc in omega arith)
-          (stop-offends bytes b 13 place f))
-      by-reading h (got i end) e =
-          subst (Runs bytes text entries) (sym (run-got bytes text entries h i end e)) (started-runs h i (read-readable bytes b i end e))
+  begins-only : (image : Image) → Begins bytes text lent image
+      → run bytes text lent ≡ finished image lent (trace image (length (lent .stack)) text)
+  begins-only image x =
+      run-begun bytes text lent (x .not-short) (x .within) image _ (readable-read bytes b image (x .readable)) (x .few-rows)
 
-  pub runs-only : {a : Answer} → Runs bytes text entries a → run bytes text entries ≡ a
-  unfolding run-image
-  runs-only (long-text h) = run-long bytes text entries h
-  runs-only (unreadable p h n o) = by-reading (read-image bytes) refl
+  pub runs-only : {r : Ran} → Runs bytes text lent r → run bytes text lent ≡ r
+  runs-only (short h) = run-short bytes text lent h
+  runs-only (long-text h l) = run-long bytes text lent h l
+  runs-only (unreadable p h l n o) = by-reading (read-image bytes) refl
     where
-      by-reading : (r : Reading Image) → read-image bytes ≡ r → run bytes text entries ≡ answer 13 p 0
+      by-reading : (r : Reading Image) → read-image bytes ≡ r → run bytes text lent ≡ turned-away 13 p lent
       by-reading (stop question place) e =
           let q = read-refusal bytes question place e .0 in
           let same = first-offence-one bytes place p (stop-offends bytes b question place e) o in
-          run-stop bytes text entries h question place e ∙ ap₂ (λ (k l : ℕ). answer k l 0) q same
+          run-stop bytes text lent h l question place e ∙ ap₂ (λ (k j : ℕ). turned-away k j lent) q same
       by-reading (got i end) e = absurd (n (i, read-readable bytes b i end e))
-  runs-only (no-entry h r l) = run-got bytes text entries h (r .0) _ (readable-read bytes b (r .0) (r .1)) ∙ rw (lt-ltb entries 1 l)
-  runs-only (started i h r l s) =
-      run-got bytes text entries h i _ (readable-read bytes b i r) ∙ rw (le-ltb entries 1 l) (runs-from-only i text entries s (length text) (omega arith))
+  runs-only (many-rows image h l r m) = run-over bytes text lent h l image _ (readable-read bytes b image r) m
+  runs-only (no-entry image x z) = begins-only image x ∙ ap (finished image lent) (trace-no-entry image (length (lent .stack)) text z)
+  runs-only (started image e x z t) =
+      begins-only image x
+      ∙ ap (finished image lent)
+      (trace-some-entry image (length (lent .stack)) text z
+      ∙ traces-only image (length (lent .stack)) text t (length text) (omega arith))
 
-  -- Two answers to one image, text and stack are equal.
-  pub runs-one : {a c : Answer} → Runs bytes text entries a → Runs bytes text entries c → a ≡ c
+  -- What `run` gives is what running does, and nothing else is.
+  pub runs-iff : (r : Ran) → (run bytes text lent ≡ r) ↔ Runs bytes text lent r
+  runs-iff r = (λ e. subst (Runs bytes text lent) e run-runs, runs-only)
+
+  pub runs-one : {r q : Ran} → Runs bytes text lent r → Runs bytes text lent q → r ≡ q
   runs-one x y = sym (runs-only x) ∙ runs-only y
+
+-- What a run without a table answers depends on how many entries the stack has, and not on what they hold.
+pub same-entries : (bytes text a b : List ℕ) → length a ≡ length b
+    → run bytes text (stack-alone a) .answer ≡ run bytes text (stack-alone b) .answer
+unfolding run is-short run-reading run-image has-many-rows turned-away finished
+same-entries bytes text a b e = by-tests (ltb most-text-bytes (length text)) (read-image bytes)
+  where
+    by-tests : (long : Bool) (r : Reading Image)
+        → cond long (turned-away 12 0 (stack-alone a)) (run-reading r text (stack-alone a)) .answer
+        ≡ cond long (turned-away 12 0 (stack-alone b)) (run-reading r text (stack-alone b)) .answer
+    by-tests true r = refl
+    by-tests false (stop question place) = refl
+    by-tests false (got image end) = rw e

@@ -10,34 +10,34 @@ use native.Mathlib.Omega.{arith}
 use Rattle.stage0_laws.specs.Lists.{All}
 use Rattle.stage0_laws.specs.Truth.{and-true-first, and-true-second}
 use Rattle.stage1_sheet.specs.Sheet.{Rule}
-use Rattle.stage3_normal_form.specs.Productions.{Production, Row, row-of, production-of}
+use Rattle.stage3_normal_form.specs.Productions.{Production, Row, row-of, production-of, Taking, taken-by}
 use Rattle.stage3_normal_form.specs.Pending.{AllNullable, TokenStep, takes, drops, stops, none-left}
 use Rattle.stage3_normal_form.specs.ProductionLaws.{Found, production-found}
 use Rattle.stage0_laws.specs.Members.{all-append}
 use Rattle.stage5_image.specs.Simulation.{Simulates, tail-of, tail-numbers, TailKnown}
 use Rattle.stage5_image.specs.Unfolding.{Returns}
-use Rattle.stage6_machine.specs.Turn.{take-rule, all-nullable}
+use Rattle.stage6_machine.specs.Trace.{taking, all-nullable}
 
--- The nonterminals of the nodes pending after a take.
-abbrev pub numbers-of : (ℕ → ℕ) → Option (List ℕ) → Option (List ℕ)
+-- The nonterminals of the node that took a token and of the nodes pending then.
+abbrev pub numbers-of : (ℕ → ℕ) → Option Taking → Option Taking
 numbers-of number none = none
-numbers-of number (some nodes) = some (map number nodes)
+numbers-of number (some x) = some (taken-by (number (x .taker)) (map number (x .pending)))
 
-abbrev pub AllKnown : (ℕ → Type 0) → Option (List ℕ) → Type 0
+abbrev pub AllKnown : (ℕ → Type 0) → Option Taking → Type 0
 AllKnown Known none = Unit
-AllKnown Known (some nodes) = All Known nodes
+AllKnown Known (some x) = Known (x .taker) × All Known (x .pending)
 
 module _ (rules : List Rule) (rows image : List Row) (number : ℕ → ℕ) (Known : ℕ → Type 0) (same : Simulates rules rows image number Known) where
   -- What taking rule k, which returns token t, does to the nonterminals of some known nodes.
   pub record Taken (t k : ℕ) (nodes : List ℕ) : Type 0 where
-    pub after : Option (List ℕ)
+    pub after : Option Taking
     pub token-step : TokenStep (row-of rows) t nodes after
-    pub numbered : take-rule image (map number nodes) k ≡ numbers-of number after
+    pub numbered : taking image (map number nodes) k ≡ numbers-of number after
     pub known : AllKnown Known after
 
   module _ (t k : ℕ) (returns : Returns rules k t) where
     pub taken : (nodes : List ℕ) → All Known nodes → Taken t k nodes
-    unfolding take-rule
+    unfolding taking
     taken [] h = record { after = none; token-step = none-left; numbered = refl; known = tt }
     taken (n ∷ nodes) h =
         go (taken nodes (h .1)) (production-of k ((row-of image (number n)) .productions)) (production-of t ((row-of rows n) .productions))
@@ -45,8 +45,8 @@ module _ (rules : List Rule) (rows image : List Row) (number : ℕ → ℕ) (Kno
       where
         -- none for the token: dropped or stopped, by the ε flag
         lacks : Taken t k nodes → Found t ((row-of rows n) .productions) none → (b : Bool) → (row-of rows n) .has-epsilon ≡ b
-            → (o : Option (List ℕ)) × TokenStep (row-of rows) t (n ∷ nodes) o
-            × (elim b [ true ↦ take-rule image (map number nodes) k | false ↦ none ] ≡ numbers-of number o) × AllKnown Known o
+            → (o : Option Taking) × TokenStep (row-of rows) t (n ∷ nodes) o
+            × (elim b [ true ↦ taking image (map number nodes) k | false ↦ none ] ≡ numbers-of number o) × AllKnown Known o
         lacks r f true e = (r .after, drops f e (r .token-step), r .numbered, r .known)
         lacks r f false e = (none, stops f e, refl, tt)
 
@@ -54,16 +54,16 @@ module _ (rules : List Rule) (rows image : List Row) (number : ℕ → ℕ) (Kno
             → production-of k ((row-of image (number n)) .productions) ≡ x → Taken t k (n ∷ nodes)
         go r none none e f c p =
             let l = lacks r f ((row-of rows n) .has-epsilon) refl in
-            record { after = l .0; token-step = l .1; numbered = rw (p, same .same-epsilon n (h .0), take-rule) (l .2); known = l .3 }
+            record { after = l .0; token-step = l .1; numbered = rw (p, same .same-epsilon n (h .0), taking) (l .2); known = l .3 }
         go r none (some q) e f c p = let z : _≡_ {A = ℕ} 0 1 = cc in absurd (omega arith)
         go r (some q) none e f c p = let z : _≡_ {A = ℕ} 0 1 = cc in absurd (omega arith)
         go r (some q) (some s) e f c p =
             let tail-is : q .tail ≡ map number (s .tail) = cc in
             record {
-              after = some (s .tail ++ nodes);
+              after = some (taken-by n (s .tail ++ nodes));
               token-step = takes s (f .0) (f .1);
-              numbered = rw (p, take-rule) (ap some (ap (λ (l : List ℕ). l ++ map number nodes) tail-is ∙ sym (map-append number (s .tail) nodes)));
-              known = all-append Known (s .tail) nodes c (h .1);
+              numbered = rw (p, taking) (ap (λ (l : List ℕ). some (taken-by (number n) l)) (ap (λ (l : List ℕ). l ++ map number nodes) tail-is ∙ sym (map-append number (s .tail) nodes)));
+              known = (h .0, all-append Known (s .tail) nodes c (h .1));
             }
 
   -- At the end: all pending nonterminals are nullable iff their nodes are.

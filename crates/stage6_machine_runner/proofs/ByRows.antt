@@ -15,7 +15,7 @@ use Rattle.stage4_lexer_scanner.specs.Meaning.{match-of}
 use Rattle.stage4_lexer_scanner.specs.declared.Found.{Found}
 use Rattle.stage5_image.specs.Image.{Image}
 use Rattle.stage5_image.specs.ImageRanges.{InRange}
-use Rattle.stage6_machine.specs.TableRun.{winners-of}
+use Rattle.stage6_machine.specs.Lent.{winners-of}
 use Rattle.stage6_machine_runner.specs.Built.{Built}
 
 all-entries : (bound : ℕ) (l : List ℕ) → ((j : ℕ) → getD l j 0 < bound) → All (λ b. b < bound) l

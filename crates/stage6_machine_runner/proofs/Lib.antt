@@ -1,5 +1,3 @@
--- The laws that the functions' proofs cite: what the scanner relies on, what is found by rows, the turns of a run, and how runs end.
-pub mod Prepared
+-- The laws that the functions' proofs cite: what is found by rows, and how runs end.
 pub mod ByRows
-pub mod Turns
 pub mod Ending

@@ -5,7 +5,7 @@ use Prim.Native.Nat.{ℕ, _≤_}
 use lib.ListN.{length}
 use Rattle.stage4_lexer.specs.Table.{most-rows}
 use Rattle.stage5_image.specs.Image.{Image}
-use Rattle.stage6_machine.specs.TableRun.{lent-entries, rows-of, entries-of, winners-of}
+use Rattle.stage6_machine.specs.Lent.{lent-entries, rows-of, entries-of, winners-of}
 
 pub record Built (i : Image) (table winners : List ℕ) : Type 0 where
   pub few-rows : length (rows-of i) ≤ most-rows

@@ -3,17 +3,13 @@ use mathlib.Core.Path.{_≡_}
 use mathlib.Core.Bool.{Bool, true}
 use mathlib.Core.List.{List}
 use Prim.Native.Nat.{ℕ}
-use Rattle.stage4_lexer_classes.specs.ClassTable.{ClassTable}
-use Rattle.stage4_lexer_columns.specs.Held.{held-from}
 use Rattle.stage5_image.specs.Image.{Image}
 use Rattle.stage5_image.specs.ImageRanges.{InRange}
 use Rattle.stage5_image_reader.specs.Decoded.{ImageTables, Decoded}
 use Rattle.stage6_machine_runner.specs.Built.{Built}
 
--- The image that the machine's tables hold is a readable one, the class table is that of its positions, and, for a run by rows, the scanner's
--- table is built.
-pub record WithTables (bytes : List ℕ) (t : ImageTables) (classes : List ℕ) (by-rows : Bool) (table winners : List ℕ) (i : Image) : Type 0 where
+-- The image that the machine's tables hold is a readable one, and, for a run by rows, the scanner's table is built.
+pub record WithTables (bytes : List ℕ) (t : ImageTables) (by-rows : Bool) (table winners : List ℕ) (i : Image) : Type 0 where
   pub decoded : Decoded bytes t i
   pub in-range : InRange i
-  pub own-classes : let c = t .positions in ClassTable (held-from (c .low) (c .high) (c .rule) (c .follow) (c .last) 0 (c .count)) classes
   pub built : by-rows ≡ true → Built i table winners

@@ -27,10 +27,12 @@ module _ (bytes starts productions : List ℕ) (empty : ℕ) (stack : List ℕ) 
   unfolding take-step replace-taker
   no-taker e = (rw e, rw e)
 
-  pub took : (below n entry : ℕ) → taker productions empty stack depth first rule ≡ At below n entry → (r : Taken) (stack' : List ℕ)
-      → Leaves r stack' (replaced stack below (entry-tail bytes (getD starts n 0) entry)) → Leaves r stack' step
+  pub took : (below n entry start : ℕ) → taker productions empty stack depth first rule ≡ At below n entry → getD starts n 0 ≡ start
+      → (r : Taken) (stack' : List ℕ) → Leaves r stack' (replaced stack below (entry-tail bytes start entry)) → Leaves r stack' step
   unfolding take-step replace-taker
-  took below n entry e r stack' h = leaves-same r stack' _ step (sym (ap (replace-taker bytes starts stack) e)) h
+  took below n entry start e f r stack' h =
+      leaves-same r stack' _ step
+      (ap (λ (x : ℕ). replaced stack below (entry-tail bytes x entry)) (sym f) ∙ sym (ap (replace-taker bytes starts stack) e)) h
 
 -- ---- a turn
 

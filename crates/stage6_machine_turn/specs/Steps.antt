@@ -10,7 +10,7 @@ use Rattle.stage4_lexer_scanner.specs.declared.Found.{Found}
 use Rattle.stage4_lexer_scanner.specs.declared.Found.the-variants as found
 use Rattle.stage5_image_reader.specs.Tables.{entry-tail}
 use Rattle.stage6_machine.specs.Answer.{Answer, answer}
-use Rattle.stage6_machine.specs.Turn as machine
+use Rattle.stage6_machine.specs.Trace as machine
 use Rattle.stage6_machine_turn.specs.Stack.{pending, pushed}
 use Rattle.stage6_machine_turn.specs.declared.RunAnswer.{RunAnswer}
 use Rattle.stage6_machine_turn.specs.declared.Taker.{Taker}
@@ -31,13 +31,9 @@ run-answer number place count = record { number = number; place = place; count =
 abbrev pub state-at : ℕ → ℕ → ℕ → ℕ → State
 state-at place depth first count = record { place = place; depth = depth; first = first; count = count }
 
--- The machine's state that a state and the stack hold, and what a turn and the stack that it leaves hold.
-abbrev pub state-held : List ℕ → State → machine.State
-state-held stack s = machine.state (s .place) (pending stack (s .depth) (s .first)) (s .count)
-
-abbrev pub turn-held : List ℕ → Turn → machine.Turn
-turn-held stack (Next s) = machine.goes-on (state-held stack s)
-turn-held stack (Done a) = machine.ends (answer-held a)
+-- The machine's state that a state and the stack hold, with the takes so far, of which the code keeps the number alone.
+abbrev pub state-held : List machine.Take → List ℕ → State → machine.State
+state-held takes stack s = machine.state (s .place) (pending stack (s .depth) (s .first)) takes
 
 -- The first pending nonterminal that takes a rule, where those before it are nullable: how many are pending behind it, itself, and its
 -- entry in the table of productions.

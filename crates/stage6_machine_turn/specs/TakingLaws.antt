@@ -10,10 +10,10 @@ use lib.ListN.{length, getD, length-append}
 use borrow.Author.Tests.{ltb-true, ltb-false, eqb-true, eqb-false}
 use Rattle.stage0_laws.specs.Bits.{bit}
 use Rattle.stage0_laws.specs.Lists.{All}
-use Rattle.stage3_normal_form.specs.Productions.{Production, Row, row-of, production-of}
+use Rattle.stage3_normal_form.specs.Productions.{Production, Row, row-of, production-of, Taking, taken-by}
 use Rattle.stage5_image_reader.specs.Tables.{EntryTail, RowsHeld}
 use Rattle.stage5_image_reader.specs.TableLaws.{entry-none, entry-some}
-use Rattle.stage6_machine.specs.Turn.{take-rule}
+use Rattle.stage6_machine.specs.Trace.{taking}
 use Rattle.stage6_machine_turn.specs.Stack.{stacked, pending, pushed, Ready}
 use Rattle.stage6_machine_turn.specs.Steps.{taker, TakeStep, replaced, replace-taker, take-step}
 use Rattle.stage6_machine_turn.specs.declared.Taker.{Taker}
@@ -26,40 +26,40 @@ use Rattle.stage6_machine_turn.specs.StackLaws.{pending-stacked, length-
 
 module _ (rows : List Row) (m : ℕ) (l : List ℕ) (rule : ℕ) where
   take-some : (p : Production) → production-of rule ((row-of rows m) .productions) ≡ some p
-      → take-rule rows (m ∷ l) rule ≡ some (p .tail ++ l)
-  unfolding take-rule
-  take-some p e = rw (e, take-rule)
+      → taking rows (m ∷ l) rule ≡ some (taken-by m (p .tail ++ l))
+  unfolding taking
+  take-some p e = rw (e, taking)
 
   take-stops : production-of rule ((row-of rows m) .productions) ≡ none → (row-of rows m) .has-epsilon ≡ false
-      → take-rule rows (m ∷ l) rule ≡ none
-  unfolding take-rule
-  take-stops e f = rw (e, f, take-rule)
+      → taking rows (m ∷ l) rule ≡ none
+  unfolding taking
+  take-stops e f = rw (e, f, taking)
 
   take-passes : production-of rule ((row-of rows m) .productions) ≡ none → (row-of rows m) .has-epsilon ≡ true
-      → (o : Option (List ℕ)) → take-rule rows l rule ≡ o → take-rule rows (m ∷ l) rule ≡ o
-  unfolding take-rule
-  take-passes e f o g = rw (e, f, take-rule) g
+      → (o : Option Taking) → taking rows l rule ≡ o → taking rows (m ∷ l) rule ≡ o
+  unfolding taking
+  take-passes e f o g = rw (e, f, taking) g
 
 -- ---- the taker
 
 -- What is known of a taker: its entry stands for a tail, which is what a take puts before those behind the taker.
-pub record TailTaken (bytes starts : List ℕ) (n : ℕ) (stack : List ℕ) (o : Option (List ℕ)) (depth below m entry : ℕ) : Type 0 where
+pub record TailTaken (bytes starts : List ℕ) (n : ℕ) (stack : List ℕ) (o : Option Taking) (depth below m entry : ℕ) : Type 0 where
   pub tail : List ℕ
-  pub next-is : o ≡ some (tail ++ stacked stack below)
+  pub next-is : o ≡ some (taken-by m (tail ++ stacked stack below))
   pub there : EntryTail bytes (getD starts m 0) n entry tail
   pub behind : All (λ k. k < n) (stacked stack below)
   pub under : below < depth
   pub nonterminal : m < n
 
-abbrev TakesAs : List ℕ → List ℕ → ℕ → List ℕ → Option (List ℕ) → ℕ → Taker → Type 0
+abbrev TakesAs : List ℕ → List ℕ → ℕ → List ℕ → Option Taking → ℕ → Taker → Type 0
 TakesAs bytes starts n stack o depth Nothing = o ≡ none
 TakesAs bytes starts n stack o depth (At below m entry) = TailTaken bytes starts n stack o depth below m entry
 
 module _ (bytes starts productions : List ℕ) (empty : ℕ) (rows : List Row) (n : ℕ)
     (held : RowsHeld bytes n starts productions empty rows) where
   module _ (stack : List ℕ) (rule : ℕ) (small : rule < 32) where
-    abbrev rows-take : ℕ → ℕ → Option (List ℕ)
-    rows-take depth first = take-rule rows (pending stack depth first) rule
+    abbrev rows-take : ℕ → ℕ → Option Taking
+    rows-take depth first = taking rows (pending stack depth first) rule
 
     -- A taker further back takes for those before it too.
     further : (below first : ℕ) (t : Taker) → (rows-take below (getD stack below 0) ≡ rows-take (suc below) first)
@@ -98,12 +98,12 @@ module _ (bytes starts productions : List ℕ) (empty : ℕ) (rows : List Row) (
     at-first below m h b true true e f t r =
         let o = entry-none bytes (getD starts m 0) n _ _ (held .entries m h rule small) (eqb-true _ 0 e) in
         let l = stacked stack below in
-        let passed = take-passes rows m l rule o (sym (held .empty m) ∙ f) (take-rule rows l rule) refl in
-        further below m t (ap (λ (l : List ℕ). take-rule rows l rule) (pending-stacked stack below) ∙ sym passed) r
+        let passed = take-passes rows m l rule o (sym (held .empty m) ∙ f) (taking rows l rule) refl in
+        further below m t (ap (λ (l : List ℕ). taking rows l rule) (pending-stacked stack below) ∙ sym passed) r
 
     pub taker-takes : (depth first : ℕ) → All (λ k. k < n) (pending stack depth first)
         → TakesAs bytes starts n stack (rows-take depth first) depth (taker productions empty stack depth first rule)
-    unfolding taker pending take-rule
+    unfolding taker pending taking
     taker-takes zero first h = refl
     taker-takes (suc below) first h =
         at-first below first (h .0) (h .1) (eqb (getD productions (first * 32 + rule) 0) 0) (bit empty first) refl refl
@@ -113,28 +113,29 @@ module _ (bytes starts productions : List ℕ) (empty : ℕ) (rows : List Row) (
 -- ---- a take
 
 -- What a take leaves, against the rows.
-abbrev pub TakeLeads : List ℕ → List ℕ → List ℕ → ℕ → List Row → ℕ → List ℕ → Option (List ℕ) → List ℕ → Taken → Type 0
+abbrev pub TakeLeads : List ℕ → List ℕ → List ℕ → ℕ → List Row → ℕ → List ℕ → Option Taking → List ℕ → Taken → Type 0
 TakeLeads bytes starts productions empty rows n stack o stack' (Pending depth first) =
-    (o ≡ some (pending stack' depth first)) × Ready bytes starts productions empty rows n stack' depth first
+    (taker : ℕ) × (o ≡ some (taken-by taker (pending stack' depth first))) × Ready bytes starts productions empty rows n stack' depth first
     × (length stack' ≡ length stack)
 TakeLeads bytes starts productions empty rows n stack o stack' NoTaker = o ≡ none
-TakeLeads bytes starts productions empty rows n stack o stack' TooDeep = (next : List ℕ) × (o ≡ some next) × (length stack < length next)
+TakeLeads bytes starts productions empty rows n stack o stack' TooDeep = (t : Taking) × (o ≡ some t) × (length stack < length (t .pending))
 
 module _ (bytes starts productions : List ℕ) (empty : ℕ) (rows : List Row) (n : ℕ) (stack : List ℕ) (depth first rule : ℕ)
     (small : rule < 32) (ready : Ready bytes starts productions empty rows n stack depth first) where
-  abbrev taken-by-rows : Option (List ℕ)
-  taken-by-rows = take-rule rows (pending stack depth first) rule
+  abbrev taken-by-rows : Option Taking
+  taken-by-rows = taking rows (pending stack depth first) rule
 
   abbrev LeadsTo : TakeStep → Type 0
   LeadsTo s = TakeLeads bytes starts productions empty rows n stack taken-by-rows (s .stack) (s .outcome)
 
   -- A tail replaces a taker.
-  module _ (below : ℕ) (under : below < depth) (behind : All (λ k. k < n) (stacked stack below)) where
-    by-none : taken-by-rows ≡ some (stacked stack below)
+  module _ (below taker : ℕ) (under : below < depth) (behind : All (λ k. k < n) (stacked stack below)) where
+    by-none : taken-by-rows ≡ some (taken-by taker (stacked stack below))
         → LeadsTo (record { outcome = Pending below (getD stack below 0); stack = stack })
     by-none e =
         let same = pending-stacked stack below in (
-          e ∙ ap some (sym same),
+          taker,
+          e ∙ ap (λ (l : List ℕ). some (taken-by taker l)) (sym same),
           record {
             held = ready .held;
             most = ready .most;
@@ -144,7 +145,7 @@ module _ (bytes starts productions : List ℕ) (empty : ℕ) (rows : List Row) (
           refl,
         )
 
-    by-room : (m : ℕ) (tail : List ℕ) → taken-by-rows ≡ some (m ∷ tail ++ stacked stack below) → All (λ k. k < n) (m ∷ tail)
+    by-room : (m : ℕ) (tail : List ℕ) → taken-by-rows ≡ some (taken-by taker (m ∷ tail ++ stacked stack below)) → All (λ k. k < n) (m ∷ tail)
         → (b : Bool) → ltb (length stack) (suc below + length tail) ≡ b
         → LeadsTo (cond b (record { outcome = TooDeep; stack = stack })
         (record { outcome = Pending (suc below + length tail) m; stack = pushed stack (suc below) tail }))
@@ -152,12 +153,13 @@ module _ (bytes starts productions : List ℕ) (empty : ℕ) (rows : List Row) (
         let size = length-append tail (stacked stack below) in
         let low = length-stacked stack below in
         let over = ltb-true (length stack) (suc below + length tail) t in
-        (m ∷ tail ++ stacked stack below, e, omega (arith, size, low, over))
+        (taken-by taker (m ∷ tail ++ stacked stack below), e, omega (arith, size, low, over))
     by-room m tail e h false t =
         let fits = ltb-false (length stack) (suc below + length tail) t in
         let same = length-pushed stack (suc below) tail in
         let now-pending = pending-pushed stack below m tail fits in (
-          e ∙ ap some (sym now-pending),
+          taker,
+          e ∙ ap (λ (l : List ℕ). some (taken-by taker l)) (sym now-pending),
           record {
             held = ready .held;
             most = ready .most;
@@ -167,7 +169,7 @@ module _ (bytes starts productions : List ℕ) (empty : ℕ) (rows : List Row) (
           same,
         )
 
-    by-tail : (tail : List ℕ) → taken-by-rows ≡ some (tail ++ stacked stack below) → All (λ k. k < n) tail
+    by-tail : (tail : List ℕ) → taken-by-rows ≡ some (taken-by taker (tail ++ stacked stack below)) → All (λ k. k < n) tail
         → LeadsTo (replaced stack below tail)
     unfolding replaced
     by-tail [] e h = by-none e
@@ -178,7 +180,7 @@ module _ (bytes starts productions : List ℕ) (empty : ℕ) (rows : List Row) (
   by-taker Nothing r = r
   by-taker (At below m entry) r =
       subst (λ (l : List ℕ). LeadsTo (replaced stack below l)) (sym (r .there .tail-is))
-      (by-tail below (r .under) (r .behind) (r .tail) (r .next-is) (r .there .below))
+      (by-tail below m (r .under) (r .behind) (r .tail) (r .next-is) (r .there .below))
 
   abbrev known-taker : TakesAs bytes starts n stack taken-by-rows depth (taker productions empty stack depth first rule)
   known-taker = taker-takes bytes starts productions empty rows n (ready .held) stack rule small depth first (ready .below)

@@ -4,7 +4,7 @@
 ghost use mathlib.Core.Path.{_≡_};
 ghost use mathlib.Core.List.{List};
 ghost use Prim.Native.Nat.{ℕ, _+_, _≤_, _<_};
-ghost use lib.ListN.{length, getD};
+ghost use lib.ListN.{length, getD, drop};
 ghost use Rattle.stage0_laws.specs.Bits.{bit};
 ghost use Rattle.stage0_laws.specs.Lists.{All};
 ghost use Rattle.stage3_normal_form.specs.Productions.{Row};
@@ -171,7 +171,7 @@ fn replace_taker(image: &[u8], start: usize, entry: u16, stack: &mut [u8], below
 // Takes a rule: the taker's tail replaces it and those that were passed over.
 fn take_rule(
     image: &[u8],
-    starts: &[usize; 64],
+    tables: &[u64; 448],
     productions: &[u16; 2048],
     empty: u64,
     stack: &mut [u8],
@@ -180,12 +180,12 @@ fn take_rule(
     rule: u8,
 ) -> Taken
     requires { ⌜ (rule < 32)
-        × ((rows : List Row) × (n : ℕ) × Ready (now image) (now starts) (now productions) empty rows n (now stack) depth first) ⌝ }
+        × ((rows : List Row) × (n : ℕ) × Ready (now image) (drop 384 (now tables)) (now productions) empty rows n (now stack) depth first) ⌝ }
     ensures { λ r.
-        ⌜ (r ≡ take-step (now (image .entry)) (now (starts .entry)) (now (productions .entry)) empty (now (stack .entry))
+        ⌜ (r ≡ take-step (now (image .entry)) (drop 384 (now (tables .entry))) (now (productions .entry)) empty (now (stack .entry))
         depth first rule .outcome)
         × (now (stack .exit)
-        ≡ take-step (now (image .entry)) (now (starts .entry)) (now (productions .entry)) empty (now (stack .entry))
+        ≡ take-step (now (image .entry)) (drop 384 (now (tables .entry))) (now (productions .entry)) empty (now (stack .entry))
         depth first rule .stack) ⌝ }
 {
     let found = find_taker(productions, empty, stack, depth, first, rule);
@@ -193,13 +193,14 @@ fn take_rule(
         return Taken::NoTaker;
     };
     let n = nonterminal as usize;
-    replace_taker(image, starts[n], entry, stack, below)
+    let start = tables[384 + n];
+    replace_taker(image, start as usize, entry, stack, below)
 }
 
 // One turn: what matched at the state's place is skipped, taken or refused.
 pub fn one_turn(
     image: &[u8],
-    starts: &[usize; 64],
+    tables: &[u64; 448],
     productions: &[u16; 2048],
     empty: u64,
     skips: u64,
@@ -209,12 +210,12 @@ pub fn one_turn(
 ) -> Turn
     requires { ⌜ MatchFits found state
         × ((rows : List Row) × (k : ℕ)
-        × Ready (now image) (now starts) (now productions) empty rows k (now stack) (state .depth) (state .first)) ⌝ }
+        × Ready (now image) (drop 384 (now tables)) (now productions) empty rows k (now stack) (state .depth) (state .first)) ⌝ }
     ensures { λ r.
-        ⌜ (r ≡ turn-step (now (image .entry)) (now (starts .entry)) (now (productions .entry)) empty skips (now (stack .entry))
+        ⌜ (r ≡ turn-step (now (image .entry)) (drop 384 (now (tables .entry))) (now (productions .entry)) empty skips (now (stack .entry))
         found state .outcome)
         × (now (stack .exit)
-        ≡ turn-step (now (image .entry)) (now (starts .entry)) (now (productions .entry)) empty skips (now (stack .entry))
+        ≡ turn-step (now (image .entry)) (drop 384 (now (tables .entry))) (now (productions .entry)) empty skips (now (stack .entry))
         found state .stack) ⌝ }
 {
     let Found::Rule(rule, n) = found else {
@@ -230,7 +231,7 @@ pub fn one_turn(
     }
     let taken = take_rule(
         image,
-        starts,
+        tables,
         productions,
         empty,
         stack,

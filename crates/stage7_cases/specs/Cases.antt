@@ -3,7 +3,7 @@
 use mathlib.Core.Path.{_≡_}
 use mathlib.Core.List.{List, [], _∷_, _++_}
 use Prim.Native.Nat.{ℕ}
-use lib.ListN.{length}
+use lib.ListN.{length, replicate}
 use Rattle.stage1_sheet.specs.Sheet.{Sheet}
 use Rattle.stage1_sheet.specs.WellFormed.{Spells}
 use Rattle.stage1_sheet.specs.SheetD.{with-expression, bytes-of-D}
@@ -13,12 +13,11 @@ use Rattle.stage5_image.specs.ImageFields.{ReadableAs}
 use Rattle.stage5_image.specs.Check.{work-bytes, CheckAnswer, check, check-answer}
 use Rattle.stage5_image.specs.Write.{Written, refused, written, write, written-part}
 use Rattle.stage6_machine.specs.Answer.{Answer, answer}
-use Rattle.stage6_machine.specs.Run.{run, long-enough}
+use Rattle.stage6_machine.specs.Lent.{long-enough, Lent, stack-alone, with-scanner, rows-of, winners-of}
+use Rattle.stage6_machine.specs.Run.{run}
 use Rattle.stage6_machine.specs.OwnAnswer.{OwnAnswer, OwnAnswerByNumber}
 use Rattle.stage6_machine.specs.Lexes.{ReadingChanges}
 use Rattle.stage6_machine.specs.Runs.{Runs}
-use Rattle.stage6_machine.specs.TableRun.{rows-of, winners-of, run-table}
-use Rattle.stage6_machine.specs.TableRuns.{RunsTable}
 use Rattle.stage7_cases.specs.ImageD.{rules-of-image-D, image-D}
 
 pub data Case : Type 0 where
@@ -45,9 +44,20 @@ pub data Case : Type 0 where
 unfoldable pub written-sheet : List ℕ → Written
 written-sheet sheet = write sheet work-bytes 65536
 
+-- A long enough stack for a text, and buffers of given lengths.
+abbrev pub stack-for : List ℕ → Lent
+stack-for text = stack-alone (replicate (long-enough text) 0)
+
+abbrev pub buffers : ℕ → ℕ → ℕ → Lent
+buffers table winners entries = with-scanner (replicate entries 0) (replicate table 0) (replicate winners 0)
+
 -- Running a sheet's image with a long enough stack.
 unfoldable pub run-of-sheet : List ℕ → List ℕ → Answer
-run-of-sheet sheet text = run (written-part (written-sheet sheet)) text (long-enough text)
+run-of-sheet sheet text = run (written-part (written-sheet sheet)) text (stack-for text) .answer
+
+-- What a run answers, and that it is what the page's questions fix.
+abbrev pub Answers : List ℕ → List ℕ → Lent → Answer → Type 0
+Answers image text lent a = (run image text lent .answer ≡ a) × Runs image text lent (run image text lent)
 
 -- A reading holds as what the machine answers and as the own answer of the sheet that the bytes spell; a run as what is answered and as
 -- what the page's questions fix.
@@ -57,10 +67,9 @@ Holds (writes-with work room sheet c) = write sheet work room ≡ c
 Holds (checks sheet work a) = check-answer (check sheet work) ≡ a
 Holds (reads sheet text a) = (run-of-sheet sheet text ≡ a) × (s : Sheet) × Spells sheet s × OwnAnswer s text a
 Holds (changes sheet text a) = (s : Sheet) × Spells sheet s × OwnAnswerByNumber s text a × ReadingChanges s text
-Holds (runs image text a) = (run image text (long-enough text) ≡ a) × Runs image text (long-enough text) a
+Holds (runs image text a) = Answers image text (stack-for text) a
 Holds (tables image rows winners) = (i : Image) × ReadableAs image i × (length (rows-of i) ≡ rows) × (winners-of i ≡ winners)
-Holds (runs-table image text table winners entries a) =
-    (run-table image text table winners entries ≡ a) × RunsTable image text table winners entries a
+Holds (runs-table image text table winners entries a) = Answers image text (buffers table winners entries) a
 Holds (denotes-nothing sheet) = (s : Sheet) × Spells sheet s × ((tokens : List ℕ) → Denotes (s .expression) tokens → ⊥)
 
 -- μα.N·α, with D's rules

@@ -34,19 +34,20 @@ use Rattle.stage5_image.specs.Check.{work-bytes, check, check-answer}
 use Rattle.stage5_image.specs.Checks.{Passable}
 use Rattle.stage5_image.specs.Write.{Written, written, write, written-part}
 use Rattle.stage6_machine.specs.Answer.{Answer, answer}
-use Rattle.stage6_machine.specs.Run.{most-text-bytes, first-state, run-from, run, long-enough}
+use Rattle.stage6_machine.specs.Trace.{start-state, answer-of}
+use Rattle.stage6_machine.specs.Lent.{most-text-bytes, long-enough, stack-alone, rows-of, winners-of}
+use Rattle.stage6_machine.specs.Run.{trace-from, run}
 use Rattle.stage6_machine.specs.OwnAnswer.{OwnAnswer, OwnAnswerByNumber}
 use Rattle.stage6_machine.specs.OwnAnswerLaws.{by-number-one}
 use Rattle.stage6_machine.specs.Lexes.{ReadingChanges}
 use Rattle.stage6_machine.specs.FaithfulImage.{answered-by-number}
-use Rattle.stage6_machine.specs.Runs.{Runs}
-use Rattle.stage6_machine.specs.TableRun.{rows-of, winners-of, run-table}
-use Rattle.stage6_machine.specs.TableRuns.{RunsTable}
 use Rattle.stage6_machine.specs.Computing.{computing-machine}
-use Rattle.stage7_demands.specs.Demands.{Demand1, Demand2, Demand3}
-use Rattle.stage7_demands.specs.Proofs.{demand-1, demand-2, demand-3}
+use Rattle.stage7_demands.specs.Demands.{Demand1, Demand2}
+use Rattle.stage7_demands.specs.Proofs.{demand-1, demand-2}
+use Rattle.stage7_demands.specs.Corollaries.{text-changes-only, own-answer-alone}
 use Rattle.stage7_cases.specs.ImageD.{image-D, D-written}
-use Rattle.stage7_cases.specs.Cases.{Case, writes, writes-with, checks, reads, changes, runs, tables, runs-table, denotes-nothing, written-sheet, run-of-sheet, Holds, endless, cases}
+use Rattle.stage7_cases.specs.Cases.{Case, writes, writes-with, checks, reads, changes, runs, tables, runs-table, denotes-nothing}
+use Rattle.stage7_cases.specs.Cases.{written-sheet, stack-for, buffers, run-of-sheet, Holds, endless, cases}
 use Rattle.stage7_cases.specs.RepetitionCases.{image-of-counts, image-of-numbers, repetition-cases}
 use Rattle.stage7_cases.specs.CheckCases.{check-cases}
 use Rattle.stage7_cases.specs.PaddingCases.{in-ten, padding-cases}
@@ -60,25 +61,25 @@ Computes (writes sheet c) = written-sheet sheet ≡ c
 Computes (writes-with work room sheet c) = write sheet work room ≡ c
 Computes (checks sheet work a) = check-answer (check sheet work) ≡ a
 Computes (reads sheet text a) =
-    (image : List ℕ) × (written-sheet sheet ≡ written image) × (run image text (long-enough text) ≡ a)
+    (image : List ℕ) × (written-sheet sheet ≡ written image) × (run image text (stack-for text) .answer ≡ a)
     × T (all-bytes sheet) × T (leb (length text) most-text-bytes)
 Computes (changes sheet text a) =
     (image : List ℕ) × (c : Contents) × (written-sheet sheet ≡ written image) × (read-sheet sheet ≡ got c (length sheet))
-    × (run-from (plain-image (c .sheet)) (long-enough text) text (length text) first-state ≡ a)
-    × T (not (eqb (a .number) ((run image text (long-enough text)) .number)))
+    × (answer-of (trace-from (plain-image (c .sheet)) (long-enough text) text (length text) start-state) ≡ a)
+    × T (not (eqb (a .number) ((run image text (stack-for text)) .answer .number)))
     × T (all-bytes sheet) × T (leb (length sheet) most-sheet-bytes) × T (leb (length text) most-text-bytes)
-Computes (runs image text a) = (run image text (long-enough text) ≡ a) × T (all-bytes image)
+Computes (runs image text a) = (run image text (stack-for text) .answer ≡ a) × T (all-bytes image)
 Computes (tables image rows winners) =
     (i : Image) × (read-image image ≡ got i (length image)) × (length (rows-of i) ≡ rows) × (winners-of i ≡ winners) × T (all-bytes image)
-Computes (runs-table image text table winners entries a) = (run-table image text table winners entries ≡ a) × T (all-bytes image)
+Computes (runs-table image text table winners entries a) = (run image text (buffers table winners entries) .answer ≡ a) × T (all-bytes image)
 Computes (denotes-nothing sheet) =
     (c : Contents) × (read-sheet sheet ≡ got c (length sheet)) × T (all-bytes sheet) × T (leb (length sheet) most-sheet-bytes)
     × ((tokens : List ℕ) → Denotes ((c .sheet) .expression) tokens → ⊥)
 
 -- Where the own answer by number has another number than the run, the reading changes.
 changes-hold : (sheet : List ℕ) → Bytes sheet → (text : List ℕ) (a : Answer) (image : List ℕ) → written-sheet sheet ≡ written image
-    → (s : Sheet) → Spells sheet s → run-from (plain-image s) (long-enough text) text (length text) first-state ≡ a
-    → T (not (eqb (a .number) ((run image text (long-enough text)) .number))) → length text ≤ most-text-bytes
+    → (s : Sheet) → Spells sheet s → answer-of (trace-from (plain-image s) (long-enough text) text (length text) start-state) ≡ a
+    → T (not (eqb (a .number) ((run image text (stack-for text)) .answer .number))) → length text ≤ most-text-bytes
     → (s : Sheet) × Spells sheet s × OwnAnswerByNumber s text a × ReadingChanges s text
 unfolding written-sheet
 changes-hold sheet bytes text a image e s spells f differ short =
@@ -94,13 +95,14 @@ changes-hold sheet bytes text a image e s spells f differ short =
         subst (OwnAnswerByNumber s text) f
         (answered-by-number s (spells .limits) ((passable .has-type) .1) (none-empty (s .rules) .1 (passable .no-empty-text)) text)
 
-    change : (b : Answer) × OwnAnswerByNumber s text b × ((b ≡ run image text (long-enough text)) ⊎ ReadingChanges s text)
-    change = demand-3 .changes-only sheet bytes work-bytes 65536 image e s spells text short (long-enough text) (omega arith)
+    change : (b : Answer) × OwnAnswerByNumber s text b × ((b ≡ run image text (stack-for text) .answer) ⊎ ReadingChanges s text)
+    change =
+        text-changes-only sheet s passable text _ (own-answer-alone sheet bytes work-bytes 65536 image e s spells text short)
 
-    not-same : a ≡ run image text (long-enough text) → ⊥
+    not-same : a ≡ run image text (stack-for text) .answer → ⊥
     not-same same =
-        not-holds (eqb (a .number) ((run image text (long-enough text)) .number)) differ
-        (true-holds _ (eq-eqb (a .number) ((run image text (long-enough text)) .number) (ap (λ (b : Answer). b .number) same)))
+        not-holds (eqb (a .number) ((run image text (stack-for text)) .answer .number)) differ
+        (true-holds _ (eq-eqb (a .number) ((run image text (stack-for text)) .answer .number) (ap (λ (b : Answer). b .number) same)))
 
 -- By demand 2 a sheet whose image was written is one that the bytes spell, and by demand 3 what the machine answers is its own answer.
 holds : (c : Case) → Computes c → Holds c
@@ -112,24 +114,21 @@ holds (reads sheet text a) h =
     let bytes = tested-bytes sheet (h .3) in
     let s = demand-2 .accepted-exactly sheet bytes work-bytes 65536 (omega arith) .0 (h .0, h .1) in
     let spells : Spells sheet (s .0) = (s .1) .passable .well-formed in (
-      ap (λ (c : Written). run (written-part c) text (long-enough text)) (h .1) ∙ h .2,
+      ap (λ (c : Written). run (written-part c) text (stack-for text) .answer) (h .1) ∙ h .2,
       s .0,
       spells,
       subst (OwnAnswer (s .0) text) (h .2)
-          (demand-3 .own-answer sheet bytes work-bytes 65536 (h .0) (h .1) (s .0) spells text (long-enough text)
-          (leb→le (length text) most-text-bytes (h .4)) (omega arith)),
+          (own-answer-alone sheet bytes work-bytes 65536 (h .0) (h .1) (s .0) spells text (leb→le (length text) most-text-bytes (h .4))),
     )
 holds (changes sheet text a) h =
     let bytes = tested-bytes sheet (h .6) in
     let read = read-accepted sheet bytes (leb→le (length sheet) most-sheet-bytes (h .7)) (h .3) in
     changes-hold sheet bytes text a (h .0) (h .2) (h .1 .sheet) (read .spells) (h .4) (h .5) (leb→le (length text) most-text-bytes (h .8))
 holds (runs image text a) h =
-    (h .0, subst (Runs image text (long-enough text)) (h .0) (demand-1 .running image text (tested-bytes image (h .1)) (long-enough text)))
+    (h .0, demand-1 .running image text (tested-bytes image (h .1)) (stack-for text) _ .0 refl)
 holds (tables image rows winners) h = (h .0, read-readable image (tested-bytes image (h .4)) (h .0) (length image) (h .1), h .2, h .3)
-holds (runs-table image text table winners entries a) h = (
-  h .0,
-  subst (RunsTable image text table winners entries) (h .0) (demand-1 .table-running image text (tested-bytes image (h .1)) table winners entries),
-)
+holds (runs-table image text table winners entries a) h =
+    (h .0, demand-1 .running image text (tested-bytes image (h .1)) (buffers table winners entries) _ .0 refl)
 holds (denotes-nothing sheet) h =
     let read = read-accepted sheet (tested-bytes sheet (h .2)) (leb→le (length sheet) most-sheet-bytes (h .3)) (h .1) in
     (h .0 .sheet, read .spells, h .4)

@@ -2,12 +2,13 @@
 -- accepts no text, that a long enough stack never runs out, that 65,536 bytes are room for the image of every sheet that passes, and that a
 -- sheet and its padded twin give the same image; and demands 2 and 3 with every repetition spelled out: typing and denotation are then the
 -- published ones alone, while the sheet's bytes and its image stay those with tag 7.
-use mathlib.Core.Path.{_≡_, ap, subst, _∙_}
+use mathlib.Core.Path.{_≡_, refl, ap, subst, _∙_}
+use mathlib.Core.Bool.{true, false}
 use mathlib.Core.List.{List}
-use mathlib.Core.Logic.{_↔_}
+use mathlib.Core.Logic.{_↔_, _⊎_}
 use Prim.Native.Nat.{ℕ, _≤_}
 use native.Mathlib.Omega.{arith}
-use lib.ListN.{length}
+use lib.ListN.{length, replicate, length-replicate}
 use Rattle.stage1_sheet.specs.Limits.{most-sheet-bytes}
 use Rattle.stage1_sheet.specs.Sheet.{Sheet}
 use Rattle.stage1_sheet.specs.WellFormed.{Spells}
@@ -22,7 +23,7 @@ use Rattle.stage2_types.specs.SpelledOutTyping.{spelled-out-has-type}
 use Rattle.stage4_lexer.specs.EmptyWord.{none-empty}
 use Rattle.stage4_lexer.specs.Words.{NoEmptyRule}
 use Rattle.stage4_lexer.specs.RuleOrder.{WordsAbove}
-use Rattle.stage5_image.specs.Image.{plain-image, image-of, image-bytes}
+use Rattle.stage5_image.specs.Image.{Image, plain-image, image-of, image-bytes}
 use Rattle.stage5_image.specs.ImageFields.{ReadableAs}
 use Rattle.stage5_image.specs.ImageLength.{image-fits}
 use Rattle.stage5_image.specs.FieldsLaws.{readable-written}
@@ -33,23 +34,73 @@ use Rattle.stage5_image.specs.CheckQuestions.{checks-only, passed-passable}
 use Rattle.stage5_image.specs.Write.{written}
 use Rattle.stage5_image.specs.Writes.{Acceptable}
 use Rattle.stage6_machine.specs.Answer.{Answer, answer}
-use Rattle.stage6_machine.specs.Run.{most-text-bytes, long-enough}
-use Rattle.stage6_machine.specs.OwnAnswer.{own-order, OwnAnswer}
-use Rattle.stage6_machine.specs.Lexes.{Lexes, LexesTo, GoesNoFurther}
+use Rattle.stage6_machine.specs.Lent.{most-text-bytes, long-enough, Lent, stack-alone, Ran, built}
+use Rattle.stage6_machine.specs.Runs.{Begins, Runs}
+use Rattle.stage6_machine.specs.LentLaws as lent-laws
+use Rattle.stage6_machine.specs.LentLaws.{turns-away, begins-left, alone-number}
+use Rattle.stage6_machine.specs.OwnAnswer.{own-order, OwnAnswer, OwnAnswerByNumber}
+use Rattle.stage6_machine.specs.Lexes.{Lexes, LexesTo, GoesNoFurther, ReadingChanges}
+use Rattle.stage6_machine.specs.OrderedAnswers.{answer-changes-only}
+use Rattle.stage6_machine.specs.FaithfulImage.{answered-by-number}
 use Rattle.stage6_machine.specs.AcceptanceLaws.{accepted-iff, accepted-answer, refused-place, own-answer-not-17}
 use Rattle.stage6_machine.specs.SpelledOutAnswers.{spelled-out-own-answer}
 use Rattle.stage7_demands.specs.Demands.{Functions, Demand1, Demand2, Demand3}
+use Rattle.stage7_demands.specs.Proofs.{cited, written-bytes, demand-1, demand-3}
 
--- Of any functions that meet demand 3: a sheet that writing accepted, its image, a text within the limit, and a long enough stack.
+-- Of any functions that meet demand 1, what running leaves of all that it is lent, whatever the image, the text and the buffers hold.
+module _ (f : Functions) (demand : Demand1 f) (image text : List ℕ) (bytes : Bytes image) (lent : Lent) where
+  abbrev ran : Ran
+  ran = f .run image text lent
+
+  runs : Runs image text lent ran
+  runs = demand .running image text bytes lent ran .0 refl
+
+  -- "untouched after 12 and 13"; "after these [18 and 19], 12 and 13 the stack and both buffers are untouched"
+  pub untouched : turns-away (ran .answer .number) ≡ true → ran .left ≡ lent
+  untouched = lent-laws.untouched image text lent runs
+
+  -- Any other run: "The stack ends all zero", and "Each run builds the table before it reads the text. Entries past the last row keep what
+  -- they held.", for the one image that the bytes are.
+  pub worked : turns-away (ran .answer .number) ≡ false
+      → (i : Image)
+      × (Begins image text lent i × (ran .left ≡ record { stack = replicate (length (lent .stack)) 0; scanner = built i (lent .scanner) }))
+  worked = begins-left image text lent runs
+
+  -- "Unless 18 or 19 is given, the answer and the final stack are those of a run without a table", for every image, readable or not.
+  pub as-without-table : (ran .answer .number ≡ 18 → ⊥) → (ran .answer .number ≡ 19 → ⊥)
+      → let alone = f .run image text (stack-alone (lent .stack)) in (ran .answer ≡ alone .answer) × (ran .left .stack ≡ alone .left .stack)
+  as-without-table =
+      let alone = stack-alone (lent .stack) in
+      lent-laws.as-without-table image text lent bytes runs (demand .running image text bytes alone _ .0 refl)
+
+-- Demand 3 of the functions that the code's contracts cite, of runs without a table, which give neither 18 nor 19.
+module _ (sheet : List ℕ) (bytes : Bytes sheet) (work room : ℕ) (image : List ℕ) (accepted : cited .write sheet work room ≡ written image)
+    (s : Sheet) (spells : Spells sheet s) (text : List ℕ) (within : length text ≤ most-text-bytes) where
+  alone-runs : (stack : List ℕ) → Runs image text (stack-alone stack) (cited .run image text (stack-alone stack))
+  alone-runs stack =
+      demand-1 .running image text (written-bytes sheet bytes work room image accepted) (stack-alone stack) _ .0 refl
+
+  pub own-answer-without : (stack : List ℕ) → long-enough text ≤ length stack → OwnAnswer s text (cited .run image text (stack-alone stack) .answer)
+  own-answer-without stack long =
+      let n = alone-number image text stack (alone-runs stack) in
+      demand-3 .own-answer sheet bytes work room image accepted s spells text (stack-alone stack) within long (n .0) (n .1)
+
+  -- On a stack that is just long enough.
+  pub own-answer-alone : OwnAnswer s text (cited .run image text (stack-alone (replicate (long-enough text) 0)) .answer)
+  own-answer-alone = own-answer-without (replicate (long-enough text) 0) (omega (arith, length-replicate {A = ℕ} (long-enough text) 0))
+
+-- Of any functions that meet demand 3: a sheet that writing accepted, its image, a text within the limit, a long enough stack, and a run that
+-- meets neither 18 nor 19.
 module _ (f : Functions) (demand : Demand3 f) (sheet : List ℕ) (bytes : Bytes sheet) (work room : ℕ) (image : List ℕ)
-    (accepted : f .write sheet work room ≡ written image) (s : Sheet) (spells : Spells sheet s) (text : List ℕ) (entries : ℕ)
-    (short : length text ≤ most-text-bytes) (long : long-enough text ≤ entries) where
+    (accepted : f .write sheet work room ≡ written image) (s : Sheet) (spells : Spells sheet s) (text : List ℕ) (lent : Lent)
+    (within : length text ≤ most-text-bytes) (long : long-enough text ≤ length (lent .stack))
+    (not-18 : f .run image text lent .answer .number ≡ 18 → ⊥) (not-19 : f .run image text lent .answer .number ≡ 19 → ⊥) where
   -- What running the image answers.
   abbrev a : Answer
-  a = f .run image text entries
+  a = f .run image text lent .answer
 
   own : OwnAnswer s text a
-  own = demand .own-answer sheet bytes work room image accepted s spells text entries short long
+  own = demand .own-answer sheet bytes work room image accepted s spells text lent within long not-18 not-19
 
   -- A text is accepted exactly when longest match over all rules reads it to its end and the expression denotes the tokens found.
   pub text-accepted-iff : (a .number ≡ 0) ↔ ((tokens : List ℕ) × Lexes s text 0 tokens × Denotes (s .expression) tokens)
@@ -76,6 +127,15 @@ module _ (f : Functions) (demand : Demand3 f) (sheet : List ℕ) (bytes : Bytes 
   -- What running answers is the own answer of the sheet with every repetition spelled out.
   pub spelled-out-answered : OwnAnswer (spelled-out-sheet s) text a
   spelled-out-answered = spelled-out-own-answer s text a .0 own
+
+-- "A reading changes only where a non-word rule stood above a word rule and both matched equally far", of whole texts: a sheet that passes has
+-- an own answer by number, as it was, to every text, and its own answer is the same or a place is reached where the reading changes.
+pub text-changes-only : (sheet : List ℕ) (s : Sheet) → Passable sheet s → (text : List ℕ) (b : Answer) → OwnAnswer s text b
+    → (a : Answer) × OwnAnswerByNumber s text a × ((a ≡ b) ⊎ ReadingChanges s text)
+text-changes-only sheet s p text b own =
+    let no-empty = none-empty (s .rules) .1 (p .no-empty-text) in
+    let old = answered-by-number s ((p .well-formed) .limits) ((p .has-type) .1) no-empty text in
+    (_, old, answer-changes-only s text no-empty _ b old own)
 
 -- Of any functions that meet demand 2: where no other rule stands above a word rule, the image is byte for byte the one with the rules numbered
 -- as they stand.

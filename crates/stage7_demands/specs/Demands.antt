@@ -2,8 +2,7 @@
 -- of those that the code's contracts cite (`Proofs`): so the definitions of these functions need not be read. The contracts:
 --   `stage5_image_checker`: `check` answers `check`, and leaves `work-after`;
 --   `stage5_image_compiler`: `write` answers `write`, and leaves `image-after` and `work-after`;
---   `stage6_machine_runner`: `run` answers `run`, and leaves `stack-after`;
---   `stage6_machine_table`: `run_table` answers `run-table`, and leaves `table-after`, `winners-after` and `table-stack-after`;
+--   `stage6_machine_lent`: `run` and `run_table` answer and leave what `run` gives, of all that they are lent;
 --   `stage7_engine`: `read_text` has `OwnAnswer` itself in its contract, and all three buffers; so has `program_line`, with its own buffers;
 --   `vinzagew`: `sheet_check`, `sheet_write`, `image_run` and `image_run_table` hand on the first four.
 use mathlib.Core.Path.{_≡_}
@@ -12,12 +11,12 @@ use mathlib.Core.Logic.{_↔_, _⊎_}
 use Prim.Native.Nat.{ℕ, _≤_, _<_}
 use lib.ListN.{length, drop, replicate}
 use Rattle.stage1_sheet.specs.Limits.{most-sheet-bytes}
-use Rattle.stage1_sheet.specs.Sheet.{Sheet}
+use Rattle.stage1_sheet.specs.Sheet.{Rule, Sheet}
 use Rattle.stage1_sheet.specs.WellFormed.{Spells}
 use Rattle.stage1_sheet.specs.Spelling.{Bytes}
 use Rattle.stage1_sheet.specs.Twins.{Twins, SamePlace}
-use Rattle.stage4_lexer.specs.RuleOrder.{WordsAbove}
-use Rattle.stage4_lexer.specs.Table.{most-rows}
+use Rattle.stage4_lexer.specs.RuleOrder.{by-number, by-kind, WordsAbove}
+use Rattle.stage4_lexer.specs.LongestMatch.{LongestMatch, NonWordAbove}
 use Rattle.stage5_image.specs.Image.{Image, plain-image, image-of}
 use Rattle.stage5_image.specs.ImageFields.{ReadableAs}
 use Rattle.stage5_image.specs.Unfolding.{StartUnfolds, DenotedRules}
@@ -26,12 +25,9 @@ use Rattle.stage5_image.specs.Checks.{Passable, Checks}
 use Rattle.stage5_image.specs.Write.{Written, refused, too-long, written, WriteAnswer}
 use Rattle.stage5_image.specs.Writes.{Acceptable, Writes}
 use Rattle.stage6_machine.specs.Answer.{Answer}
-use Rattle.stage6_machine.specs.Run.{most-text-bytes, long-enough}
-use Rattle.stage6_machine.specs.OwnAnswer.{OwnAnswer, OwnAnswerByNumber}
-use Rattle.stage6_machine.specs.Lexes.{ReadingChanges}
+use Rattle.stage6_machine.specs.Lent.{most-text-bytes, long-enough, Lent, Ran}
 use Rattle.stage6_machine.specs.Runs.{Runs}
-use Rattle.stage6_machine.specs.TableRun.{lent-entries, rows-of, entries-of, winners-of}
-use Rattle.stage6_machine.specs.TableRuns.{RunsTable}
+use Rattle.stage6_machine.specs.OwnAnswer.{OwnAnswer}
 
 -- What checking, writing and running answer, and what the lent buffers hold at the end, as functions of all that is handed over. Checking
 -- and writing leave the work area alike, whatever they answer: by the one `work-after`.
@@ -43,26 +39,20 @@ pub record Functions : Type 0 where
   pub written-part : Written → List ℕ
   pub image-after : Written → List ℕ → List ℕ
   pub work-after : List ℕ → List ℕ
-  pub run : List ℕ → List ℕ → ℕ → Answer
-  pub stack-after : Answer → List ℕ → List ℕ
-  -- With a table: of image, text and the lengths of table, winners and stack; and of image, text, table and winners as they were lent.
-  pub run-table : List ℕ → List ℕ → ℕ → ℕ → ℕ → Answer
-  pub table-after : List ℕ → List ℕ → List ℕ → List ℕ → List ℕ
-  pub winners-after : List ℕ → List ℕ → List ℕ → List ℕ → List ℕ
-  pub table-stack-after : List ℕ → List ℕ → List ℕ → List ℕ → List ℕ → List ℕ
+  -- Of image, text and all that is lent: the answer, and what is then left of what was lent.
+  pub run : List ℕ → List ℕ → Lent → Ran
 
 -- Demand 1. "A caller may hand over any sheet, image, text and buffers, of any length and content, and always gets an answer that
 -- document 01 fixes: a result, or the number and place of the first question that fails, and what every lent buffer then holds."
--- The answers are those of four relations in the page's terms, which have one answer each.
+-- The answers are those of three relations in the page's terms, which have one answer each. What the page says of single buffers after
+-- running is in `Corollaries`: `untouched`, `worked`, `as-without-table`.
 pub record Demand1 (f : Functions) : Type 0 where
   pub checking : (sheet : List ℕ) → Bytes sheet → (work : ℕ) → Checks sheet work (f .check sheet work)
   pub one-verdict : (sheet : List ℕ) → Bytes sheet → (work : ℕ) (u v : Verdict) → Checks sheet work u → Checks sheet work v → u ≡ v
   pub writing : (sheet : List ℕ) → Bytes sheet → (work room : ℕ) → Writes sheet work room (f .write sheet work room)
   pub one-ending : (sheet : List ℕ) → Bytes sheet → (work room : ℕ) (c d : Written) → Writes sheet work room c → Writes sheet work room d
       → c ≡ d
-  pub running : (image text : List ℕ) → Bytes image → (entries : ℕ) → Runs image text entries (f .run image text entries)
-  pub one-answer : (image text : List ℕ) → Bytes image → (entries : ℕ) (a b : Answer) → Runs image text entries a → Runs image text entries b
-      → a ≡ b
+  pub running : (image text : List ℕ) → Bytes image → (lent : Lent) (r : Ran) → (f .run image text lent ≡ r) ↔ Runs image text lent r
   -- Checking is "answered by number and place": 0 and 0 where the sheet passes.
   pub verdict-returned : (question place : ℕ) (s : Sheet)
       → (f .check-answer (failed question place) ≡ record { number = question; place = place })
@@ -85,33 +75,6 @@ pub record Demand1 (f : Functions) : Type 0 where
   -- area as compiling did."
   pub work-short : (work : List ℕ) → length work < work-bytes → f .work-after work ≡ work
   pub work-cleared : (work : List ℕ) → work-bytes ≤ length work → f .work-after work ≡ replicate work-bytes 0 ++ drop work-bytes work
-  -- "The stack ends all zero, untouched after 12 and 13."
-  pub stack-untouched : (a : Answer) (stack : List ℕ) → (a .number ≡ 12) ⊎ (a .number ≡ 13) → f .stack-after a stack ≡ stack
-  pub stack-zero : (a : Answer) (stack : List ℕ) → (a .number ≡ 12 → ⊥) → (a .number ≡ 13 → ⊥)
-      → f .stack-after a stack ≡ replicate (length stack) 0
-  -- Running with a table.
-  pub table-running : (image text : List ℕ) → Bytes image → (table winners entries : ℕ)
-      → RunsTable image text table winners entries (f .run-table image text table winners entries)
-  pub one-table-answer : (image text : List ℕ) → Bytes image → (table winners entries : ℕ) (a b : Answer)
-      → RunsTable image text table winners entries a → RunsTable image text table winners entries b → a ≡ b
-  -- "Unless 18 or 19 is given, the answer and the final stack are those of a run without a table", for every image, readable or not.
-  pub as-without-table : (image text table winners stack : List ℕ)
-      → let a = f .run-table image text (length table) (length winners) (length stack) in
-      (a .number ≡ 18 → ⊥) → (a .number ≡ 19 → ⊥)
-      → (a ≡ f .run image text (length stack))
-      × (f .table-stack-after image text table winners stack ≡ f .stack-after (f .run image text (length stack)) stack)
-  -- "after these [18 and 19], 12 and 13 the stack and both buffers are untouched"
-  pub buffers-untouched : (image text table winners stack : List ℕ)
-      → let a = f .run-table image text (length table) (length winners) (length stack) in
-      ((a .number ≡ 18) ⊎ (a .number ≡ 19)) ⊎ ((a .number ≡ 12) ⊎ (a .number ≡ 13))
-      → (f .table-after image text table winners ≡ table) × (f .winners-after image text table winners ≡ winners)
-      × (f .table-stack-after image text table winners stack ≡ stack)
-  -- "Each run builds the table before it reads the text. Entries past the last row keep what they held.": whatever the text brings.
-  pub buffers-built : (image text table winners stack : List ℕ) → Bytes image → lent-entries ≤ length table → most-rows ≤ length winners
-      → length text ≤ most-text-bytes → (i : Image) → ReadableAs image i → length (rows-of i) ≤ most-rows
-      → (f .table-after image text table winners ≡ entries-of i ++ drop (length (entries-of i)) table)
-      × (f .winners-after image text table winners ≡ winners-of i ++ drop (length (winners-of i)) winners)
-      × (f .table-stack-after image text table winners stack ≡ replicate (length stack) 0)
 
 -- Demand 2. "Given the work area that document 01 names, a sheet is accepted exactly if it is well formed, no lexer rule matches the
 -- empty text, its expression has a type under the published typing rules, and the image fits. The image is then the one normal
@@ -161,20 +124,13 @@ pub record Demand2 (f : Functions) : Type 0 where
 -- What follows from it by name is in `Corollaries`: `text-accepted-iff`, `text-accepted-answer`, `text-refused-place`, `nothing-accepted`,
 -- `stack-never-short`, `spelled-out-answered`.
 pub record Demand3 (f : Functions) : Type 0 where
+  -- Of every run, with a table or without, that meets neither 18 nor 19.
   pub own-answer : (sheet : List ℕ) → Bytes sheet → (work room : ℕ) (image : List ℕ) → f .write sheet work room ≡ written image
       → (s : Sheet) → Spells sheet s
-      → (text : List ℕ) (entries : ℕ) → length text ≤ most-text-bytes → long-enough text ≤ entries
-      → OwnAnswer s text (f .run image text entries)
+      → (text : List ℕ) (lent : Lent) → length text ≤ most-text-bytes → long-enough text ≤ length (lent .stack)
+      → let a = f .run image text lent .answer in (a .number ≡ 18 → ⊥) → (a .number ≡ 19 → ⊥) → OwnAnswer s text a
   pub exactly : (s : Sheet) (text : List ℕ) (a b : Answer) → OwnAnswer s text a → OwnAnswer s text b → a ≡ b
-  -- So it is of runs with a table that meet neither 18 nor 19.
-  pub own-answer-by-table : (sheet : List ℕ) → Bytes sheet → (work room : ℕ) (image : List ℕ) → f .write sheet work room ≡ written image
-      → (s : Sheet) → Spells sheet s
-      → (text : List ℕ) (entries : ℕ) → length text ≤ most-text-bytes → long-enough text ≤ entries → (table winners : ℕ)
-      → let a = f .run-table image text table winners entries in (a .number ≡ 18 → ⊥) → (a .number ≡ 19 → ⊥) → OwnAnswer s text a
-  -- "A reading changes only where a non-word rule stood above a word rule and both matched equally far": with the lowest rule picked, as it
-  -- was, there is an own answer, and running gives it or such a place is reached. There is no other (`stage6_machine` OwnAnswerLaws:
-  -- `by-number-one`). Of one place: `stage4_lexer` OrderedMatches: `match-changes-only`.
-  pub changes-only : (sheet : List ℕ) → Bytes sheet → (work room : ℕ) (image : List ℕ) → f .write sheet work room ≡ written image
-      → (s : Sheet) → Spells sheet s
-      → (text : List ℕ) → length text ≤ most-text-bytes → (entries : ℕ) → long-enough text ≤ entries
-      → (a : Answer) × OwnAnswerByNumber s text a × ((a ≡ f .run image text entries) ⊎ ReadingChanges s text)
+  -- "A reading changes only where a non-word rule stood above a word rule and both matched equally far": at every place the match by number,
+  -- as it was, and the match by kind are equally long, and their rules differ only so. Of whole texts: `Corollaries`: `text-changes-only`.
+  pub changes-only : (rules : List Rule) (rest : List ℕ) (old new n m : ℕ) → LongestMatch by-number rules rest old n
+      → LongestMatch by-kind rules rest new m → (n ≡ m) × ((old ≡ new) ⊎ NonWordAbove rules rest old new n)

@@ -1,8 +1,8 @@
 -- The demands hold: their parts put together.
-use mathlib.Core.Path.{_≡_, refl, sym, ap, subst}
+use mathlib.Core.Path.{_≡_, refl, sym, subst}
 use mathlib.Core.Bool.{true}
 use mathlib.Core.List.{List}
-use mathlib.Core.Logic.{_↔_, _⊎_, ⊎-elim}
+use mathlib.Core.Logic.{_↔_, _⊎_}
 use mathlib.Core.Option.{none}
 use Prim.Native.Nat.{ℕ, _≤_}
 use native.Mathlib.Omega.{arith}
@@ -12,7 +12,7 @@ use Rattle.stage1_sheet.specs.WellFormed.{WithinLimits, Spells}
 use Rattle.stage1_sheet.specs.Spelling.{Bytes}
 use Rattle.stage1_sheet.specs.ReadingLaws.{spelled-once}
 use Rattle.stage4_lexer.specs.RuleOrder.{words-first-sheet, WordsAbove}
-use Rattle.stage4_lexer.specs.OrderedMatches.{ordered-empty-match, ordered-limits}
+use Rattle.stage4_lexer.specs.OrderedMatches.{ordered-empty-match, ordered-limits, match-changes-only}
 use Rattle.stage4_lexer.specs.Positions.{empty-match}
 use Rattle.stage4_lexer.specs.EmptyWord.{none-empty}
 use Rattle.stage5_image.specs.Image.{Image, plain-image, image-of, image-bytes}
@@ -31,18 +31,16 @@ use Rattle.stage5_image.specs.TwinAnswers.{twins-refused, twins-written}
 use Rattle.stage5_image.specs.WriteQuestions.{passable-readable, write-answers, writes-one, acceptable-written, written-acceptable}
 use Rattle.stage5_image.specs.BufferLaws.{checked-answers, written-answers, handed-back, image-buffer, work-short, work-cleared}
 use Rattle.stage6_machine.specs.Answer.{Answer}
-use Rattle.stage6_machine.specs.Run.{most-text-bytes, run, long-enough, stack-after}
-use Rattle.stage6_machine.specs.Runs.{Runs, long-text, unreadable, no-entry, started}
-use Rattle.stage6_machine.specs.RunsLaws.{run-runs, runs-one}
-use Rattle.stage6_machine.specs.StackLaws.{stack-untouched-12, stack-untouched-13, stack-zero, turns-away}
-use Rattle.stage6_machine.specs.TableRun.{beginning, run-table, table-after, winners-after, table-stack-after}
-use Rattle.stage6_machine.specs.TableRunLaws.{table-answer, run-table-runs, table-runs-one, buffers-untouched, buffers-built, table-stack}
-use Rattle.stage6_machine.specs.OwnAnswer.{OwnAnswer, OwnAnswerByNumber}
-use Rattle.stage6_machine.specs.Lexes.{ReadingChanges}
-use Rattle.stage6_machine.specs.OrderedAnswers.{ordered-answer, answer-changes-only}
+use Rattle.stage6_machine.specs.Trace.{answer-of}
+use Rattle.stage6_machine.specs.Lent.{most-text-bytes, long-enough, Lent, Ran, turned-away, finished}
+use Rattle.stage6_machine.specs.Runs.{Begins, Runs, short, long-text, unreadable, many-rows, no-entry, started}
+use Rattle.stage6_machine.specs.Run.{run}
+use Rattle.stage6_machine.specs.RunsLaws.{run-runs, runs-iff}
+use Rattle.stage6_machine.specs.OwnAnswer.{OwnAnswer}
+use Rattle.stage6_machine.specs.OrderedAnswers.{ordered-answer}
 use Rattle.stage6_machine.specs.OwnAnswerLaws.{own-answer-one}
 use Rattle.stage6_machine.specs.RunAnswers.{Faithful, runs-own-answer}
-use Rattle.stage6_machine.specs.FaithfulImage.{StandsFor, start-stands, image-faithful, answered-by-number}
+use Rattle.stage6_machine.specs.FaithfulImage.{StandsFor, start-stands, image-faithful}
 use Rattle.stage7_demands.specs.Demands.{Functions, Demand1, Demand2, Demand3}
 
 -- The functions that the code's contracts cite.
@@ -56,11 +54,6 @@ cited = record {
   image-after = image-after;
   work-after = work-after;
   run = run;
-  stack-after = stack-after;
-  run-table = run-table;
-  table-after = λ image text table winners. table-after (beginning image text (length table) (length winners)) table;
-  winners-after = λ image text table winners. winners-after (beginning image text (length table) (length winners)) winners;
-  table-stack-after = λ image text table winners stack. table-stack-after (beginning image text (length table) (length winners)) stack;
 }
 
 -- ---- demand 1
@@ -76,21 +69,13 @@ image-kept sheet work buffer = go (write sheet work (length buffer)) refl
         let fits = written-passed sheet work (length buffer) image e .3 in
         omega (arith, length-append image (drop (length image) buffer), length-drop (length image) buffer)
 
-stack-untouched : (a : Answer) (stack : List ℕ) → (a .number ≡ 12) ⊎ (a .number ≡ 13) → stack-after a stack ≡ stack
-stack-untouched a stack h = ⊎-elim (stack-untouched-12 a stack) (stack-untouched-13 a stack) h
-
-turned-number : (n : ℕ) → ((n ≡ 18) ⊎ (n ≡ 19)) ⊎ ((n ≡ 12) ⊎ (n ≡ 13)) → turns-away n ≡ true
-turned-number n h =
-    ⊎-elim (λ k. ⊎-elim (λ e. ap turns-away e) (λ e. ap turns-away e) k) (λ k. ⊎-elim (λ e. ap turns-away e) (λ e. ap turns-away e) k) h
-
 pub demand-1 : Demand1 cited
 demand-1 = record {
   checking = λ sheet bytes work. check-answers sheet work bytes;
   one-verdict = λ sheet bytes work u v. checks-one bytes;
   writing = λ sheet bytes work room. write-answers sheet work room bytes;
   one-ending = λ sheet bytes work room c d. writes-one bytes;
-  running = λ image text bytes entries. run-runs image text entries bytes;
-  one-answer = λ image text bytes entries a b. runs-one image text entries bytes;
+  running = λ image text bytes lent. runs-iff image text lent bytes;
   verdict-returned = checked-answers;
   returned = written-answers;
   handed-back = handed-back;
@@ -98,16 +83,6 @@ demand-1 = record {
   image-kept = image-kept;
   work-short = work-short;
   work-cleared = work-cleared;
-  stack-untouched = stack-untouched;
-  stack-zero = stack-zero;
-  table-running = λ image text bytes table winners entries. run-table-runs image text table winners entries bytes;
-  one-table-answer = λ image text bytes table winners entries a b. table-runs-one image text table winners entries bytes;
-  as-without-table = λ image text table winners stack m n. (
-    table-answer image text (length table) (length winners) (length stack) m n,
-    table-stack image text table winners stack m n,
-  );
-  buffers-untouched = λ image text table winners stack h. buffers-untouched image text table winners stack (turned-number _ h);
-  buffers-built = λ image text table winners stack bytes. buffers-built image text table winners stack bytes;
 }
 
 -- ---- demand 2
@@ -168,10 +143,10 @@ demand-2 = record {
 
 runs-own : (sheet : List ℕ) → Bytes sheet → (work room : ℕ) (image : List ℕ) → write sheet work room ≡ written image
     → (s : Sheet) → Spells sheet s
-    → (text : List ℕ) (entries : ℕ) → length text ≤ most-text-bytes → long-enough text ≤ entries
-    → (a : Answer) → Runs image text entries a → OwnAnswer s text a
-unfolding image-of words-first-sheet
-runs-own sheet bytes work room image e s spells text entries short long a runs = by-question runs
+    → (text : List ℕ) (lent : Lent) → length text ≤ most-text-bytes → long-enough text ≤ length (lent .stack)
+    → (r : Ran) → Runs image text lent r → (r .answer .number ≡ 18 → ⊥) → (r .answer .number ≡ 19 → ⊥) → OwnAnswer s text (r .answer)
+unfolding image-of words-first-sheet turned-away finished answer-of
+runs-own sheet bytes work room image e s spells text lent within long r runs = by-question runs
   where
     acceptable : Acceptable sheet room s
     acceptable = (accepted-sheet sheet bytes work room image e s spells) .0
@@ -180,58 +155,37 @@ runs-own sheet bytes work room image e s spells text entries short long a runs =
     limits : WithinLimits (words-first-sheet s)
     limits = ordered-limits s (spells .limits)
 
-    by-question : {b : Answer} → Runs image text entries b → OwnAnswer s text b
-    by-question (long-text h) = absurd (omega arith)
-    by-question (unreadable p h n o) = absurd (n (image-of s, accepted-normal-form sheet bytes work room image e s spells))
-    by-question (no-entry h r l) = absurd (omega arith)
-    by-question (started i h r l x) =
+    by-question : {q : Ran} → Runs image text lent q → (q .answer .number ≡ 18 → ⊥) → (q .answer .number ≡ 19 → ⊥) → OwnAnswer s text (q .answer)
+    by-question (short h) m n = absurd (m refl)
+    by-question (long-text h l) m n = absurd (omega arith)
+    by-question (unreadable p h l u o) m n = absurd (u (image-of s, accepted-normal-form sheet bytes work room image e s spells))
+    by-question (many-rows i h l x k) m n = absurd (n refl)
+    by-question (no-entry i x z) m n = absurd (omega (arith, z, long))
+    by-question (started i end x z t) m n =
         let typed = (acceptable .passable .has-type) .1 in
-        let same = readable-one image (image-of s) i (accepted-normal-form sheet bytes work room image e s spells) r in
+        let same = readable-one image (image-of s) i (accepted-normal-form sheet bytes work room image e s spells) (x .readable) in
         let ordered = words-first-sheet s in
         let stands = StandsFor ordered limits typed in
         let faithful = image-faithful ordered limits typed (ordered-empty-match (s .rules) (no-empty s sheet room acceptable)) in
         ordered-answer s text
-        (runs-own-answer ordered text i entries stands (subst (λ (j : Image). Faithful ordered j stands) same faithful) long
-        (start-stands ordered limits typed) x)
+        (runs-own-answer ordered text i (length (lent .stack)) stands (subst (λ (j : Image). Faithful ordered j stands) same faithful) long
+        (start-stands ordered limits typed) t)
 
--- What `run` answers is an answer of `Runs`.
+pub written-bytes : (sheet : List ℕ) → Bytes sheet → (work room : ℕ) (image : List ℕ) → write sheet work room ≡ written image → Bytes image
+written-bytes sheet bytes work room image e =
+    let a = written-acceptable sheet bytes work room image e in subst Bytes (sym (a .1 .2)) (image-are-bytes (image-of (a .1 .0)))
+
 run-own-answer : (sheet : List ℕ) → Bytes sheet → (work room : ℕ) (image : List ℕ) → write sheet work room ≡ written image
     → (s : Sheet) → Spells sheet s
-    → (text : List ℕ) (entries : ℕ) → length text ≤ most-text-bytes → long-enough text ≤ entries
-    → OwnAnswer s text (run image text entries)
-run-own-answer sheet bytes work room image e s spells text entries short long =
-    let written = accepted-sheet sheet bytes work room image e s spells .1 in
-    runs-own sheet bytes work room image e s spells text entries short long (run image text entries)
-    (run-runs image text entries (subst Bytes (sym written) (image-are-bytes (image-of s))))
-
--- With a table it is the same answer.
-table-own-answer : (sheet : List ℕ) → Bytes sheet → (work room : ℕ) (image : List ℕ) → write sheet work room ≡ written image
-    → (s : Sheet) → Spells sheet s
-    → (text : List ℕ) (entries : ℕ) → length text ≤ most-text-bytes → long-enough text ≤ entries → (table winners : ℕ)
-    → (run-table image text table winners entries .number ≡ 18 → ⊥) → (run-table image text table winners entries .number ≡ 19 → ⊥)
-    → OwnAnswer s text (run-table image text table winners entries)
-table-own-answer sheet bytes work room image e s spells text entries short long table winners m n =
-    subst (OwnAnswer s text) (sym (table-answer image text table winners entries m n))
-    (run-own-answer sheet bytes work room image e s spells text entries short long)
-
-run-changes-only : (sheet : List ℕ) → Bytes sheet → (work room : ℕ) (image : List ℕ) → write sheet work room ≡ written image
-    → (s : Sheet) → Spells sheet s
-    → (text : List ℕ) → length text ≤ most-text-bytes → (entries : ℕ) → long-enough text ≤ entries
-    → (a : Answer) × OwnAnswerByNumber s text a × ((a ≡ run image text entries) ⊎ ReadingChanges s text)
-run-changes-only sheet bytes work room image e s spells text short entries long =
-    let a = accepted-sheet sheet bytes work room image e s spells .0 in
-    let none-empty = no-empty s sheet room a in
-    let old = answered-by-number s (spells .limits) ((a .passable .has-type) .1) none-empty text in (
-      _,
-      old,
-      answer-changes-only s text none-empty _ (run image text entries) old
-          (run-own-answer sheet bytes work room image e s spells text entries short long),
-    )
+    → (text : List ℕ) (lent : Lent) → length text ≤ most-text-bytes → long-enough text ≤ length (lent .stack)
+    → let a = run image text lent .answer in (a .number ≡ 18 → ⊥) → (a .number ≡ 19 → ⊥) → OwnAnswer s text a
+run-own-answer sheet bytes work room image e s spells text lent within long =
+    runs-own sheet bytes work room image e s spells text lent within long (run image text lent)
+    (run-runs image text lent (written-bytes sheet bytes work room image e))
 
 pub demand-3 : Demand3 cited
 demand-3 = record {
   own-answer = run-own-answer;
   exactly = λ s text a b. own-answer-one s text;
-  own-answer-by-table = table-own-answer;
-  changes-only = run-changes-only;
+  changes-only = λ rules rest old new n m. match-changes-only rules;
 }

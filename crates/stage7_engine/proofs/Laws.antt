@@ -4,7 +4,8 @@ use mathlib.Core.Bool.{Bool, true, false, cond}
 use mathlib.Core.List.{List, _++_}
 use Prim.Native.Nat.{ℕ, _≤_, _<_}
 use native.Mathlib.Omega.{arith}
-use lib.ListN.{length, take, drop}
+use lib.Dec.{ltb}
+use lib.ListN.{length, take, drop, replicate, length-replicate}
 use borrow.Author.Tests.{lt-ltb, le-ltb, eq-eqb, ne-eqb}
 use Rattle.stage1_sheet.specs.Sheet.{Sheet}
 use Rattle.stage1_sheet.specs.FieldLaws.{Bytes}
@@ -22,9 +23,10 @@ use Rattle.stage5_image_compiler.specs.Answer.{case-of}
 use Rattle.stage5_image_compiler.specs.declared.Written.{Written}
 use Rattle.stage5_image_compiler.specs.declared.Written.the-variants.{Done, TooLong, Refused}
 use Rattle.stage6_machine.specs.Answer.{Answer, answer}
-use Rattle.stage6_machine.specs.Run.{run, stack-after}
-use Rattle.stage7_demands.specs.Demands.{Demand3}
-use Rattle.stage7_demands.specs.Proofs.{demand-3}
+use Rattle.stage6_machine.specs.Lent.{stack-alone, Ran}
+use Rattle.stage6_machine.specs.Run.{run}
+use Rattle.stage6_machine.specs.RunsLaws.{same-entries}
+use Rattle.stage7_demands.specs.Corollaries.{own-answer-without}
 use Rattle.stage6_machine_turn.specs.Steps.{answer-held}
 use Rattle.stage6_machine_turn.specs.declared.RunAnswer.{RunAnswer}
 use Rattle.stage7_engine.specs.declared.TextRead.{TextRead}
@@ -56,35 +58,36 @@ module _ (limit : ℕ) (sheet text : List ℕ) (work room : ℕ) where
   own-over entries t h = record { own-answer = λ s a w l m k. absurd (omega arith) }
 
   -- The image was run: demand 3.
-  pub own-run : (entries : ℕ) (image : List ℕ) → Bytes sheet → write sheet work room ≡ written image
-      → OwnReading limit sheet text work room entries (text-answered (run image text entries))
-  own-run entries image bytes e = record {
-    own-answer = λ s a w l m k. (run image text entries, demand-3 .own-answer sheet bytes work room image e s (a .passable .well-formed) text entries m k, refl);
+  pub own-run : (stack image : List ℕ) → Bytes sheet → write sheet work room ≡ written image
+      → OwnReading limit sheet text work room (length stack) (text-answered (run image text (stack-alone stack) .answer))
+  own-run stack image bytes e = record {
+    own-answer = λ s a w l m k.
+        (run image text (stack-alone stack) .answer, own-answer-without sheet bytes work room image e s (a .passable .well-formed) text m stack k, refl);
   }
 
 -- What is told and what the stack holds, by cases.
 module _ (limit : ℕ) (text stack : List ℕ) {m : page.Written} where
-  pub told-refused : (entries number place : ℕ) → m ≡ refused number place
-      → (sheet-refused number place ≡ reading limit m text entries) × (stack ≡ stack-after-reading limit m text stack)
+  pub told-refused : (number place : ℕ) → m ≡ refused number place
+      → (sheet-refused number place ≡ reading limit m text stack) × (stack ≡ stack-after-reading limit m text stack)
   unfolding reading stack-after-reading
-  told-refused entries number place e = rw e (refl, refl)
+  told-refused number place e = rw e (refl, refl)
 
-  pub told-long : (entries needed : ℕ) → m ≡ too-long needed
-      → (sheet-refused 11 0 ≡ reading limit m text entries) × (stack ≡ stack-after-reading limit m text stack)
+  pub told-long : (needed : ℕ) → m ≡ too-long needed
+      → (sheet-refused 11 0 ≡ reading limit m text stack) × (stack ≡ stack-after-reading limit m text stack)
   unfolding reading stack-after-reading
-  told-long entries needed e = rw e (refl, refl)
+  told-long needed e = rw e (refl, refl)
 
-  pub told-over : (entries : ℕ) (image : List ℕ) → m ≡ written image → limit < length text
-      → (text-answered (answer 12 0 0) ≡ reading limit m text entries) × (stack ≡ stack-after-reading limit m text stack)
+  pub told-over : (image : List ℕ) → m ≡ written image → limit < length text
+      → (text-answered (answer 12 0 0) ≡ reading limit m text stack) × (stack ≡ stack-after-reading limit m text stack)
   unfolding reading stack-after-reading answer-within
-  told-over entries image e h = rw (e, lt-ltb limit (length text) h) (refl, refl)
+  told-over image e h = rw (e, lt-ltb limit (length text) h) (refl, refl)
 
-  pub told-run : (image : List ℕ) (a : Answer) (exit : List ℕ) → m ≡ written image → length text ≤ limit → a ≡ run image text (length stack)
-      → exit ≡ stack-after a stack
-      → (text-answered a ≡ reading limit m text (length stack)) × (exit ≡ stack-after-reading limit m text stack)
+  pub told-run : (image : List ℕ) (a : Answer) (exit : List ℕ) → m ≡ written image → length text ≤ limit
+      → record { answer = a; left = stack-alone exit } ≡ run image text (stack-alone stack)
+      → (text-answered a ≡ reading limit m text stack) × (exit ≡ stack-after-reading limit m text stack)
   unfolding reading stack-after-reading answer-within
-  told-run image a exit e h f g =
-      rw (e, le-ltb limit (length text) h) (ap text-answered f, g ∙ ap (λ (x : Answer). stack-after x stack) f)
+  told-run image a exit e h f =
+      rw (e, le-ltb limit (length text) h) (ap (λ (r : Ran). text-answered (r .answer)) f, ap (λ (r : Ran). r .left .stack) f)
 
 -- The part of the image buffer that was written is the image.
 pub written-image : (m : page.Written) (image buffer exit : List ℕ) → m ≡ written image → exit ≡ image-after m buffer → take (length image) exit ≡ image
@@ -121,13 +124,23 @@ own-line sheet text t o = record {
       (x .0, x .1, ap line-of (x .2));
 }
 
+-- What is told depends on how many entries the stack has, and not on what they hold.
+reading-same : (limit : ℕ) (m : page.Written) (text a b : List ℕ) → length a ≡ length b → reading limit m text a ≡ reading limit m text b
+unfolding reading answer-within
+reading-same limit (refused number place) text a b e = refl
+reading-same limit (too-long needed) text a b e = refl
+reading-same limit (written image) text a b e =
+    ap (λ (x : Answer). text-answered (cond (ltb limit (length text)) (answer 12 0 0) x)) (same-entries image text a b e)
+
 -- What the engine told, and the line made of it, with buffers of the program's lengths.
-pub program-prints : (sheet text : List ℕ) (work image stack : ℕ) → work ≡ work-bytes → image ≡ program-room → stack ≡ program-entries
-    → (t : Told) → t ≡ reading most-program-text (write sheet work image) text stack
-    → OwnReading most-program-text sheet text work image stack t
+pub program-prints : (sheet text : List ℕ) (work image : ℕ) (stack : List ℕ) → work ≡ work-bytes → image ≡ program-room
+    → length stack ≡ program-entries → (t : Told) → t ≡ reading most-program-text (write sheet work image) text stack
+    → OwnReading most-program-text sheet text work image (length stack) t
     → (line-of t ≡ program-line sheet text) × OwnLine sheet text (line-of t)
 unfolding program-line
 program-prints sheet text work image stack w i s t e o =
-    let f : t ≡ reading most-program-text (write sheet work-bytes program-room) text program-entries = rw (w, i, s) at e in
+    let f : t ≡ reading most-program-text (write sheet work-bytes program-room) text stack = rw (w, i) at e in
     let p : OwnReading most-program-text sheet text work-bytes program-room program-entries t = rw (w, i, s) at o in
-    (ap line-of f, own-line sheet text t p)
+    let same = reading-same most-program-text (write sheet work-bytes program-room) text stack (replicate program-entries 0)
+    (s ∙ sym (length-replicate {A = ℕ} program-entries 0)) in
+    (ap line-of (f ∙ same), own-line sheet text t p)

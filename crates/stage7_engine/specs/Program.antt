@@ -3,7 +3,7 @@
 use mathlib.Core.Path.{_≡_}
 use mathlib.Core.List.{List}
 use Prim.Native.Nat.{ℕ, _≤_, _+_, _*_}
-use lib.ListN.{length}
+use lib.ListN.{length, replicate}
 use Rattle.stage1_sheet.specs.Sheet.{Sheet}
 use Rattle.stage3_normal_form.specs.Productions.{most-growth}
 use Rattle.stage5_image.specs.Check.{work-bytes}
@@ -28,7 +28,7 @@ program-entries = 1 + most-growth * most-program-text
 
 -- "compiles before it looks at the text, and takes texts up to 2,048 bytes (longer: `text 12 0`)"
 unfoldable pub program-line : List ℕ → List ℕ → Line
-program-line sheet text = line-of (reading most-program-text (write sheet work-bytes program-room) text program-entries)
+program-line sheet text = line-of (reading most-program-text (write sheet work-bytes program-room) text (replicate program-entries 0))
 
 -- For every sheet that demand 2 accepts, with whatever image buffer, and a text within the limit: the line of the sheet's own answer.
 pub record OwnLine (sheet text : List ℕ) (l : Line) : Type 0 where

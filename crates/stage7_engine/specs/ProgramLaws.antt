@@ -5,7 +5,7 @@ use mathlib.Core.List.{List}
 use mathlib.Core.Logic.{⊎-elim}
 use Prim.Native.Nat.{ℕ, suc, _≤_, _<_}
 use native.Mathlib.Omega.{arith}
-use lib.ListN.{length, take}
+use lib.ListN.{length, take, replicate}
 use lib.Seq.{take-all, length-take-le}
 use borrow.Author.Tests.{lt-ltb}
 use Rattle.stage0_laws.specs.Order.{lt-or-le}
@@ -33,13 +33,13 @@ loaded-sheet sheet room = ⊎-elim
     long : (l : List ℕ) → most-sheet-bytes < length l → write l work-bytes room ≡ refused 2 0
     long l h = rw (lt-ltb most-sheet-bytes (length l) h)
 
-loaded-text : (c : Written) (text : List ℕ) (entries : ℕ)
-    → reading most-program-text c (take (suc most-program-text) text) entries ≡ reading most-program-text c text entries
+loaded-text : (c : Written) (text stack : List ℕ)
+    → reading most-program-text c (take (suc most-program-text) text) stack ≡ reading most-program-text c text stack
 unfolding reading answer-within
-loaded-text (refused number place) text entries = refl
-loaded-text (too-long needed) text entries = refl
-loaded-text (written image) text entries = ⊎-elim
-    (λ h. ap (λ (l : List ℕ). reading most-program-text (written image) l entries) (cut-short most-program-text text h))
+loaded-text (refused number place) text stack = refl
+loaded-text (too-long needed) text stack = refl
+loaded-text (written image) text stack = ⊎-elim
+    (λ h. ap (λ (l : List ℕ). reading most-program-text (written image) l stack) (cut-short most-program-text text h))
     (λ h. rw (
       lt-ltb most-program-text (length (take (suc most-program-text) text)) (cut-long most-program-text text h),
       lt-ltb most-program-text (length text) (omega arith),
@@ -51,5 +51,5 @@ pub loaded-enough : (sheet text : List ℕ)
     → program-line (take (suc most-sheet-bytes) sheet) (take (suc most-program-text) text) ≡ program-line sheet text
 unfolding program-line
 loaded-enough sheet text = ap line-of
-    (ap (λ (c : Written). reading most-program-text c (take (suc most-program-text) text) program-entries) (loaded-sheet sheet program-room)
-    ∙ loaded-text (write sheet work-bytes program-room) text program-entries)
+    (ap (λ (c : Written). reading most-program-text c (take (suc most-program-text) text) (replicate program-entries 0)) (loaded-sheet sheet program-room)
+    ∙ loaded-text (write sheet work-bytes program-room) text (replicate program-entries 0))

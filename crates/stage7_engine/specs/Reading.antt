@@ -11,7 +11,8 @@ use Rattle.stage5_image.specs.Check.{work-bytes}
 use Rattle.stage5_image.specs.Write.{Written, refused, too-long, written}
 use Rattle.stage5_image.specs.Writes.{Acceptable}
 use Rattle.stage6_machine.specs.Answer.{Answer, answer}
-use Rattle.stage6_machine.specs.Run.{most-text-bytes, run, stack-after, long-enough}
+use Rattle.stage6_machine.specs.Lent.{most-text-bytes, long-enough, stack-alone}
+use Rattle.stage6_machine.specs.Run.{run}
 use Rattle.stage6_machine.specs.OwnAnswer.{OwnAnswer}
 use Rattle.stage6_machine_turn.specs.Steps.{answer-held}
 use Rattle.stage7_engine.specs.declared.TextRead.{TextRead}
@@ -30,21 +31,21 @@ told (read.Sheet number place) = sheet-refused number place
 told (read.Text a) = text-answered (answer-held a)
 
 -- A text over the limit is 12.
-unfoldable pub answer-within : ℕ → List ℕ → List ℕ → ℕ → Answer
-answer-within limit image text entries = cond (ltb limit (length text)) (answer 12 0 0) (run image text entries)
+unfoldable pub answer-within : ℕ → List ℕ → List ℕ → List ℕ → Answer
+answer-within limit image text stack = cond (ltb limit (length text)) (answer 12 0 0) (run image text (stack-alone stack) .answer)
 
--- After writing, with a stack of so many entries.
-unfoldable pub reading : ℕ → Written → List ℕ → ℕ → Told
-reading limit (refused number place) text entries = sheet-refused number place
-reading limit (too-long needed) text entries = sheet-refused 11 0
-reading limit (written image) text entries = text-answered (answer-within limit image text entries)
+-- After writing, with a lent stack.
+unfoldable pub reading : ℕ → Written → List ℕ → List ℕ → Told
+reading limit (refused number place) text stack = sheet-refused number place
+reading limit (too-long needed) text stack = sheet-refused 11 0
+reading limit (written image) text stack = text-answered (answer-within limit image text stack)
 
 -- The stack is untouched unless the image is run.
 unfoldable pub stack-after-reading : ℕ → Written → List ℕ → List ℕ → List ℕ
 stack-after-reading limit (refused number place) text stack = stack
 stack-after-reading limit (too-long needed) text stack = stack
 stack-after-reading limit (written image) text stack =
-    cond (ltb limit (length text)) stack (stack-after (run image text (length stack)) stack)
+    cond (ltb limit (length text)) stack (run image text (stack-alone stack) .left .stack)
 
 -- "running the image fixed there over the text gives exactly the sheet's own answer": for every sheet that demand 2 accepts, a text
 -- within the limits and a long enough stack.

@@ -33,7 +33,7 @@ pub fn read_text(
 ) -> TextRead
     ensures { λ r.
         ⌜ (told r ≡ reading limit (write (now (sheet .entry)) (length (now (work .entry))) (length (now (image .entry))))
-        (now (text .entry)) (length (now (stack .entry))))
+        (now (text .entry)) (now (stack .entry)))
         × (now (image .exit) ≡ image-after
         (write (now (sheet .entry)) (length (now (work .entry))) (length (now (image .entry)))) (now (image .entry)))
         × (now (work .exit) ≡ work-after (now (work .entry)))
@@ -54,7 +54,7 @@ pub fn read_text(
                     count: 0,
                 });
             }
-            let ran = stage6_machine_runner::run(&image[..size], text, stack);
+            let ran = stage6_machine_lent::run(&image[..size], text, stack);
             TextRead::Text(ran)
         }
     }

@@ -30,13 +30,13 @@ module _ (out : List ℕ) where
   unfolding out-after
   out-long a b c h = rw (le-ltb (length out) 3 h) (three-stored out a b c h)
 
-  pub same-short : (after buffer : List ℕ) → length out < 3 → buffer ≡ if-room out after buffer
+  pub same-short : {A : Type 0} (after lent : A) → length out < 3 → lent ≡ if-room out after lent
   unfolding if-room
-  same-short after buffer h = rw (lt-ltb (length out) 3 h)
+  same-short after lent h = rw (lt-ltb (length out) 3 h)
 
-  pub after-long : (after buffer : List ℕ) → 3 ≤ length out → after ≡ if-room out after buffer
+  pub after-long : {A : Type 0} (after lent : A) → 3 ≤ length out → after ≡ if-room out after lent
   unfolding if-room
-  after-long after buffer h = rw (le-ltb (length out) 3 h)
+  after-long after lent h = rw (le-ltb (length out) 3 h)
 
 -- The numbers of each case.
 pub told-passed : (v : Verdict) → v ≡ Passed → 0 ∷ 0 ∷ 0 ∷ [] ≡ check-numbers (checker.answer-of v)

@@ -19,6 +19,6 @@ run-numbers a = a .number ∷ a .place ∷ a .count ∷ []
 unfoldable pub out-after : List ℕ → List ℕ → List ℕ
 out-after numbers out = cond (ltb (length out) 3) out (numbers ++ drop 3 out)
 
--- A buffer after a call that does something only if `out` has room.
-unfoldable pub if-room : List ℕ → List ℕ → List ℕ → List ℕ
-if-room out after buffer = cond (ltb (length out) 3) buffer after
+-- What was lent, after a call that does something only if `out` has room.
+unfoldable pub if-room : {A : Type 0} → List ℕ → A → A → A
+if-room out after lent = cond (ltb (length out) 3) lent after

@@ -11,8 +11,8 @@ ghost use Rattle.stage5_image.specs.Check.{check, check-answer, check-numbers, 
 ghost use Rattle.stage5_image.specs.Write.{write, write-answer, write-numbers, image-after};
 ghost use Rattle.stage5_image_checker.specs.Answer as checker;
 ghost use Rattle.stage5_image_compiler.specs.Answer as compiler;
-ghost use Rattle.stage6_machine.specs.Run.{run, stack-after};
-ghost use Rattle.stage6_machine.specs.TableRun.{beginning, run-table, table-after, winners-after, table-stack-after};
+ghost use Rattle.stage6_machine.specs.Lent.{stack-alone, with-scanner};
+ghost use Rattle.stage6_machine.specs.Run.{run};
 ghost use Rattle.stage6_machine_turn.specs.Steps.{answer-held};
 ghost use Rattle.vinzagew.specs.Out.{numbers-held, run-numbers, out-after, if-room};
 
@@ -116,16 +116,16 @@ pub extern "C" fn sheet_write(sheet: &[u8], work: &mut [u8], image: &mut [u8], o
 pub extern "C" fn image_run(image: &[u8], text: &[u8], stack: &mut [u8], out: &mut [u64])
     ensures { λ r.
         ⌜ (now (out .exit) ≡ out-after
-        (run-numbers (run (now (image .entry)) (now (text .entry)) (length (now (stack .entry)))))
+        (run-numbers (run (now (image .entry)) (now (text .entry)) (stack-alone (now (stack .entry))) .answer))
         (now (out .entry)))
-        × (now (stack .exit) ≡ if-room (now (out .entry))
-        (stack-after (run (now (image .entry)) (now (text .entry)) (length (now (stack .entry)))) (now (stack .entry)))
-        (now (stack .entry))) ⌝ }
+        × (stack-alone (now (stack .exit)) ≡ if-room (now (out .entry))
+        (run (now (image .entry)) (now (text .entry)) (stack-alone (now (stack .entry))) .left)
+        (stack-alone (now (stack .entry)))) ⌝ }
 {
     if out.len() < 3 {
         return;
     }
-    let ran = stage6_machine_runner::run(image, text, stack);
+    let ran = stage6_machine_lent::run(image, text, stack);
     let told = run_numbers(ran);
     put(out, told);
 }
@@ -143,33 +143,18 @@ pub extern "C" fn image_run_table(
 )
     ensures { λ r.
         ⌜ (now (out .exit) ≡ out-after
-        (run-numbers (run-table
-        (now (image .entry))
-        (now (text .entry))
-        (length (now (table .entry)))
-        (length (now (winners .entry)))
-        (length (now (stack .entry)))))
+        (run-numbers (run (now (image .entry)) (now (text .entry))
+        (with-scanner (now (stack .entry)) (now (table .entry)) (now (winners .entry))) .answer))
         (now (out .entry)))
-        × (now (table .exit) ≡ if-room (now (out .entry))
-        (table-after
-        (beginning (now (image .entry)) (now (text .entry)) (length (now (table .entry))) (length (now (winners .entry))))
-        (now (table .entry)))
-        (now (table .entry)))
-        × (now (winners .exit) ≡ if-room (now (out .entry))
-        (winners-after
-        (beginning (now (image .entry)) (now (text .entry)) (length (now (table .entry))) (length (now (winners .entry))))
-        (now (winners .entry)))
-        (now (winners .entry)))
-        × (now (stack .exit) ≡ if-room (now (out .entry))
-        (table-stack-after
-        (beginning (now (image .entry)) (now (text .entry)) (length (now (table .entry))) (length (now (winners .entry))))
-        (now (stack .entry)))
-        (now (stack .entry))) ⌝ }
+        × (with-scanner (now (stack .exit)) (now (table .exit)) (now (winners .exit)) ≡ if-room (now (out .entry))
+        (run (now (image .entry)) (now (text .entry))
+        (with-scanner (now (stack .entry)) (now (table .entry)) (now (winners .entry))) .left)
+        (with-scanner (now (stack .entry)) (now (table .entry)) (now (winners .entry)))) ⌝ }
 {
     if out.len() < 3 {
         return;
     }
-    let ran = stage6_machine_table::run_table(image, text, table, winners, stack);
+    let ran = stage6_machine_lent::run_table(image, text, table, winners, stack);
     let told = run_numbers(ran);
     put(out, told);
 }

@@ -381,7 +381,7 @@ fn run_front(image: &[u8], input: &[u8], stack_size: usize, stack: &mut [u8]) ->
     if stack.len() < stack_size {
         return stage6_machine_turn::answer(NOT_LENT, 0, 0);
     }
-    stage6_machine_runner::run(image, input, &mut stack[..stack_size])
+    stage6_machine_lent::run(image, input, &mut stack[..stack_size])
 }
 
 // And shows the answer, and whether the stack ended as it must.
@@ -586,7 +586,7 @@ fn run_table_front(
     if stack.len() < stack_size {
         return stage6_machine_turn::answer(NOT_LENT, 0, 0);
     }
-    stage6_machine_table::run_table(
+    stage6_machine_lent::run_table(
         image,
         input,
         &mut table[..table_size],

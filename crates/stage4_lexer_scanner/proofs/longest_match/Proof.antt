@@ -11,50 +11,39 @@ use lib.ListN.{length, drop, getD}
 use denote.Ref.{now}
 use Rattle.stage4_lexer.specs.Match.{longer}
 use Rattle.stage4_lexer.specs.Positions.{Position}
-use Rattle.stage4_lexer.specs.SetWalk.{members}
-use Rattle.stage4_lexer.specs.Walk.{keep, follows, ended, walk, longest-match}
-use Rattle.stage4_lexer_columns.specs.Held.{held-from}
-use Rattle.stage4_lexer_scanner.specs.Meaning.{match-of}
-use Rattle.stage4_lexer_scanner.specs.Sets.{first-entry, match-by}
-use Rattle.stage4_lexer_scanner.proofs.Byte.{kept-is, ended-kept}
+use Rattle.stage4_lexer.specs.SetWalk.{members, set-walk}
+use Rattle.stage4_lexer.specs.Walk.{keep, follows, walk, longest-match}
+use Rattle.stage4_lexer_scanner.specs.Meaning.{match-of, Prepared}
+use Rattle.stage4_lexer_scanner.specs.Sets.{first-entry, joined, match-by}
+use Rattle.stage4_lexer_scanner.proofs.Byte.{kept-is, follows-kept, ended-kept}
 use Rattle.stage4_lexer_scanner.proofs.Text.{match-new, match-old, match-latest, longer-again, so-far}
 use Rattle.stage4_lexer_scanner.proofs.Text.{walk-start, walk-begun, walk-turn, walk-stops, walk-end}
 use Rattle.stage4_lexer_scanner.proofs.longest_match.Statement.{statement}
 use Rattle.stage4_lexer_scanner.proofs.longest_match.Tie as tie
 
 abbrev Inv-loop : tie.InvT-loop
-Inv-loop text count low high rule follow last first classes front kept₀ held₀ earlier₀ n₀ kept held earlier n =
-    let ps = held-from low high rule follow last 0 count in
-    (n ≤ length text) × (walk ps held (drop n text) n (so-far rule last kept n earlier) ≡ longest-match ps first text)
-    × (held ≡ follows ps 0 kept)
+Inv-loop text tables last first front kept₀ held₀ earlier₀ n₀ kept held earlier n =
+    (n ≤ length text) × ((ps : List Position) → Prepared ps last tables
+    → (walk ps held (drop n text) n (so-far (drop 320 tables) last kept n earlier) ≡ longest-match ps first text) × (held ≡ follows ps 0 kept))
 
 abbrev μ-loop : tie.MeasureT-loop
-μ-loop text count low high rule follow last first classes front kept₀ held₀ earlier₀ n₀ kept held earlier n = length text - n
+μ-loop text tables last first front kept₀ held₀ earlier₀ n₀ kept held earlier n = length text - n
 
--- ---- the columns' own positions
+-- Positions that the tables hold.
+abbrev Held : tie.Start Inv-loop μ-loop → List Position → Type 0
+Held s ps = Prepared ps (s .args .last) (now (s .args .tables))
 
-abbrev own : tie.Start Inv-loop μ-loop → List Position
-own s = let a = s .args in held-from (now (a .low)) (now (a .high)) (now (a .rule)) (now (a .follow)) (a .last) 0 (a .count)
-
-own-kept : (s : tie.Start Inv-loop μ-loop) (held b : ℕ) → b < 256
-    → bitAnd held (getD (now (s .args .classes)) b 0) ≡ keep (own s) 0 held b
-own-kept s = kept-is _ _ _ _ _ _ (s .pre .0) _ (s .pre .1)
-
--- The rule that ends with a byte, by the positions that it keeps.
-own-ended : (s : tie.Start Inv-loop μ-loop) (held b kept : ℕ) → kept ≡ keep (own s) 0 held b
-    → first-entry (now (s .args .rule)) (members (bitAnd kept (s .args .last))) ≡ ended (own s) 0 kept
-own-ended s held b kept e =
-    ap (λ (x : ℕ). first-entry (now (s .args .rule)) (members (bitAnd x (s .args .last)))) e
-    ∙ ended-kept _ _ _ _ _ _ (s .pre .0) _ (s .pre .1) held b
-    ∙ ap (ended (own s) 0) (sym e)
+-- The follow sets, by a set's members.
+by-members : (sets : List ℕ) (r kept : ℕ) → (r ≡ joined sets (set-walk kept)) × (set-walk kept ≡ members kept) → r ≡ joined sets (members kept)
+by-members sets r kept e = e .0 ∙ ap (joined sets) (e .1)
 
 -- ---- before the loop
 
 returns : tie.Need-returns Inv-loop μ-loop
 unfolding match-of
-returns c =
+returns c = λ ps h.
     let s = c .before .before in
-    walk-end (own s) (now (s .args .text)) (s .args .first) 0 _ (omega arith) ∙ walk-start (own s) (now (s .args .text)) (s .args .first)
+    walk-end ps (now (s .args .text)) (s .args .first) 0 _ (omega arith) ∙ walk-start ps (now (s .args .text)) (s .args .first)
 
 shared-slice-read-front : tie.Need-shared-slice-read-front Inv-loop μ-loop
 shared-slice-read-front c = omega arith
@@ -66,32 +55,31 @@ mul-kept : tie.Need-mul-kept Inv-loop μ-loop
 mul-kept c = omega (arith, c .shared-slice-known2 .given 0)
 
 element-copy-out-kept : tie.Need-element-copy-out-kept Inv-loop μ-loop
-element-copy-out-kept c = c .shared-slice-known2 .given 0 .fits
+element-copy-out-kept c = omega (arith, c .shared-slice-known2 .given 0 .fits)
 
 returns-2 : tie.Need-returns-2 Inv-loop μ-loop
 unfolding match-of
-returns-2 c =
+returns-2 c = λ ps h.
     let known = c .before .before in
     let s = known .before .before .before in
-    let kept = own-kept s (s .args .first) _ (known .shared-slice-known2 .given 0 .fits) in
-    walk-stops (own s) (now (s .args .text)) (s .args .first) 0 _ (omega arith) (sym kept ∙ c .if2 .taken)
-    ∙ walk-start (own s) (now (s .args .text)) (s .args .first)
+    let kept = kept-is _ _ ps h (s .args .first) _ (known .shared-slice-known2 .given 0 .fits) in
+    walk-stops ps (now (s .args .text)) (s .args .first) 0 _ (omega arith) (sym kept ∙ c .if2 .taken)
+    ∙ walk-start ps (now (s .args .text)) (s .args .first)
 
-after-byte-requires : tie.Need-after-byte-requires Inv-loop μ-loop
-after-byte-requires c κs = c .before .before .before .before .before .pre
+follow-sets-requires : tie.Need-follow-sets-requires Inv-loop μ-loop
+follow-sets-requires c κs = tt
 
 loop-holds : tie.Need-loop-holds Inv-loop μ-loop
-loop-holds c =
+loop-holds c = (omega arith, λ ps h.
     let known = c .before .before .before in
     let s = known .before .before .before in
     let a = s .args in
     let b = getD (now (a .text)) 0 0 in
-    let kept = own-kept s (a .first) b (known .shared-slice-known2 .given 0 .fits) in
-    let next = c .after-byte .ensures .next-held ∙ ap (follows (own s) 0) (sym kept) in (
-      omega arith,
-      walk-begun (own s) (now (a .rule)) (now (a .text)) (a .first) _ _ (a .last) (omega arith) kept next (own-ended s (a .first) b _ kept),
+    let kept = kept-is _ _ ps h (a .first) b (known .shared-slice-known2 .given 0 .fits) in
+    let next = by-members _ _ _ (c .follow-sets .ensures) ∙ follows-kept _ _ ps h (a .first) b _ kept in (
+      walk-begun ps (drop 320 (now (a .tables))) (now (a .text)) (a .first) _ _ (a .last) (omega arith) kept next (ended-kept _ _ ps h (a .first) b _ kept),
       next,
-    )
+    ))
 
 -- ---- a turn
 
@@ -105,15 +93,13 @@ mul-next : tie.Need-mul-next Inv-loop μ-loop
 mul-next c = omega (arith, c .shared-slice-known3 .given (c .before .before .loop .n))
 
 element-copy-out-next : tie.Need-element-copy-out-next Inv-loop μ-loop
-element-copy-out-next c = c .shared-slice-known3 .given (c .before .before .loop .n) .fits
+element-copy-out-next c = omega (arith, c .shared-slice-known3 .given (c .before .before .loop .n) .fits)
 
 latest-requires : tie.Need-latest-requires Inv-loop μ-loop
 latest-requires c κs = tt
 
-after-byte-requires-2 : tie.Need-after-byte-requires-2 Inv-loop μ-loop
-after-byte-requires-2 c κs =
-    let head = c .before .before .before .before .before .before in
-    head .before .before .before .before .before .before .before .pre
+follow-sets-requires-2 : tie.Need-follow-sets-requires-2 Inv-loop μ-loop
+follow-sets-requires-2 c κs = tt
 
 add-n : tie.Need-add-n Inv-loop μ-loop
 add-n c = omega arith
@@ -125,15 +111,17 @@ loop-less c = omega arith
 step-here : (c : tie.Joined3 Inv-loop μ-loop)
     → let head = c .before .before .before .before in
     let s = head .before .before .before .before .before .before .before in
-    (c .if3 .kept ≡ keep (own s) 0 (head .loop .held) (getD (now (s .args .text)) (head .loop .n) 0))
-    × (c .if3 .held ≡ follows (own s) 0 (c .if3 .kept))
-step-here c =
+    (ps : List Position) → Held s ps
+    → (c .if3 .kept ≡ keep ps 0 (head .loop .held) (getD (now (s .args .text)) (head .loop .n) 0))
+    × (c .if3 .held ≡ follows ps 0 (c .if3 .kept))
+step-here c ps h =
     let head = c .before .before .before .before in
     let s = head .before .before .before .before .before .before .before in
-    let next = own-kept s (head .loop .held) _ (c .before .before .shared-slice-known3 .given (head .loop .n) .fits) in
+    let b = getD (now (s .args .text)) (head .loop .n) 0 in
+    let next = kept-is _ _ ps h (head .loop .held) b (c .before .before .shared-slice-known3 .given (head .loop .n) .fits) in
     ⊎-elim
-    (λ w. let k = w .4 ∙ next in (k, w .5 ∙ w .3 .ensures .next-held ∙ ap (follows (own s) 0) (sym k)))
-    (λ w. (w .1 ∙ sym (w .0 .left) ∙ next, w .2 ∙ head .loop .inv .2 ∙ ap (follows (own s) 0) (sym (w .1))))
+    (λ w. (w .4 ∙ next, w .5 ∙ by-members _ _ _ (w .3 .ensures) ∙ follows-kept _ _ ps h (head .loop .held) b _ next ∙ ap (follows ps 0) (sym (w .4))))
+    (λ w. (w .1 ∙ sym (w .0 .left) ∙ next, w .2 ∙ head .loop .inv .1 ps h .1 ∙ ap (follows ps 0) (sym (w .1))))
     (c .if3 .came)
 
 -- The match so far, with the byte's.
@@ -141,14 +129,14 @@ match-here : (c : tie.Joined3 Inv-loop μ-loop)
     → let head = c .before .before .before .before in
     let l = head .loop in
     let a = head .before .before .before .before .before .before .before .args in
-    so-far (now (a .rule)) (a .last) (c .if3 .kept) (l .n + 1) (c .if3 .earlier)
-    ≡ longer (first-entry (now (a .rule)) (members (bitAnd (c .if3 .kept) (a .last)))) (l .n + 1)
-    (so-far (now (a .rule)) (a .last) (l .kept) (l .n) (l .earlier))
+    let rule = drop 320 (now (a .tables)) in
+    so-far rule (a .last) (c .if3 .kept) (l .n + 1) (c .if3 .earlier)
+    ≡ longer (first-entry rule (members (bitAnd (c .if3 .kept) (a .last)))) (l .n + 1) (so-far rule (a .last) (l .kept) (l .n) (l .earlier))
 match-here c =
     let head = c .before .before .before .before in
     let l = head .loop in
     let a = head .before .before .before .before .before .before .before .args in
-    let rule = now (a .rule) in
+    let rule = drop 320 (now (a .tables)) in
     let rule-here = first-entry rule (members (bitAnd (c .if3 .kept) (a .last))) in
     let small : bitAnd (l .kept) (a .last) < 2 ^ 64 = omega (arith, and-le-r (l .kept) (a .last)) in
     ⊎-elim
@@ -160,19 +148,18 @@ match-here c =
     (c .if3 .came)
 
 loop-again : tie.Need-loop-again Inv-loop μ-loop
-loop-again c =
+loop-again c = (omega arith, λ ps h.
     let head = c .before .before .before .before in
     let l = head .loop in
     let s = head .before .before .before .before .before .before .before in
-    let old = so-far (now (s .args .rule)) (s .args .last) (l .kept) (l .n) (l .earlier) in
+    let old = so-far (drop 320 (now (s .args .tables))) (s .args .last) (l .kept) (l .n) (l .earlier) in
     let more : l .n < length (now (s .args .text)) = c .before .before .before .loop-test .taken in
-    let k = step-here c .0 in (
-      omega arith,
-      walk-turn (own s) (now (s .args .text)) (l .held) (l .n) (c .if3 .kept) (c .if3 .held) old _ more k (step-here c .1)
-          (match-here c ∙ ap (λ (o : Option ℕ). longer o (l .n + 1) old) (own-ended s (l .held) _ (c .if3 .kept) k))
-          ∙ l .inv .1,
-      step-here c .1,
-    )
+    let k = step-here c ps h .0 in (
+      walk-turn ps (now (s .args .text)) (l .held) (l .n) (c .if3 .kept) (c .if3 .held) old _ more k (step-here c ps h .1)
+          (match-here c ∙ ap (λ (o : Option ℕ). longer o (l .n + 1) old) (ended-kept _ _ ps h (l .held) _ (c .if3 .kept) k))
+          ∙ l .inv .1 ps h .0,
+      step-here c ps h .1,
+    ))
 
 -- ---- after the loop
 
@@ -180,37 +167,38 @@ loop-again c =
 ended-here : (c : tie.Left-loop Inv-loop μ-loop)
     → let l = c .before .loop in
     let s = c .before .before .before .before .before .before .before .before in
-    so-far (now (s .args .rule)) (s .args .last) (l .kept) (l .n) (l .earlier) ≡ longest-match (own s) (s .args .first) (now (s .args .text))
-ended-here c =
+    (ps : List Position) → Held s ps
+    → so-far (drop 320 (now (s .args .tables))) (s .args .last) (l .kept) (l .n) (l .earlier) ≡ longest-match ps (s .args .first) (now (s .args .text))
+ended-here c ps h =
     let l = c .before .loop in
     let s = c .before .before .before .before .before .before .before .before in
-    let m = so-far (now (s .args .rule)) (s .args .last) (l .kept) (l .n) (l .earlier) in
+    let m = so-far (drop 320 (now (s .args .tables))) (s .args .last) (l .kept) (l .n) (l .earlier) in
     ⊎-elim
-    (λ w. walk-end (own s) (now (s .args .text)) (l .held) (l .n) m (w .left))
-    (λ w. walk-stops (own s) (now (s .args .text)) (l .held) (l .n) m (w .0 .taken)
-    (sym (own-kept s (l .held) _ (w .1 .given (l .n) .fits)) ∙ w .4 .taken))
+    (λ w. walk-end ps (now (s .args .text)) (l .held) (l .n) m (w .left))
+    (λ w. walk-stops ps (now (s .args .text)) (l .held) (l .n) m (w .0 .taken)
+    (sym (kept-is _ _ ps h (l .held) _ (w .1 .given (l .n) .fits)) ∙ w .4 .taken))
     (c .loop-test .came)
-    ∙ l .inv .1
+    ∙ l .inv .1 ps h .0
 
 found-match-requires : tie.Need-found-match-requires Inv-loop μ-loop
 found-match-requires c κs = tt
 
 returns-3 : tie.Need-returns-3 Inv-loop μ-loop
-returns-3 c =
+returns-3 c = λ ps h.
     let left = c .before .before in
     let a = left .before .before .before .before .before .before .before .before .args in
     let set = bitAnd (left .before .loop .kept) (a .last) in
     let small : set < 2 ^ 64 = omega (arith, and-le-r (left .before .loop .kept) (a .last)) in
-    c .found-match .ensures ∙ match-new (now (a .rule)) set _ _ (c .before .if5 .taken) small ∙ ended-here left
+    c .found-match .ensures ∙ match-new (drop 320 (now (a .tables))) set _ _ (c .before .if5 .taken) small ∙ ended-here left ps h
 
 found-match-requires-2 : tie.Need-found-match-requires-2 Inv-loop μ-loop
 found-match-requires-2 c κs = tt
 
 returns-4 : tie.Need-returns-4 Inv-loop μ-loop
-returns-4 c =
+returns-4 c = λ ps h.
     let left = c .before .before in
     let a = left .before .before .before .before .before .before .before .before .args in
-    c .found-match2 .ensures ∙ match-old (now (a .rule)) _ _ _ (c .before .if5 .left) ∙ ended-here left
+    c .found-match2 .ensures ∙ match-old (drop 320 (now (a .tables))) _ _ _ (c .before .if5 .left) ∙ ended-here left ps h
 
 pub longest-match-spec : {M : Type 1} → statement M
 longest-match-spec =
@@ -224,14 +212,14 @@ longest-match-spec =
     mul-kept
     element-copy-out-kept
     returns-2
-    after-byte-requires
+    follow-sets-requires
     loop-holds
     shared-slice-read-byte
     cast-next
     mul-next
     element-copy-out-next
     latest-requires
-    after-byte-requires-2
+    follow-sets-requires-2
     add-n
     loop-less
     loop-again

@@ -27,7 +27,7 @@ loop-holds c =
     let a = c .before .args in (
       omega arith,
       omega (arith, c .before .pre .2),
-      paste-zero (now (a .table)) (a .at) (numbers-by (take (a .count) (now (a .sets))) (now (a .classes)) (a .held) 256),
+      paste-zero (now (a .table)) (a .at) (numbers-by (take (a .count) (now (a .sets))) (now (a .tables)) (a .held) 256),
     )
 
 mul-kept : tie.Need-mul-kept Inv-loop μ-loop
@@ -48,7 +48,7 @@ few c =
     omega (
       arith,
       c .place-of .ensures,
-      place-most (take (start .args .count) sets) (bitAnd (start .args .held) (getD (now (start .args .classes)) byte 0)),
+      place-most (take (start .args .count) sets) (bitAnd (start .args .held) (getD (now (start .args .tables)) byte 0)),
       length-take-le (start .args .count) sets (omega (arith, start .pre .0, start .pre .1)),
       start .pre .1,
     )
@@ -65,7 +65,7 @@ long c =
     let a = c .before .before .args in
     ap length (c .loop .inv .2)
     ∙ length-paste (now (a .table)) (a .at) _ (c .loop .byte) (omega (arith, c .before .before .pre .3, c .loop .inv .0))
-    (omega (arith, numbers-count (take (a .count) (now (a .sets))) (now (a .classes)) (a .held) 256, c .loop .inv .0))
+    (omega (arith, numbers-count (take (a .count) (now (a .sets))) (now (a .tables)) (a .held) 256, c .loop .inv .0))
 
 add-table : tie.Need-add-table Inv-loop μ-loop
 add-table c =
@@ -92,7 +92,7 @@ loop-less c = omega arith
 kept-here : (c : tie.Joined1 Inv-loop μ-loop)
     → let head = c .before .before .before in
     let a = head .before .before .args in
-    (c .if1 .before ≡ bitAnd (a .held) (getD (now (a .classes)) (head .loop .byte) 0))
+    (c .if1 .before ≡ bitAnd (a .held) (getD (now (a .tables)) (head .loop .byte) 0))
     × (c .if1 .number ≡ suc (number-of (take (a .count) (now (a .sets))) (c .if1 .before)))
 kept-here c =
     let head = c .before .before .before in
@@ -111,7 +111,7 @@ loop-again c =
     let here = kept-here c in (
       omega arith,
       here .1,
-      one-entry (take (a .count) (now (a .sets))) (now (a .classes)) (a .held) (now (a .table)) (head .loop .table) (a .at) (head .loop .byte)
+      one-entry (take (a .count) (now (a .sets))) (now (a .tables)) (a .held) (now (a .table)) (head .loop .table) (a .at) (head .loop .byte)
           (c .if1 .number) (start .pre .3) (c .before .before .loop-test .taken)
           (here .1 ∙ ap (λ (k : ℕ). suc (number-of (take (a .count) (now (a .sets))) k)) (here .0)) (head .loop .inv .2),
     )
@@ -124,7 +124,7 @@ returns c =
     let l = c .before .loop in
     let a = c .before .before .before .args in
     let all : l .byte ≡ 256 = omega arith in
-    l .inv .2 ∙ ap (λ (k : ℕ). paste (now (a .table)) (a .at) (numbers-by (take (a .count) (now (a .sets))) (now (a .classes)) (a .held) 256) k) all
+    l .inv .2 ∙ ap (λ (k : ℕ). paste (now (a .table)) (a .at) (numbers-by (take (a .count) (now (a .sets))) (now (a .tables)) (a .held) 256) k) all
 
 pub fill-row-spec : {M : Type 1} → statement M
 fill-row-spec =

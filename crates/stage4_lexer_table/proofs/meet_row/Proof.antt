@@ -65,7 +65,7 @@ returns c =
     let a = c .before .before .args in (
       l .inv .1,
       l .inv .2,
-      λ start met below m h. subst (λ (k : ℕ). RowsHeld start (l .sets) (l .next) (meet-all met (sets-by (now (a .classes)) (a .held) k)))
+      λ start met below m h. subst (λ (k : ℕ). RowsHeld start (l .sets) (l .next) (meet-all met (sets-by (now (a .tables)) (a .held) k)))
           (let z : l .byte ≡ 256 = omega arith in z) (l .inv .3 start met below m h .rows),
     )
 

@@ -4,18 +4,20 @@ use mathlib.Core.Logic.{inl, inr}
 use Prim.Native.Nat.{_-_, _≤_}
 use native.Mathlib.Omega.{arith}
 use lib.ListN.{length}
-use Rattle.stage4_lexer_columns.specs.Held.{held-from}
+use mathlib.Core.List.{List}
+use Rattle.stage4_lexer.specs.Positions.{Position}
+use Rattle.stage4_lexer_scanner.specs.Meaning.{Prepared}
 use Rattle.stage4_lexer_table.proofs.Reaching.{Reached, reached-start, reached-next, reached-end}
 use Rattle.stage4_lexer_table.proofs.reach_rows.Statement.{statement}
 use Rattle.stage4_lexer_table.proofs.reach_rows.Tie as tie
 
 abbrev Inv-loop : tie.InvT-loop
-Inv-loop count low high rule follow last first classes sets₀ met₀ i₀ sets met i =
+Inv-loop last first tables sets₀ met₀ i₀ sets met i =
     (length sets ≡ 256) × (met ≤ 256)
-    × Reached (held-from low high rule follow last 0 count) first count sets met i
+    × ((ps : List Position) → Prepared ps last tables → Reached ps first sets met i)
 
 abbrev μ-loop : tie.MeasureT-loop
-μ-loop count low high rule follow last first classes sets₀ met₀ i₀ sets met i = 256 - i
+μ-loop last first tables sets₀ met₀ i₀ sets met i = 256 - i
 
 meet-row-requires : tie.Need-meet-row-requires Inv-loop μ-loop
 meet-row-requires c κs = (refl, omega arith)
@@ -26,8 +28,8 @@ loop-holds c =
     let e = c .meet-row .ensures in (
       e .0,
       e .1,
-      reached-start _ _ _ _ _ (start .args .first) (start .args .count) (start .pre .0) _ (start .pre .1) _ _ _ refl refl
-          (λ so-far below m h. e .2 _ so-far below m h),
+      λ ps h. reached-start ps _ (start .args .first) _ h _ _ _ refl refl
+          (λ so-far below m k. e .2 _ so-far below m k),
     )
 
 mul-follow-sets : tie.Need-mul-follow-sets Inv-loop μ-loop
@@ -56,9 +58,9 @@ loop-again c =
     let e = c .meet-row2 .ensures in (
       e .0,
       e .1,
-      reached-next _ _ _ _ _ (start .args .first) (start .args .count) (start .pre .0) _ (start .pre .1) (l .sets) _ (l .met) _ (l .i)
-          (omega (arith, l .inv .0, l .inv .1)) (c .before .before .before .before .loop-test .taken) (omega (arith, c .before .before .before .if1 .left)) (l .inv .2)
-          _ (c .before .before .follow-sets .ensures) (λ so-far below m h. e .2 _ so-far below m h),
+      λ ps h. reached-next ps _ (start .args .first) _ h (l .sets) _ (l .met) _ (l .i)
+          (omega (arith, l .inv .0, l .inv .1)) (c .before .before .before .before .loop-test .taken) (omega (arith, c .before .before .before .if1 .left)) (l .inv .2 ps h)
+          _ (c .before .before .follow-sets .ensures .0) (λ so-far below m k. e .2 _ so-far below m k),
     )
 
 returns : tie.Need-returns Inv-loop μ-loop
@@ -66,8 +68,8 @@ returns c =
     let l = c .before .loop in
     let start = c .before .before .before .before in (
       l .inv .1,
-      reached-end _ _ _ _ _ (start .args .first) (start .args .count) (start .pre .0) _ (start .pre .1) (l .sets) (l .met) (l .i)
-          (omega (arith, l .inv .0, l .inv .1)) (inl (c .loop-test .left)) (l .inv .2),
+      λ ps h. reached-end ps _ (start .args .first) _ h (l .sets) (l .met) (l .i)
+          (omega (arith, l .inv .0, l .inv .1)) (inl (c .loop-test .left)) (l .inv .2 ps h),
     )
 
 returns-2 : tie.Need-returns-2 Inv-loop μ-loop
@@ -75,8 +77,8 @@ returns-2 c =
     let l = c .before .before .loop in
     let start = c .before .before .before .before .before in (
       l .inv .1,
-      reached-end _ _ _ _ _ (start .args .first) (start .args .count) (start .pre .0) _ (start .pre .1) (l .sets) (l .met) (l .i)
-          (omega (arith, l .inv .0, l .inv .1)) (inr (c .if1 .taken)) (l .inv .2),
+      λ ps h. reached-end ps _ (start .args .first) _ h (l .sets) (l .met) (l .i)
+          (omega (arith, l .inv .0, l .inv .1)) (inr (c .if1 .taken)) (l .inv .2 ps h),
     )
 
 pub reach-rows-spec : {M : Type 1} → statement M

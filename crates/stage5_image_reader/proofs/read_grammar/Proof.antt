@@ -2,6 +2,7 @@
 use borrow.Author.Needs.{needs}
 use mathlib.Core.Path.{refl, sym}
 use Rattle.stage5_image_reader.proofs.Fields.{value-reads, refusal-reads, refusal-answers, field-range}
+use Rattle.stage5_image_reader.proofs.Positions.{prepared-same}
 use Rattle.stage5_image_reader.proofs.Flags.{length-listed}
 use Rattle.stage5_image_reader.proofs.Whole.{image-readable, image-refused, nonterminals-stop}
 use Rattle.stage5_image_reader.proofs.Whole.{rows-stop, left-over, grammar-reads}
@@ -29,7 +30,7 @@ returns c =
     let count-known = placed .before in
     let count-read = count-known .before .before in
     let stops = refusal-reads (count-known .enum-told .given .1) (placed .place-of .ensures) (count-read .read-between .ensures) in
-    λ low high rule follow below. image-refused (c .refused .ensures) (nonterminals-stop _ _ _ _ _ stops)
+    λ ps lexer below. image-refused (c .refused .ensures) (nonterminals-stop _ _ _ _ _ stops)
 
 read-rows-requires : tie.Need-read-rows-requires
 read-rows-requires c κs =
@@ -39,7 +40,7 @@ read-rows-requires c κs =
     let e = value-reads (count-known .count .given .1) (count-read .read-between .ensures) in
     let n = field-range 1 64 _ _ e in
     let r = start .pre .0 in
-    (record { rules = r .some; most-rules = r .most; nonterminals = n .0; most-nonterminals = n .1 }, start .pre .2, start .pre .3)
+    (record { rules = r .some; most-rules = r .most; nonterminals = n .0; most-nonterminals = n .1 }, start .pre .1, start .pre .2)
 
 enum-known-rows : tie.Need-enum-known-rows
 enum-known-rows c = search needs
@@ -61,8 +62,8 @@ returns-2 c =
     let count-known = rows-read .before .before .before .before in
     let count-read = count-known .before .before in
     let e = value-reads (count-known .count .given .1) (count-read .read-between .ensures) in
-    let stops = refusal-answers (rows-read .read-rows .ensures) (rows-known .enum-told2 .given .1) (placed .place-of2 .ensures) in
-    λ low high rule follow below. image-refused (c .refused2 .ensures) (rows-stop _ _ _ _ _ e stops)
+    let stops = refusal-answers (rows-read .read-rows .ensures .1) (rows-known .enum-told2 .given .1) (placed .place-of2 .ensures) in
+    λ ps lexer below. image-refused (c .refused2 .ensures) (rows-stop _ _ _ _ _ e stops)
 
 refused-requires-3 : tie.Need-refused-requires-3
 refused-requires-3 c κs = search needs
@@ -75,8 +76,8 @@ returns-3 c =
     let count-known = rows-read .before .before .before .before in
     let count-read = count-known .before .before in
     let e = value-reads (count-known .count .given .1) (count-read .read-between .ensures) in
-    let t = rows-read .read-rows .ensures .value (rows-known .rows .given .1) in
-    λ low high rule follow below. image-refused (c .refused3 .ensures) (left-over _ _ _ _ _ e (t .1) (tested .if1 .taken))
+    let t = rows-read .read-rows .ensures .1 .value (rows-known .rows .given .1) in
+    λ ps lexer below. image-refused (c .refused3 .ensures) (left-over _ _ _ _ _ e (t .1) (tested .if1 .taken))
 
 returns-4 : tie.Need-returns-4
 returns-4 c =
@@ -86,14 +87,13 @@ returns-4 c =
     let count-read = count-known .before .before in
     let start = count-read .before .before in
     let e = value-reads (count-known .count .given .1) (count-read .read-between .ensures) in
-    let t = rows-read .read-rows .ensures .value (rows-known .rows .given .1) in
+    let t = rows-read .read-rows .ensures .1 .value (rows-known .rows .given .1) in
     let n = field-range 1 64 _ _ e in
-    λ low high rule follow below. image-readable refl _ (grammar-reads _ _ _ _ _ e (t .1) (c .if1 .left)) (record {
+    λ ps lexer below. image-readable refl _ (grammar-reads _ _ _ _ _ e (t .1) (c .if1 .left)) (record {
       rules = sym (length-listed _ 0 (start .args .lexer .rules));
       most-rules = start .pre .0 .most;
       skips = start .pre .0 .flags;
-      positions = refl;
-      most-positions = start .pre .1;
+      positions = λ n. prepared-same _ _ _ _ (rows-read .read-rows .ensures .0) (lexer n);
       positions-below = below;
       first = refl;
       some-nonterminals = n .0;

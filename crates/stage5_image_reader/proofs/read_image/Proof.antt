@@ -91,7 +91,7 @@ returns-3 c =
 
 read-lexer-requires : tie.Need-read-lexer-requires
 read-lexer-requires c κs =
-    let flags-known = c .before .before .before .before .before .before .before in
+    let flags-known = c .before .before .before in
     let flags-read = flags-known .before .before in
     let size-known = flags-read .before .before in
     let size-read = size-known .before .before in
@@ -99,11 +99,11 @@ read-lexer-requires c κs =
     let t = flags-read .read-flags .ensures .value (flags-known .flags .given .1) in
     let r = field-range 1 32 _ _ e₂ in
     let p = size-read .before .before .before .before .before .before .pre in
-    (record { some = r .0; most = r .1; flags = flags-whole (t .2) }, p .0, p .1, p .2, p .3, p .4, p .5)
+    (record { some = r .0; most = r .1; flags = flags-whole (t .2) }, p .0, p .1, p .2)
 
 returns-4 : tie.Need-returns-4
 returns-4 c =
-    let flags-known = c .before .before .before .before .before .before .before .before in
+    let flags-known = c .before .before .before .before in
     let flags-read = flags-known .before .before in
     let size-known = flags-read .before .before in
     let size-read = size-known .before .before in

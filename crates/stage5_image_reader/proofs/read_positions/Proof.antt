@@ -1,34 +1,38 @@
--- `read_positions` meets its contract. The loop's invariant: the positions so far were read, and the columns hold them.
+-- `read_positions` meets its contract. The loop's invariant: the positions so far were read, and the tables hold them.
 use borrow.Author.Needs.{needs}
 use native.Mathlib.Omega.{arith}
-use mathlib.Core.Path.{_≡_, refl, sym, ap, _∙_}
-use mathlib.Core.List.{List, []}
+use mathlib.Core.Path.{_≡_, refl, sym, ap, subst, _∙_}
+use mathlib.Core.List.{List, [], _∷_, _++_}
 use Prim.Native.Nat.{ℕ, _+_, _-_, _≤_, _<_}
-use lib.ListN.{set}
+use lib.Dec.{eqb}
+use lib.ListN.{length, length-append}
+use Rattle.stage0_laws.specs.BitLaws.{shl-one}
 use Rattle.stage4_lexer.specs.Positions.{Position}
-use Rattle.stage4_lexer_columns.specs.Held.{held-positions}
+use Rattle.stage4_lexer_tables.specs.Holding.{no-position, Holding}
 use Rattle.stage5_image.specs.ImageReading.{read-position}
-use Rattle.stage5_image_reader.specs.Answers.{position-reading, columns-from, with-position}
+use Rattle.stage5_image_reader.specs.Answers.{position-reading}
+use Rattle.stage5_image_reader.specs.Tables.{FlagsOf}
 use Rattle.stage5_image_reader.proofs.Fields.{answers-value, answers-refusal}
-use Rattle.stage5_image_reader.proofs.Positions.{positions-below, Columns, columns-none, columns-next, columns-held}
+use Rattle.stage5_image_reader.proofs.Flags.{flags-none, flags-more}
+use Rattle.stage5_image_reader.proofs.Positions.{positions-below}
 use Rattle.stage5_image_reader.proofs.Turns.{Turns, turns-start, turns-more, turns-stop, turns-end}
 use Rattle.stage5_image_reader.proofs.read_positions.Statement.{statement}
 use Rattle.stage5_image_reader.proofs.read_positions.Tie as tie
 
 abbrev Inv-loop : tie.InvT-loop
-Inv-loop bytes at rules count low₀ high₀ rule₀ follow₀ last₀ next₀ least₀ i₀ low high rule follow last next least i =
-    (i ≤ count)
+Inv-loop bytes at rules count tables₀ last₀ next₀ least₀ i₀ tables last next least i =
+    (i ≤ count) × (length tables ≡ 448)
     × ((ps : List Position)
     × Turns (read-position bytes rules count) (λ least p. p .rule) 0 count at i least next ps
-    × Columns (columns-from i low high rule follow last 0) ps)
+    × (length ps ≡ i) × Holding ps tables × FlagsOf (λ p. p .last) no-position last ps)
 
 abbrev μ-loop : tie.MeasureT-loop
-μ-loop bytes at rules count low₀ high₀ rule₀ follow₀ last₀ next₀ least₀ i₀ low high rule follow last next least i = count - i
+μ-loop bytes at rules count tables₀ last₀ next₀ least₀ i₀ tables last next least i = count - i
 
 loop-holds : tie.Need-loop-holds Inv-loop μ-loop
 loop-holds c =
     let p = c .before .pre in
-    (search needs, ([], turns-start _ _ _ _ _, columns-none _ _ _ _ (p .3) (p .4) (p .5) (p .6)))
+    (search needs, p .3, ([], turns-start _ _ _ _ _, refl, p .4, flags-none (λ p. p .last) no-position refl))
 
 read-position-requires : tie.Need-read-position-requires Inv-loop μ-loop
 read-position-requires c κs = search needs
@@ -42,7 +46,7 @@ returns c =
     let read = known .before .before in
     let turn = read .before .before in
     let e = sym (read .read-position .ensures) ∙ ap position-reading (known .position .given .1) in
-    answers-refusal (turns-stop _ _ _ _ _ (turn .loop .inv .1 .1) (search needs) e)
+    (turn .loop .inv .1, answers-refusal (turns-stop _ _ _ _ _ (turn .loop .inv .2 .1) (search needs) e))
 
 enum-known-position-2 : tie.Need-enum-known-position-2 Inv-loop μ-loop
 enum-known-position-2 c = search needs
@@ -51,23 +55,16 @@ enum-known-position-2 c = search needs
 room : (c : tie.After-position2 Inv-loop μ-loop) → c .before .before .before .before .loop .i < 64
 room c = omega (arith, c .before .before .before .before .before .before .pre .2)
 
-element-write-low : tie.Need-element-write-low Inv-loop μ-loop
-element-write-low c = room (c .before)
+shl-one-need : tie.Need-shl-one Inv-loop μ-loop
+shl-one-need c = room (c .before)
 
-element-write-high : tie.Need-element-write-high Inv-loop μ-loop
-element-write-high c = room (c .before)
-
-element-write-rule : tie.Need-element-write-rule Inv-loop μ-loop
-element-write-rule c = room (c .before)
-
-mul-follow : tie.Need-mul-follow Inv-loop μ-loop
-mul-follow c = omega (arith, room (c .before))
-
-element-write-follow : tie.Need-element-write-follow Inv-loop μ-loop
-element-write-follow c = room (c .before)
+hold-position-requires : tie.Need-hold-position-requires Inv-loop μ-loop
+hold-position-requires c κs =
+    let known = c .before .before in
+    (known .before .before .before .before .loop .inv .1, room known, shl-one (known .before .before .before .before .loop .i) (room known))
 
 with-flag-requires : tie.Need-with-flag-requires Inv-loop μ-loop
-with-flag-requires c κs = room (c .before)
+with-flag-requires c κs = room (c .before .before .before)
 
 cast-least : tie.Need-cast-least Inv-loop μ-loop
 cast-least c = search needs
@@ -79,23 +76,23 @@ loop-less : tie.Need-loop-less Inv-loop μ-loop
 loop-less c = search needs
 
 loop-again : tie.Need-loop-again Inv-loop μ-loop
-unfolding with-position
 loop-again c =
-    let known = c .before .before in
+    let known = c .before .before .before .before in
     let read = known .before .before in
-    let turn = read .before .before in
-    let l = turn .loop in
+    let l = read .before .before .loop in
     let p = known .position2 .given .0 in
     let e = sym (read .read-position .ensures) ∙ ap position-reading (known .position2 .given .1) in
-    let w = ap
-    (λ (x : ℕ). columns-from (l .i + 1) (set (l .low) (l .i) (p .0)) (set (l .high) (l .i) (p .1 .0)) (set (l .rule) (l .i) (p .1 .1 .0))
-    (set (l .follow) (l .i) (p .1 .1 .1 .1 .0)) x 0)
-    (c .with-flag .ensures) in (
+    let ps = l .inv .2 .0 in
+    let size = l .inv .2 .2 in
+    let held = c .before .hold-position .ensures in (
       omega arith,
+      held .0,
       (
         _,
-        turns-more _ _ _ _ _ (l .inv .1 .1) (search needs) e,
-        columns-next _ _ (l .inv .1 .0) _ _ _ (p .1 .1 .1 .0) _ (room known) (l .inv .1 .2) w,
+        turns-more _ _ _ _ _ (l .inv .2 .1) (search needs) e,
+        length-append ps _ ∙ ap (λ (k : ℕ). k + 1) size,
+        held .1 ps (eqb (p .1 .1 .1 .0) 1) size (l .inv .2 .3),
+        flags-more (λ p. p .last) no-position _ _ _ ps refl size (l .inv .2 .4) (c .with-flag .ensures),
       ),
     )
 
@@ -104,11 +101,12 @@ returns-2 c =
     let turn = c .before in
     let l = turn .loop in
     let start = turn .before .before in
-    let e = turns-end _ _ _ _ _ (l .inv .1 .1) (search needs) in
-    let whole : l .i ≡ start .args .count = omega (arith, l .inv .0, c .loop-test .left) in
-    let held = columns-held _ _ (l .inv .1 .2)
-    ∙ ap (λ (k : ℕ). held-positions (columns-from k (l .low) (l .high) (l .rule) (l .follow) (l .last-ones) 0)) whole in
-    answers-value (l .inv .1 .0) e (record { size = refl; list = held; below = positions-below _ _ _ _ e })
+    let e = turns-end _ _ _ _ _ (l .inv .2 .1) (search needs) in
+    let whole : l .i ≡ start .args .count = omega (arith, l .inv .0, c .loop-test .left) in (
+      l .inv .1,
+      answers-value (l .inv .2 .0) e
+          (record { size = l .inv .2 .2 ∙ whole; held = l .inv .2 .3; last-ones = l .inv .2 .4; below = positions-below _ _ _ _ e }),
+    )
 
 pub read-positions-spec : {M : Type 1} → statement M
 read-positions-spec =
@@ -121,11 +119,8 @@ read-positions-spec =
     enum-known-position
     returns
     enum-known-position-2
-    element-write-low
-    element-write-high
-    element-write-rule
-    mul-follow
-    element-write-follow
+    shl-one-need
+    hold-position-requires
     with-flag-requires
     cast-least
     add-i

@@ -21,10 +21,10 @@ returns : tie.Need-returns
 returns c =
     let cleared = c .before .before in
     let ran = cleared .before .before .before .before in
-    let left = ran .run-turns .last .1 .1 .1 .1 .1 .1 .1 .1 .1 .1 .1 .1 .1 .0 in (
+    let left = ran .run-turns .last .1 .1 .1 .1 .1 .1 .1 .1 .0 in (
       cleared .clear-front .ensures
           ∙ cleared-all (length left) left (omega arith)
-          ∙ ap (λ (k : ℕ). replicate k 0) (ran .run-turns .kept .1 .1 .1 .1 .1 .1 .1 .1 .1 .1 .1 .1 .1 .0),
+          ∙ ap (λ (k : ℕ). replicate k 0) (ran .run-turns .kept .1 .1 .1 .1 .1 .1 .1 .1 .0),
       ran .run-turns .ensures,
     )
 

@@ -3,30 +3,31 @@ use borrow.Author.Needs.{needs}
 use mathlib.Core.Path.{_≡_, refl, sym, ap, _∙_}
 use Prim.Native.Nat.{_-_, _<_}
 use native.Mathlib.Omega.{arith}
-use lib.ListN.{length}
+use lib.ListN.{length, drop}
 use denote.Ref.{now}
 use Rattle.stage4_lexer_scanner.specs.Meaning.{match-of}
 use Rattle.stage5_image.specs.Image.{Image}
 use Rattle.stage5_image_reader.specs.Decoded.{ImageTables, tables-of}
-use Rattle.stage6_machine.specs.Run.{match-at, run-from, first-state}
+use Rattle.stage6_machine.specs.Trace.{match-at, start-state}
+use Rattle.stage6_machine.specs.Run.{trace-from}
 use Rattle.stage6_machine_turn.specs.Steps.{answer-held, turn-step, MatchFits}
 use Rattle.stage6_machine_turn.specs.declared.Turn.the-variants.{Next, Done}
 use Rattle.stage6_machine_turn.specs.StackLaws.{ready-entries}
 use Rattle.stage6_machine_runner.specs.Prepared.{WithTables}
-use Rattle.stage6_machine_runner.proofs.Turns.{Going, scanned, going-first, going-ends, going-fits, going-done, going-next}
+use Rattle.stage6_machine_turn.specs.Going.{Going, scanned, going-first, going-ends, going-fits, going-done, going-next}
 use Rattle.stage6_machine_runner.proofs.Ending.{run-no-entry, run-some-entry}
 use Rattle.stage6_machine_runner.proofs.run_turns.Statement.{statement}
 use Rattle.stage6_machine_runner.proofs.run_turns.Tie as tie
 
 abbrev Inv-loop : tie.InvT-loop
-Inv-loop image read low high rule follow starts productions classes table winners by-rows text stack₀ state₀ stack state =
+Inv-loop image read tables productions table winners by-rows text stack₀ state₀ stack state =
     (length stack ≡ length stack₀)
-    × ((i : Image) → WithTables image (tables-of read low high rule follow starts productions) classes by-rows table winners i
-    → Going i image (tables-of read low high rule follow starts productions) text stack state
-    (run-from i (length stack₀) text (length text) first-state))
+    × ((i : Image) → WithTables image (tables-of read tables productions) by-rows table winners i
+    → Going i image (tables-of read tables productions) text stack state
+    (trace-from i (length stack₀) text (length text) start-state))
 
 abbrev μ-loop : tie.MeasureT-loop
-μ-loop image read low high rule follow starts productions classes table winners by-rows text stack₀ state₀ stack state =
+μ-loop image read tables productions table winners by-rows text stack₀ state₀ stack state =
     length text - state .place
 
 -- The start, from the head of the loop.
@@ -40,11 +41,11 @@ scan-head c = c .before .before .before .before
 abbrev tables-here : tie.Start Inv-loop μ-loop → ImageTables
 tables-here s =
     let a = s .args in
-    tables-of (a .read) (now (a .low)) (now (a .high)) (now (a .rule)) (now (a .follow)) (now (a .starts)) (now (a .productions))
+    tables-of (a .read) (now (a .tables)) (now (a .productions))
 
 abbrev Held : tie.Start Inv-loop μ-loop → Image → Type 0
 Held s i =
-    let a = s .args in WithTables (now (a .image)) (tables-here s) (now (a .classes)) (a .by-rows) (now (a .table)) (now (a .winners)) i
+    let a = s .args in WithTables (now (a .image)) (tables-here s) (a .by-rows) (now (a .table)) (now (a .winners)) i
 
 -- ---- what is known within a turn, for any image that the tables hold
 
@@ -54,7 +55,7 @@ found-here : (c : tie.After-scan Inv-loop μ-loop) (i : Image) → Held (start-o
 found-here c i w =
     let head = scan-head c in
     let start = start-of head in
-    scanned i (now (start .args .text)) (head .loop .state .place) (c .scan .result) (c .scan .ensures _ _ _ i w)
+    scanned i (now (start .args .text)) (head .loop .state .place) (c .scan .result) (c .scan .ensures _ _ i w)
 
 more-here : (c : tie.After-scan Inv-loop μ-loop) → scan-head c .loop .state .place < length (now (start-of (scan-head c) .args .text))
 more-here c = c .before .before .if2 .taken
@@ -86,7 +87,7 @@ next-here : (c : tie.After-after2 Inv-loop μ-loop) (i : Image)
     let a = start-of head .args in
     Held (start-of head) i
     → Going i (now (a .image)) (tables-here (start-of head)) (now (a .text)) (turn .one-turn .last .1 .1 .1 .1 .1 .0) (c .after2 .given .0 .0)
-    (run-from i (length (now (a .stack))) (now (a .text)) (length (now (a .text))) first-state)
+    (trace-from i (length (now (a .stack))) (now (a .text)) (length (now (a .text))) start-state)
     × (head .loop .state .place < c .after2 .given .0 .0 .place)
 next-here c i w =
     let turn = next-turn c in
@@ -95,7 +96,7 @@ next-here c i w =
     let l = head .loop in
     let a = start-of head .args in
     let t = tables-here (start-of head) in
-    let e : turn-step (now (a .image)) (t .starts) (t .productions) (t .empty) (t .skips) (l .stack) (scan .scan .result) (l .state) .outcome
+    let e : turn-step (now (a .image)) (drop 384 (t .tables)) (t .productions) (t .empty) (t .skips) (l .stack) (scan .scan .result) (l .state) .outcome
     ≡ Next (c .after2 .given .0 .0) = sym (turn .one-turn .ensures .0) ∙ c .after2 .given .1 in
     going-next i (now (a .image)) t (w .decoded) (now (a .text)) (l .stack) (l .state) _ (l .inv .1 i w) (more-here scan)
     (scan .scan .result) (found-here scan i w) (fits-here scan i w) _ (c .after2 .given .0 .0)
@@ -128,7 +129,7 @@ part-scan-end : tie.Need-part-scan-end Inv-loop μ-loop
 part-scan-end c = search needs
 
 scan-requires : tie.Need-scan-requires Inv-loop μ-loop
-scan-requires c κs = let w = start-of (c .before .before .before) .pre in (_, _, _, w .0, w .1)
+scan-requires c κs = let w = start-of (c .before .before .before) .pre in (_, _, w .0, w .1)
 
 one-turn-requires : tie.Need-one-turn-requires Inv-loop μ-loop
 one-turn-requires c κs =
@@ -159,7 +160,7 @@ returns-2 c =
     let a = start-of head .args in
     let t = tables-here (start-of head) in
     let done = c .before .after .given .0 .0 in
-    let e : turn-step (now (a .image)) (t .starts) (t .productions) (t .empty) (t .skips) (l .stack) (scan .scan .result) (l .state) .outcome ≡ Done done =
+    let e : turn-step (now (a .image)) (drop 384 (t .tables)) (t .productions) (t .empty) (t .skips) (l .stack) (scan .scan .result) (l .state) .outcome ≡ Done done =
     sym (turn .one-turn .ensures .0) ∙ c .before .after .given .1 in
     λ i w.
     let g = going-done i (now (a .image)) t (w .decoded) (now (a .text)) (l .stack) (l .state) _ (l .inv .1 i w) (more-here scan)

@@ -1,37 +1,30 @@
 -- `scan` meets its contract, by rows and by sets.
 use mathlib.Core.Path.{ap, _∙_}
-use mathlib.Core.List.{List}
 use Prim.Native.Nat.{ℕ}
-use Rattle.stage4_lexer.specs.Positions.{Position}
 use Rattle.stage4_lexer.specs.Walk.{longest-match}
-use Rattle.stage4_lexer_columns.specs.Held.{held-positions}
 use denote.Ref.{now}
 use Rattle.stage6_machine_runner.proofs.ByRows.{rows-in, found-by-rows}
-use Rattle.stage6_machine_runner.proofs.Prepared.{prepared}
 use Rattle.stage6_machine_runner.proofs.scan.Statement.{statement}
 use Rattle.stage6_machine_runner.proofs.scan.Tie as tie
 
 match-by-rows-requires : tie.Need-match-by-rows-requires
 match-by-rows-requires c κs =
-    let w = c .before .before .before .before .pre in rows-in (w .3) (w .4 .in-range) _ _ (w .4 .built (c .if1 .taken))
+    let w = c .before .before .before .before .pre in rows-in (w .2) (w .3 .in-range) _ _ (w .3 .built (c .if1 .taken))
 
 returns : tie.Need-returns
 returns c =
-    λ image starts productions i w.
+    λ image productions i w.
     found-by-rows i (w .in-range) _ _ (w .built (c .before .if1 .taken)) _ (λ j. c .before .before .before .before .shared-slice-known .given j .fits)
     (c .match-by-rows .result) (c .match-by-rows .ensures)
 
 longest-match-requires : tie.Need-longest-match-requires
-longest-match-requires c κs =
-    let w = c .before .before .before .before .pre .4 in (w .decoded .most-positions, prepared _ _ _ (w .decoded) (w .in-range) _ (w .own-classes))
+longest-match-requires c κs = tt
 
 returns-2 : tie.Need-returns-2
-unfolding held-positions
 returns-2 c =
     let text = now (c .before .before .before .before .before .args .text) in
-    λ image starts productions i w.
-    c .longest-match .ensures
-    ∙ ap (λ (ps : List Position). longest-match ps (c .before .before .before .before .before .args .read .first) text) (w .decoded .positions)
+    λ image productions i w.
+    c .longest-match .ensures (i .positions) (w .decoded .positions (w .in-range .never-falling))
     ∙ ap (λ (k : ℕ). longest-match (i .positions) k text) (w .decoded .first)
 
 pub scan-spec : {M : Type 1} → statement M

@@ -1,8 +1,10 @@
 -- `take_rule` meets its contract: one law of `Answers` for each answer.
 use mathlib.Core.Path.{_≡_, sym, _∙_}
 use mathlib.Core.List.{List}
-use Prim.Native.Nat.{ℕ, _<_}
-use lib.ListN.{length, getD}
+use Prim.Native.Nat.{ℕ, _+_, _<_}
+use native.Mathlib.Omega.{arith}
+use lib.ListN.{length, getD, drop}
+use lib.Seq.{getD-drop}
 use denote.Ref.{now}
 use Rattle.stage5_image_reader.specs.Tables.{EntryTail}
 use Rattle.stage6_machine_turn.specs.Steps.{taker}
@@ -29,13 +31,14 @@ known : (c : tie.After-found)
     let t = c .found .given .0 in
     (t .0 < length (now (start .args .stack))) × (t .1 .0 < 64)
     × ((tail : List ℕ)
-    × EntryTail (now (start .args .image)) (getD (now (start .args .starts)) (t .1 .0) 0) (start .pre .1 .1) (t .1 .1 .0) tail)
+    × EntryTail (now (start .args .image)) (getD (now (start .args .tables)) (384 + t .1 .0) 0) (start .pre .1 .1) (t .1 .1 .0) tail)
 known c =
     let start = c .before .before .before .before .before .before in
     let image = now (start .args .image) in
-    let starts = now (start .args .starts) in
+    let starts = drop 384 (now (start .args .tables)) in
     let productions = now (start .args .productions) in
-    found-taker image starts productions _ _ _ (now (start .args .stack)) _ _ _ (start .pre .0) (start .pre .1 .2) _ _ _ (taker-is c)
+    rw (← getD-drop 384 (now (start .args .tables)) (c .found .given .0 .1 .0) 0)
+    (found-taker image starts productions _ _ _ (now (start .args .stack)) _ _ _ (start .pre .0) (start .pre .1 .2) _ _ _ (taker-is c))
 
 find-taker-requires : tie.Need-find-taker-requires
 find-taker-requires c κs =
@@ -60,11 +63,14 @@ returns c =
 cast-n : tie.Need-cast-n
 cast-n c = search needs
 
-mul-replace-taker : tie.Need-mul-replace-taker
-mul-replace-taker c = search needs
+add-start : tie.Need-add-start
+add-start c = omega (arith, known (c .before) .1)
 
-element-copy-out-replace-taker : tie.Need-element-copy-out-replace-taker
-element-copy-out-replace-taker c = known (c .before) .1
+mul-start : tie.Need-mul-start
+mul-start c = omega (arith, known (c .before) .1)
+
+element-copy-out-start : tie.Need-element-copy-out-start
+element-copy-out-start c = omega (arith, known (c .before) .1)
 
 replace-taker-requires : tie.Need-replace-taker-requires
 replace-taker-requires c κs =
@@ -79,7 +85,8 @@ returns-2 : tie.Need-returns-2
 returns-2 c =
     let replacing = c .before .before in
     let found = replacing .before .before .before .before in
-    took _ _ _ _ _ _ _ _ _ _ _ (taker-is found) _ _ (replacing .replace-taker .ensures)
+    let tables = now (found .before .before .before .before .before .before .args .tables) in
+    took _ _ _ _ _ _ _ _ _ _ _ _ (taker-is found) (getD-drop 384 tables (found .found .given .0 .1 .0) 0) _ _ (replacing .replace-taker .ensures)
 
 pub take-rule-spec : {M : Type 1} → statement M
 take-rule-spec =
@@ -91,8 +98,9 @@ take-rule-spec =
     same-length
     returns
     cast-n
-    mul-replace-taker
-    element-copy-out-replace-taker
+    add-start
+    mul-start
+    element-copy-out-start
     replace-taker-requires
     same-length-2
     returns-2)

@@ -31,7 +31,7 @@ returns c =
     let work : length (now (z .work)) ≡ work-bytes = search needs in
     let image : length (now (z .image)) ≡ program-room = search needs in
     let stack : length (now (z .stack)) ≡ program-entries = search needs in
-    let p = program-prints (now (z .sheet)) (now (z .text)) (length (now (z .work))) (length (now (z .image))) (length (now (z .stack)))
+    let p = program-prints (now (z .sheet)) (now (z .text)) (length (now (z .work))) (length (now (z .image))) (now (z .stack))
     work image stack _ (read .ensures .0) (read .ensures .4) in
     let e = c .line-for .ensures in
     (e ∙ p .0, subst (OwnLine (now (z .sheet)) (now (z .text))) (sym e) (p .1))

@@ -10,6 +10,7 @@ use Rattle.stage1_sheet.specs.FieldLaws.{Bytes}
 use Rattle.stage5_image.specs.Write.{write, written}
 use Rattle.stage5_image.specs.WriteLaws.{written-passed}
 use Rattle.stage6_machine.specs.Answer.{Answer}
+use Rattle.stage6_machine.specs.Lent.{stack-alone, Ran}
 use Rattle.stage6_machine.specs.Run.{run}
 use Rattle.stage6_machine_turn.specs.Steps.{answer-held}
 use Rattle.stage5_image_compiler.specs.Answer.{case-done, case-too-long, case-refused}
@@ -24,7 +25,6 @@ use Rattle.stage7_engine.proofs.read_text.Tie as tie
 use Rattle.stage7_engine.proofs.read_text.Reads as reads
 use Rattle.stage7_engine.proofs.read_text.Lts as lts
 use Rattle.stage5_image_compiler.proofs.write.Reads as write-reads
-use Rattle.stage6_machine_runner.proofs.run.Reads as run-reads
 
 -- src/lib.rt:38:9
 write-requires : tie.Need-write-requires
@@ -58,7 +58,7 @@ returns c =
     let k = c .before .before .before .before .before .before .before .before .write in
     let m = write (now (z .sheet)) (length (now (z .work))) (length (now (z .image))) in
     let d = case-done m (sym (k .ensures .0) ∙ c .before .before .made2 .given .1) in
-    let t = told-over (z .limit) (now (z .text)) (now (z .stack)) (length (now (z .stack))) (d .0) (d .1) (c .if1 .taken) in (
+    let t = told-over (z .limit) (now (z .text)) (now (z .stack)) (d .0) (d .1) (c .if1 .taken) in (
       t .0,
       k .ensures .1,
       k .ensures .2,
@@ -107,7 +107,7 @@ returns-2 c =
     let k = c .before .before .before .before .before .before .before .write in
     let m = write (now (z .sheet)) (length (now (z .work))) (length (now (z .image))) in
     let e = case-refused m (sym (k .ensures .0) ∙ c .before .made .given .1) in
-    let t = told-refused (z .limit) (now (z .text)) (now (z .stack)) (length (now (z .stack))) _ _ e in (
+    let t = told-refused (z .limit) (now (z .text)) (now (z .stack)) _ _ e in (
       t .0,
       k .ensures .1,
       k .ensures .2,
@@ -130,7 +130,7 @@ returns-3 c =
     let k = c .before .before .before .before .before .before .write in
     let m = write (now (z .sheet)) (length (now (z .work))) (length (now (z .image))) in
     let e = case-too-long m (sym (k .ensures .0) ∙ c .enum-told .given .1) in
-    let t = told-long (z .limit) (now (z .text)) (now (z .stack)) (length (now (z .stack))) _ e in (
+    let t = told-long (z .limit) (now (z .text)) (now (z .stack)) _ e in (
       t .0,
       k .ensures .1,
       k .ensures .2,
@@ -163,15 +163,15 @@ returns-4 c =
     let w = written-image m (d .0) (now (z .image)) _ (d .1) (k .ensures .1) in
     let x : List ℕ = k .last .1 .1 .0 in
     let i : take (c .before .before .before .before .before .before .before .made2 .given .0 .0) x ≡ d .0 = ap (λ (n : ℕ). take n x) (d .2) ∙ w in
-    let e : answer-held (r .result) ≡ run (d .0) (now (z .text)) (length (now (z .stack))) =
-    r .ensures .0 ∙ ap (λ (l : List ℕ). run l (now (z .text)) (length (now (z .stack)))) i in
-    let t = told-run (z .limit) (now (z .text)) (now (z .stack)) (d .0) (answer-held (r .result)) (r .last .1 .1 .0) (d .1) (c .before .before .before .before .before .if1 .left) e (r .ensures .1) in
-    let o = own-run (z .limit) (now (z .sheet)) (now (z .text)) (length (now (z .work))) (length (now (z .image))) (length (now (z .stack))) (d .0) bytes (d .1) in (
+    let e : record { answer = answer-held (r .result); left = stack-alone (r .last .1 .1 .0) } ≡ run (d .0) (now (z .text)) (stack-alone (now (z .stack))) =
+    r .ensures ∙ ap (λ (l : List ℕ). run l (now (z .text)) (stack-alone (now (z .stack)))) i in
+    let t = told-run (z .limit) (now (z .text)) (now (z .stack)) (d .0) (answer-held (r .result)) (r .last .1 .1 .0) (d .1) (c .before .before .before .before .before .if1 .left) e in
+    let o = own-run (z .limit) (now (z .sheet)) (now (z .text)) (length (now (z .work))) (length (now (z .image))) (now (z .stack)) (d .0) bytes (d .1) in (
       t .0,
       k .ensures .1,
       k .ensures .2,
       t .1,
-      subst (λ (a : Answer). OwnReading (z .limit) (now (z .sheet)) (now (z .text)) (length (now (z .work))) (length (now (z .image))) (length (now (z .stack))) (text-answered a)) (sym e) o,
+      subst (λ (a : Ran). OwnReading (z .limit) (now (z .sheet)) (now (z .text)) (length (now (z .work))) (length (now (z .image))) (length (now (z .stack))) (text-answered (a .answer))) (sym e) o,
     )
 
 pub read-text-spec : {M : Type 1} → statement M

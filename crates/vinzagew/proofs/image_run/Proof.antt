@@ -2,8 +2,7 @@
 use mathlib.Core.Path.{ap, _∙_}
 use mathlib.Core.List.{List}
 use Prim.Native.Nat.{ℕ}
-use Rattle.stage6_machine.specs.Answer.{Answer}
-use Rattle.stage6_machine.specs.Run.{stack-after}
+use Rattle.stage6_machine.specs.Lent.{stack-alone, Ran}
 use Rattle.vinzagew.specs.Out.{run-numbers, out-after}
 use Rattle.vinzagew.proofs.Laws.{out-short, same-short, after-long}
 use borrow.Author.Needs.{needs}
@@ -13,7 +12,7 @@ use Rattle.vinzagew.proofs.image_run.Tie as tie
 returns : tie.Need-returns
 returns c =
     let z = c .before .before .before .before .before .args in
-    (out-short (z .out .now) _ (c .if1 .taken), same-short (z .out .now) _ (z .stack .now) (c .if1 .taken))
+    (out-short (z .out .now) _ (c .if1 .taken), same-short (z .out .now) _ (stack-alone (z .stack .now)) (c .if1 .taken))
 
 run-requires : tie.Need-run-requires
 run-requires c κs = search needs
@@ -38,9 +37,9 @@ returns-2 c =
     let asked = run .before .before in
     let z = asked .before .before .before .before .before .args in
     let e = run .run .ensures in
-    let n = told .run-numbers .ensures ∙ ap run-numbers (e .0) in (
+    let n = told .run-numbers .ensures ∙ ap (λ (r : Ran). run-numbers (r .answer)) e in (
       stored .put .ensures ∙ ap (λ (l : List ℕ). out-after l (z .out .now)) n,
-      e .1 ∙ ap (λ (a : Answer). stack-after a (z .stack .now)) (e .0) ∙ after-long (z .out .now) _ (z .stack .now) (asked .if1 .left),
+      ap (λ (r : Ran). r .left) e ∙ after-long (z .out .now) _ (stack-alone (z .stack .now)) (asked .if1 .left),
     )
 
 pub image-run-spec : {M : Type 1} → statement M

@@ -2,6 +2,7 @@
 use mathlib.Core.Path.{ap, _∙_}
 use mathlib.Core.List.{List}
 use Prim.Native.Nat.{ℕ}
+use Rattle.stage6_machine.specs.Lent.{with-scanner, Ran}
 use Rattle.vinzagew.specs.Out.{run-numbers, out-after}
 use Rattle.vinzagew.proofs.Laws.{out-short, same-short, after-long}
 use borrow.Author.Needs.{needs}
@@ -12,12 +13,8 @@ returns : tie.Need-returns
 returns c =
     let z = c .before .before .before .before .before .before .before .args in
     let short = c .if1 .taken in
-    let out = z .out .now in (
-      out-short out _ short,
-      same-short out _ (z .table .now) short,
-      same-short out _ (z .winners .now) short,
-      same-short out _ (z .stack .now) short,
-    )
+    let out = z .out .now in
+    (out-short out _ short, same-short out _ (with-scanner (z .stack .now) (z .table .now) (z .winners .now)) short)
 
 run-table-requires : tie.Need-run-table-requires
 run-table-requires c κs = search needs
@@ -49,12 +46,9 @@ returns-2 c =
     let z = asked .before .before .before .before .before .before .before .args in
     let out = z .out .now in
     let e = run .run-table .ensures in
-    let n = told .run-numbers .ensures ∙ ap run-numbers (e .0) in
-    let long = asked .if1 .left in (
+    let n = told .run-numbers .ensures ∙ ap (λ (r : Ran). run-numbers (r .answer)) e in (
       stored .put .ensures ∙ ap (λ (l : List ℕ). out-after l out) n,
-      e .1 ∙ after-long out _ (z .table .now) long,
-      e .2 ∙ after-long out _ (z .winners .now) long,
-      e .3 ∙ after-long out _ (z .stack .now) long,
+      ap (λ (r : Ran). r .left) e ∙ after-long out _ (with-scanner (z .stack .now) (z .table .now) (z .winners .now)) (asked .if1 .left),
     )
 
 pub image-run-table-spec : {M : Type 1} → statement M

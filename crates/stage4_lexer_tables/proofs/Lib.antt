@@ -1,0 +1,2 @@
+pub mod Toggling
+pub mod Sweeping

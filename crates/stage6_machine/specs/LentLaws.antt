@@ -1,0 +1,106 @@
+-- What a run leaves of what it is lent, in the page's sentences: which numbers leave all of it untouched, what it holds otherwise, and that a
+-- run with a table is the run without one unless 18 or 19 is given. Of the relation alone.
+use mathlib.Core.Path.{_≡_, refl, sym, ap, _∙_}
+use mathlib.Core.Bool.{Bool, true, false, true≢false, _||_}
+use mathlib.Core.List.{List}
+use Prim.Native.Nat.{ℕ}
+use native.Mathlib.Omega.{arith}
+use lib.ListN.{length, replicate}
+use lib.Dec.{eqb}
+use Rattle.stage1_sheet.specs.FieldLaws.{Bytes}
+use Rattle.stage5_image.specs.Image.{Image}
+use Rattle.stage6_machine.specs.Answer.{Answer}
+use Rattle.stage6_machine.specs.Trace.{State, Ended, answer-of}
+use Rattle.stage6_machine.specs.Lent.{Lent, stack-alone, Ran, built, turned-away, finished}
+use Rattle.stage6_machine.specs.Runs.{Traces, rule-skipped, rule-taken, nothing-matched, rule-untaken, stack-overflowed, nullable-at-end}
+use Rattle.stage6_machine.specs.Runs.{pending-at-end, Begins, Runs, short, long-text, unreadable, many-rows, no-entry, started}
+use Rattle.stage6_machine.specs.RunsLaws.{runs-one}
+
+-- The numbers by which a run is turned away before it reads the text.
+abbrev pub turns-away : ℕ → Bool
+turns-away n = (eqb n 12 || eqb n 13) || (eqb n 18 || eqb n 19)
+
+traces-number : {image : Image} {text : List ℕ} {entries : ℕ} {s : State} {e : Ended} → Traces image text entries s e → turns-away (e .number) ≡ false
+traces-number (rule-skipped rule n w r) = traces-number r
+traces-number (rule-taken rule n t w k o r) = traces-number r
+traces-number (nothing-matched l m) = refl
+traces-number (rule-untaken rule n w k) = refl
+traces-number (stack-overflowed rule n t w k o) = refl
+traces-number (nullable-at-end e n) = refl
+traces-number (pending-at-end e n) = refl
+
+module _ (bytes text : List ℕ) (lent : Lent) where
+  -- What a run that has begun leaves.
+  abbrev pub Left : Image → Ran → Type 0
+  Left i r = Begins bytes text lent i × (r .left ≡ record { stack = replicate (length (lent .stack)) 0; scanner = built i (lent .scanner) })
+
+  -- A run is turned away and leaves all that it was lent, or it has begun.
+  data Ways (r : Ran) : Type 0 where
+    away : turns-away (r .answer .number) ≡ true → r .left ≡ lent → Ways r
+    begun : turns-away (r .answer .number) ≡ false → (i : Image) → Left i r → Ways r
+
+  ways : {r : Ran} → Runs bytes text lent r → Ways r
+  unfolding turned-away finished answer-of
+  ways (short h) = away refl refl
+  ways (long-text h l) = away refl refl
+  ways (unreadable p h l n o) = away refl refl
+  ways (many-rows image h l x m) = away refl refl
+  ways (no-entry image x z) = begun refl image (x, refl)
+  ways (started image e x z t) = begun (traces-number t) image (x, refl)
+
+  -- "untouched after 12 and 13", "after these [18 and 19], 12 and 13 the stack and both buffers are untouched"
+  pub untouched : {r : Ran} → Runs bytes text lent r → turns-away (r .answer .number) ≡ true → r .left ≡ lent
+  untouched {r} x t = go (ways x)
+    where
+      go : Ways r → r .left ≡ lent
+      go (away u e) = e
+      go (begun u i e) = absurd (true≢false (sym t ∙ u))
+
+  -- "The stack ends all zero", and the table is built.
+  pub begins-left : {r : Ran} → Runs bytes text lent r → turns-away (r .answer .number) ≡ false → (i : Image) × Left i r
+  begins-left {r} x t = go (ways x)
+    where
+      go : Ways r → (i : Image) × Left i r
+      go (away u e) = absurd (true≢false (sym u ∙ t))
+      go (begun u i e) = (i, e)
+
+  -- ---- with a table and without
+
+  record AsAlone (r : Ran) : Type 0 where
+    alone : Ran
+    runs : Runs bytes text (stack-alone (lent .stack)) alone
+    same-answer : r .answer ≡ alone .answer
+    same-stack : r .left .stack ≡ alone .left .stack
+
+  begins-alone : {image : Image} → Begins bytes text lent image → Begins bytes text (stack-alone (lent .stack)) image
+  begins-alone x = record { not-short = λ h. h; within = x .within; readable = x .readable; few-rows = λ h. h }
+
+  as-alone : {r : Ran} → Runs bytes text lent r → (r .answer .number ≡ 18 → ⊥) → (r .answer .number ≡ 19 → ⊥) → AsAlone r
+  unfolding turned-away finished answer-of
+  as-alone (short h) m n = absurd (m refl)
+  as-alone (long-text h l) m n = record { alone = _; runs = long-text (λ x. x) l; same-answer = refl; same-stack = refl }
+  as-alone (unreadable p h l u o) m n = record { alone = _; runs = unreadable p (λ x. x) l u o; same-answer = refl; same-stack = refl }
+  as-alone (many-rows image h l x k) m n = absurd (n refl)
+  as-alone (no-entry image x z) m n = record { alone = _; runs = no-entry image (begins-alone x) z; same-answer = refl; same-stack = refl }
+  as-alone (started image e x z t) m n =
+      record { alone = _; runs = started image e (begins-alone x) z t; same-answer = refl; same-stack = refl }
+
+  -- "Unless 18 or 19 is given, the answer and the final stack are those of a run without a table."
+  pub as-without-table : Bytes bytes → {r q : Ran} → Runs bytes text lent r → Runs bytes text (stack-alone (lent .stack)) q
+      → (r .answer .number ≡ 18 → ⊥) → (r .answer .number ≡ 19 → ⊥) → (r .answer ≡ q .answer) × (r .left .stack ≡ q .left .stack)
+  as-without-table b {r} {q} x y m n =
+      let a = as-alone x m n in
+      let same = runs-one bytes text (stack-alone (lent .stack)) b (a .runs) y in
+      (a .same-answer ∙ ap (λ (z : Ran). z .answer) same, a .same-stack ∙ ap (λ (z : Ran). z .left .stack) same)
+
+-- A run without a table gives neither 18 nor 19.
+pub alone-number : (bytes text stack : List ℕ) {r : Ran} → Runs bytes text (stack-alone stack) r
+    → (r .answer .number ≡ 18 → ⊥) × (r .answer .number ≡ 19 → ⊥)
+unfolding turned-away finished answer-of
+alone-number bytes text stack (short h) = absurd h
+alone-number bytes text stack (long-text h l) = ((λ e. omega arith), λ e. omega arith)
+alone-number bytes text stack (unreadable p h l n o) = ((λ e. omega arith), λ e. omega arith)
+alone-number bytes text stack (many-rows image h l x m) = absurd m
+alone-number bytes text stack (no-entry image x z) = ((λ e. omega arith), λ e. omega arith)
+alone-number bytes text stack (started image e x z t) =
+    ((λ k. true≢false (sym (ap turns-away k) ∙ traces-number t)), λ k. true≢false (sym (ap turns-away k) ∙ traces-number t))
