@@ -15,13 +15,14 @@ use Rattle.stage0_laws.specs.Bits.{bit}
 use Rattle.stage0_laws.specs.BitLaws.{bit-or, bit-and, bit-one-if, bit-zero, bit-ext-all}
 use Rattle.stage4_lexer.specs.Positions.{Position}
 use Rattle.stage4_lexer.specs.Walk.{has-byte, keep, follows, ended}
-use Rattle.stage4_lexer.specs.SetWalk.{members, members-from}
+use Rattle.stage4_lexer.specs.SetWalk.{members, members-from, set-walk}
 use Rattle.stage4_lexer.specs.SetWalkLaws.{members-shorter}
 use Rattle.stage4_lexer.specs.LowestPosition.{first-ended, ended-first}
 use Rattle.stage4_lexer_classes.specs.ClassTable.{having}
 use Rattle.stage4_lexer_classes.specs.ClassTableLaws.{having-first}
-use Rattle.stage4_lexer_scanner.specs.Meaning.{HeldAt, Prepared}
+use Rattle.stage4_lexer_scanner.specs.Meaning.{rule-of, LeadsTo, HeldAt, Prepared}
 use Rattle.stage4_lexer_scanner.specs.Sets.{joined, first-entry}
+use Rattle.stage4_lexer_scanner.specs.declared.Ended.{Ended}
 
 -- ---- the kept positions
 
@@ -121,3 +122,14 @@ module _ (tables : List ℕ) (last : ℕ) where
 
     pub ended-kept : (held b kept : ℕ) → kept ≡ keep ps 0 held b → first-entry rules (members (bitAnd kept last)) ≡ ended ps 0 kept
     ended-kept held b kept e = ended-of kept (λ j h. ap (λ (x : ℕ). bit x j) e ∙ kept-high held b j h)
+
+    -- What a byte leads to, by the follow sets and the lowest rule of the positions that it keeps.
+    pub leads-to : (held b next : ℕ) (e : Ended) → b < 256
+        → let kept = bitAnd held (getD tables b 0) in
+        (next ≡ joined follow-sets (set-walk kept)) × (set-walk kept ≡ members kept) → rule-of e ≡ first-entry rules (members (bitAnd kept last))
+        → LeadsTo ps held b (record { held = next; ended = e })
+    leads-to held b next e h f g =
+        let kept = kept-is held b h in record {
+          next-held = f .0 ∙ ap (joined follow-sets) (f .1) ∙ follows-kept held b _ kept ∙ ap (follows ps 0) kept;
+          rule-ended = g ∙ ended-kept held b _ kept ∙ ap (ended ps 0) kept;
+        }

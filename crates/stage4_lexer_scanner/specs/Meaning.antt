@@ -7,12 +7,14 @@ use lib.ListN.{length, getD, drop}
 use Rattle.stage0_laws.specs.Bits.{bit}
 use Rattle.stage4_lexer.specs.Positions.{Position}
 use Rattle.stage4_lexer.specs.Match.{Match, no-match, matched}
+use Rattle.stage4_lexer.specs.Walk.{keep, follows, ended}
 use Rattle.stage4_lexer.specs.PositionBounds.{NeverFalling}
 use Rattle.stage4_lexer_classes.specs.ClassTable.{ClassTable}
 use Rattle.stage4_lexer_scanner.specs.declared.Found.{Found}
 use Rattle.stage4_lexer_scanner.specs.declared.Found.the-variants.{Nothing, Rule}
 use Rattle.stage4_lexer_scanner.specs.declared.Ended.{Ended}
 use Rattle.stage4_lexer_scanner.specs.declared.Ended.the-variants.{NoRule, Lowest}
+use Rattle.stage4_lexer_scanner.specs.declared.AfterByte.{AfterByte}
 
 -- The match that an answer of the longest-match function stands for.
 unfoldable pub match-of : Found → Match
@@ -23,6 +25,12 @@ match-of (Rule rule n) = matched rule n
 unfoldable pub rule-of : Ended → Option ℕ
 rule-of NoRule = none
 rule-of (Lowest rule) = some rule
+
+-- The state is what the byte leads to from the held positions: "a byte keeps the held positions whose class has it; a kept
+-- position that is last ends a match of its rule there; then the follow sets of the kept ones, together, are held".
+pub record LeadsTo (ps : List Position) (held b : ℕ) (s : AfterByte) : Type 0 where
+  pub next-held : s .held ≡ follows ps 0 (keep ps 0 held b)
+  pub rule-ended : rule-of (s .ended) ≡ ended ps 0 (keep ps 0 held b)
 
 -- The tables' words from 256 on are the positions' follow sets, those from 320 on their rules, and the set of last ones has theirs:
 -- from position i on.

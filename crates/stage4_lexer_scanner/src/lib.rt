@@ -8,7 +8,7 @@ ghost use Rattle.stage4_lexer.specs.SetWalk.{members, set-walk};
 ghost use mathlib.Core.List.{List};
 ghost use lib.ListN.{drop};
 ghost use Rattle.stage4_lexer.specs.Positions.{Position};
-ghost use Rattle.stage4_lexer_scanner.specs.Meaning.{match-of, rule-of, Prepared};
+ghost use Rattle.stage4_lexer_scanner.specs.Meaning.{match-of, rule-of, LeadsTo, Prepared};
 ghost use Rattle.stage4_lexer_scanner.specs.Sets.{joined, first-entry, match-by, latest-ended};
 
 // The longest match: the lowest rule that has it, and its length.
@@ -21,6 +21,12 @@ pub enum Found {
 pub enum Ended {
     NoRule,
     Lowest(u8),
+}
+
+// What a byte leads to: the positions that are held after it, and the rule that ended with it.
+struct AfterByte {
+    held: u64,
+    ended: Ended,
 }
 
 // A step of the walk over a set as a word: its lowest position, and the set without it.
@@ -69,6 +75,16 @@ pub fn lowest_rule(ending: u64, tables: &[u64; 448]) -> Ended
     Ended::Lowest(number)
 }
 
+// What a byte leads to: the class table gives the kept positions by one `and`, and only these are walked.
+fn after_byte(byte: u8, held: u64, last: u64, tables: &[u64; 448]) -> AfterByte
+    ensures { λ r. ⌜ ((ps : List Position) → Prepared ps last (now (tables .entry)) → LeadsTo ps held byte r) ⌝ }
+{
+    let kept = held & tables[byte as usize];
+    let next = follow_sets(kept, tables);
+    let ended = lowest_rule(kept & last, tables);
+    AfterByte { held: next, ended }
+}
+
 // A match, by the last positions that end it, none where there is no match, and its length.
 struct EndedBy {
     ending: u64,
@@ -112,7 +128,8 @@ pub fn longest_match<'a>(text: &'a [u8], tables: &'a [u64; 448], last: u64, firs
     if kept == 0 {
         return Found::Nothing;
     }
-    let mut held = follow_sets(kept, tables);
+    let begun = after_byte(front, first, last, tables);
+    let mut held = begun.held;
     let mut earlier = EndedBy {
         ending: 0,
         length: 0,
@@ -126,7 +143,8 @@ pub fn longest_match<'a>(text: &'a [u8], tables: &'a [u64; 448], last: u64, firs
                 break;
             }
             earlier = latest(kept & last, n, earlier);
-            held = follow_sets(next, tables);
+            let after = after_byte(byte, held, last, tables);
+            held = after.held;
             kept = next;
         }
         n += 1;

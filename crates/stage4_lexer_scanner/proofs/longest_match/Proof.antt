@@ -11,11 +11,11 @@ use lib.ListN.{length, drop, getD}
 use denote.Ref.{now}
 use Rattle.stage4_lexer.specs.Match.{longer}
 use Rattle.stage4_lexer.specs.Positions.{Position}
-use Rattle.stage4_lexer.specs.SetWalk.{members, set-walk}
+use Rattle.stage4_lexer.specs.SetWalk.{members}
 use Rattle.stage4_lexer.specs.Walk.{keep, follows, walk, longest-match}
 use Rattle.stage4_lexer_scanner.specs.Meaning.{match-of, Prepared}
-use Rattle.stage4_lexer_scanner.specs.Sets.{first-entry, joined, match-by}
-use Rattle.stage4_lexer_scanner.proofs.Byte.{kept-is, follows-kept, ended-kept}
+use Rattle.stage4_lexer_scanner.specs.Sets.{first-entry, match-by}
+use Rattle.stage4_lexer_scanner.proofs.Byte.{kept-is, ended-kept}
 use Rattle.stage4_lexer_scanner.proofs.Text.{match-new, match-old, match-latest, longer-again, so-far}
 use Rattle.stage4_lexer_scanner.proofs.Text.{walk-start, walk-begun, walk-turn, walk-stops, walk-end}
 use Rattle.stage4_lexer_scanner.proofs.longest_match.Statement.{statement}
@@ -32,10 +32,6 @@ abbrev μ-loop : tie.MeasureT-loop
 -- Positions that the tables hold.
 abbrev Held : tie.Start Inv-loop μ-loop → List Position → Type 0
 Held s ps = Prepared ps (s .args .last) (now (s .args .tables))
-
--- The follow sets, by a set's members.
-by-members : (sets : List ℕ) (r kept : ℕ) → (r ≡ joined sets (set-walk kept)) × (set-walk kept ≡ members kept) → r ≡ joined sets (members kept)
-by-members sets r kept e = e .0 ∙ ap (joined sets) (e .1)
 
 -- ---- before the loop
 
@@ -66,8 +62,8 @@ returns-2 c = λ ps h.
     walk-stops ps (now (s .args .text)) (s .args .first) 0 _ (omega arith) (sym kept ∙ c .if2 .taken)
     ∙ walk-start ps (now (s .args .text)) (s .args .first)
 
-follow-sets-requires : tie.Need-follow-sets-requires Inv-loop μ-loop
-follow-sets-requires c κs = tt
+after-byte-requires : tie.Need-after-byte-requires Inv-loop μ-loop
+after-byte-requires c κs = tt
 
 loop-holds : tie.Need-loop-holds Inv-loop μ-loop
 loop-holds c = (omega arith, λ ps h.
@@ -76,7 +72,7 @@ loop-holds c = (omega arith, λ ps h.
     let a = s .args in
     let b = getD (now (a .text)) 0 0 in
     let kept = kept-is _ _ ps h (a .first) b (known .shared-slice-known2 .given 0 .fits) in
-    let next = by-members _ _ _ (c .follow-sets .ensures) ∙ follows-kept _ _ ps h (a .first) b _ kept in (
+    let next = c .after-byte .ensures ps h .next-held ∙ ap (follows ps 0) (sym kept) in (
       walk-begun ps (drop 320 (now (a .tables))) (now (a .text)) (a .first) _ _ (a .last) (omega arith) kept next (ended-kept _ _ ps h (a .first) b _ kept),
       next,
     ))
@@ -98,8 +94,8 @@ element-copy-out-next c = omega (arith, c .shared-slice-known3 .given (c .before
 latest-requires : tie.Need-latest-requires Inv-loop μ-loop
 latest-requires c κs = tt
 
-follow-sets-requires-2 : tie.Need-follow-sets-requires-2 Inv-loop μ-loop
-follow-sets-requires-2 c κs = tt
+after-byte-requires-2 : tie.Need-after-byte-requires-2 Inv-loop μ-loop
+after-byte-requires-2 c κs = tt
 
 add-n : tie.Need-add-n Inv-loop μ-loop
 add-n c = omega arith
@@ -120,7 +116,7 @@ step-here c ps h =
     let b = getD (now (s .args .text)) (head .loop .n) 0 in
     let next = kept-is _ _ ps h (head .loop .held) b (c .before .before .shared-slice-known3 .given (head .loop .n) .fits) in
     ⊎-elim
-    (λ w. (w .4 ∙ next, w .5 ∙ by-members _ _ _ (w .3 .ensures) ∙ follows-kept _ _ ps h (head .loop .held) b _ next ∙ ap (follows ps 0) (sym (w .4))))
+    (λ w. (w .4 ∙ next, w .5 ∙ w .3 .ensures ps h .next-held ∙ ap (follows ps 0) (sym (w .4 ∙ next))))
     (λ w. (w .1 ∙ sym (w .0 .left) ∙ next, w .2 ∙ head .loop .inv .1 ps h .1 ∙ ap (follows ps 0) (sym (w .1))))
     (c .if3 .came)
 
@@ -212,14 +208,14 @@ longest-match-spec =
     mul-kept
     element-copy-out-kept
     returns-2
-    follow-sets-requires
+    after-byte-requires
     loop-holds
     shared-slice-read-byte
     cast-next
     mul-next
     element-copy-out-next
     latest-requires
-    follow-sets-requires-2
+    after-byte-requires-2
     add-n
     loop-less
     loop-again
