@@ -16,7 +16,8 @@ use Rattle.stage6_machine.specs.Answer.{Answer}
 use Rattle.stage6_machine.specs.OwnAnswer.{ActionOf, AnswersFrom, accepts, ends-early, no-rule, skips, takes, refuses}
 use Rattle.stage6_machine.specs.OwnAnswer.{OwnAnswer, OwnAnswerByNumber}
 use Rattle.stage6_machine.specs.OwnAnswerLaws.{own-answer-one}
-use Rattle.stage6_machine.specs.Lexes.{LexesTo, from-start, over-skip, over-token, ReadingChanges}
+use Rattle.stage6_machine.specs.Lexes.{Lexes, from-start, over-skip, over-token, AllowedInTurn, ReadingChanges}
+use Rattle.stage6_machine.specs.AcceptanceLaws.{ReadSoFar, nothing-read, after-skip, after-token}
 
 -- ---- the sheet in the image's order
 
@@ -53,17 +54,23 @@ module _ (s : Sheet) (text : List ℕ) where
 -- ---- answers of one sheet by both orders
 
 module _ (s : Sheet) (text : List ℕ) (no-empty : empty-match (s .rules) 0 ≡ none) where
+  -- The reading so far, the same by number and by kind.
+  record ReadAlike (p : ℕ) (tokens : List ℕ) : Type 0 where
+    so-far : ReadSoFar s text by-number p tokens
+    by-kinds : Lexes by-kind s text p (so-far .lexemes)
+
   -- The match by number is also the one by kind, or the reading changes at its place.
-  picked : {p : ℕ} {tokens : List ℕ} {k n : ℕ} → LexesTo by-number s text p tokens → LexesTo by-kind s text p tokens → p < length text
+  picked : {p : ℕ} {tokens : List ℕ} {k n : ℕ} → ReadAlike p tokens → p < length text
       → LongestMatch by-number (s .rules) (drop p text) k n → LongestMatch by-kind (s .rules) (drop p text) k n ⊎ ReadingChanges s text
-  picked {p} {tokens} {k} {n} f g l m =
+  picked {p} {tokens} {k} {n} f l m =
       let h = match-by-kind (s .rules) no-empty m in
       ⊎-elim (λ e. inl (subst (λ (i : ℕ). LongestMatch by-kind (s .rules) (drop p text) i n) (sym e) (h .1)))
       (λ c. inr (record {
         place = p;
-        tokens = tokens;
-        reached-by-number = f;
-        reached-by-kind = g;
+        lexemes = f .so-far .lexemes;
+        reached-by-number = f .so-far .reached;
+        reached-by-kind = f .by-kinds;
+        allowed = subst (AllowedInTurn s) (sym (f .so-far .kept)) (f .so-far .allowed);
         before-end = l;
         old = k;
         new = h .0;
@@ -74,18 +81,21 @@ module _ (s : Sheet) (text : List ℕ) (no-empty : empty-match (s .rules) 0 ≡ 
       }))
       (match-changes-only (s .rules) m (h .1) .1)
 
-  changes-from : {p : ℕ} {tokens : List ℕ} {a : Answer} → AnswersFrom by-number s text p tokens a → LexesTo by-number s text p tokens
-      → LexesTo by-kind s text p tokens → AnswersFrom by-kind s text p tokens a ⊎ ReadingChanges s text
-  changes-from (accepts e d) f g = inl (accepts e d)
-  changes-from (ends-early e d) f g = inl (ends-early e d)
-  changes-from (no-rule l m) f g = inl (no-rule l m)
-  changes-from (skips k n l m a r) f g =
-      ⊎-elim (λ x. ⊎-map (λ y. skips k n l x a y) (λ c. c) (changes-from r (over-skip k n f l m a) (over-skip k n g l x a))) inr (picked f g l m)
-  changes-from (takes k n t l m a c r) f g =
-      ⊎-elim (λ x. ⊎-map (λ y. takes k n t l x a c y) (λ c. c) (changes-from r (over-token k n t f l m a c) (over-token k n t g l x a c))) inr
-      (picked f g l m)
-  changes-from (refuses k n t l m a c) f g = ⊎-map (λ x. refuses k n t l x a c) (λ c. c) (picked f g l m)
+  changes-from : {p : ℕ} {tokens : List ℕ} {a : Answer} → AnswersFrom by-number s text p tokens a → ReadAlike p tokens
+      → AnswersFrom by-kind s text p tokens a ⊎ ReadingChanges s text
+  changes-from (accepts e d) f = inl (accepts e d)
+  changes-from (ends-early e d) f = inl (ends-early e d)
+  changes-from (no-rule l m) f = inl (no-rule l m)
+  changes-from (skips k n l m a r) f =
+      ⊎-elim (λ x. ⊎-map (λ y. skips k n l x a y) (λ c. c)
+      (changes-from r (record { so-far = after-skip s text k n l m a (f .so-far); by-kinds = over-skip k n (f .by-kinds) l x a }))) inr (picked f l m)
+  changes-from (takes k n t l m a c r) f =
+      ⊎-elim (λ x. ⊎-map (λ y. takes k n t l x a c y) (λ c. c)
+      (changes-from r (record { so-far = after-token s text k n t l m a c (f .so-far); by-kinds = over-token k n t (f .by-kinds) l x a }))) inr
+      (picked f l m)
+  changes-from (refuses k n t l m a c) f = ⊎-map (λ x. refuses k n t l x a c) (λ c. c) (picked f l m)
 
   -- "A reading changes only where ..": the own answers by number and by kind are the same, or a place is reached where the reading changes.
   pub answer-changes-only : (a b : Answer) → OwnAnswerByNumber s text a → OwnAnswer s text b → (a ≡ b) ⊎ ReadingChanges s text
-  answer-changes-only a b x y = ⊎-map (λ z. own-answer-one s text z y) (λ c. c) (changes-from x from-start from-start)
+  answer-changes-only a b x y = ⊎-map (λ z. own-answer-one s text z y) (λ c. c)
+      (changes-from x (record { so-far = nothing-read s text; by-kinds = from-start }))

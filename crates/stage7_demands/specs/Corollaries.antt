@@ -39,10 +39,10 @@ use Rattle.stage6_machine.specs.Runs.{Begins, Runs}
 use Rattle.stage6_machine.specs.LentLaws as lent-laws
 use Rattle.stage6_machine.specs.LentLaws.{turns-away, begins-left, alone-number}
 use Rattle.stage6_machine.specs.OwnAnswer.{own-order, OwnAnswer, OwnAnswerByNumber}
-use Rattle.stage6_machine.specs.Lexes.{Lexes, LexesTo, GoesNoFurther, ReadingChanges}
+use Rattle.stage6_machine.specs.Lexes.{Lexeme, tokens-of, Lexes, ReadingChanges, AnswerOfReading}
 use Rattle.stage6_machine.specs.OrderedAnswers.{answer-changes-only}
 use Rattle.stage6_machine.specs.FaithfulImage.{answered-by-number}
-use Rattle.stage6_machine.specs.AcceptanceLaws.{accepted-iff, accepted-answer, refused-place, own-answer-not-17}
+use Rattle.stage6_machine.specs.AcceptanceLaws.{accepted-iff, accepted-answer, answered-reading, own-answer-not-17}
 use Rattle.stage6_machine.specs.SpelledOutAnswers.{spelled-out-own-answer}
 use Rattle.stage7_demands.specs.Demands.{Functions, Demand1, Demand2, Demand3}
 use Rattle.stage7_demands.specs.Proofs.{cited, written-bytes, demand-1, demand-3}
@@ -103,22 +103,23 @@ module _ (f : Functions) (demand : Demand3 f) (sheet : List ℕ) (bytes : Bytes 
   own = demand .own-answer sheet bytes work room image accepted s spells text lent within long not-18 not-19
 
   -- A text is accepted exactly when longest match over all rules reads it to its end and the expression denotes the tokens found.
-  pub text-accepted-iff : (a .number ≡ 0) ↔ ((tokens : List ℕ) × Lexes s text 0 tokens × Denotes (s .expression) tokens)
+  pub text-accepted-iff : (a .number ≡ 0)
+      ↔ ((lexemes : List Lexeme) × Lexes own-order s text (length text) lexemes × Denotes (s .expression) (tokens-of lexemes))
   text-accepted-iff = accepted-iff s text a own
 
   -- The answer then has the text's length and their count.
-  pub text-accepted-answer : (tokens : List ℕ) → Lexes s text 0 tokens → Denotes (s .expression) tokens → a ≡ answer 0 (length text) (length tokens)
+  pub text-accepted-answer : (lexemes : List Lexeme) → Lexes own-order s text (length text) lexemes → Denotes (s .expression) (tokens-of lexemes)
+      → a ≡ answer 0 (length text) (length lexemes)
   text-accepted-answer = accepted-answer s text a own
 
-  -- "Otherwise the place named is the first where no rule matches, or whose token no denoted sequence allows after those before, or the
+  -- Accepted or refused: "the place named is the first where no rule matches, or whose token no denoted sequence allows after those before, or the
   -- end, and the count is that of the tokens before it."
-  pub text-refused-place : (a .number ≡ 0 → ⊥)
-      → (tokens : List ℕ) × LexesTo own-order s text (a .place) tokens × GoesNoFurther s text (a .place) tokens (a .number) × (a .count ≡ length tokens)
-  text-refused-place = refused-place s text a own
+  pub text-reading : AnswerOfReading s text (a .number) (a .place) (a .count)
+  text-reading = answered-reading s text a own
 
   -- If the expression denotes nothing, no text is accepted.
   pub nothing-accepted : ((tokens : List ℕ) → Denotes (s .expression) tokens → ⊥) → a .number ≡ 0 → ⊥
-  nothing-accepted none-denoted e = let x = text-accepted-iff .0 e in none-denoted (x .0) (x .2)
+  nothing-accepted none-denoted e = let x = text-accepted-iff .0 e in none-denoted (tokens-of (x .0)) (x .2)
 
   -- The run never gives 17.
   pub stack-never-short : a .number ≡ 17 → ⊥

@@ -121,7 +121,7 @@ pub record Demand2 (f : Functions) : Type 0 where
 -- exactly the sheet's own answer .. Only, the text must be within the limit and the stack have at least 1 + 31 × its length entries."
 -- "Longest match in demand 3 means this order, and the sheet's own answer picks its rule by it": of equally long matches a word rule wins over
 -- any other, and of two of a kind the lower.
--- What follows from it by name is in `Corollaries`: `text-accepted-iff`, `text-accepted-answer`, `text-refused-place`, `nothing-accepted`,
+-- What follows from it by name is in `Corollaries`: `text-accepted-iff`, `text-accepted-answer`, `text-reading`, `nothing-accepted`,
 -- `stack-never-short`, `spelled-out-answered`.
 pub record Demand3 (f : Functions) : Type 0 where
   -- Of every run, with a table or without, that meets neither 18 nor 19.
