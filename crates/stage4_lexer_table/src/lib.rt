@@ -80,11 +80,7 @@ fn meet_row(sets: &mut [u64; 256], count: usize, held: u64, tables: &[u64; 448])
 }
 
 // The rows of a table: the start leads to the first sets, then row by row, until none is left or there are more than 256.
-fn reach_rows<'a>(
-    last: u64,
-    first: u64,
-    tables: &'a [u64; 448],
-) -> Rows
+fn reach_rows<'a>(last: u64, first: u64, tables: &'a [u64; 448]) -> Rows
     ensures { λ r. ⌜ (r .count ≤ 256) × ((ps : List Position) → Prepared ps last (now (tables .entry))
         → RowsHeld (2 ^ length ps) (r .sets) (r .count) (table-rows ps first)) ⌝ }
 {
@@ -131,13 +127,7 @@ fn fill_row(
 }
 
 // Writes the entries of all rows: those of row 0, which the first set leads to, then those of the others.
-fn fill_table<'a>(
-    table: &mut [u16],
-    rows: Rows,
-    last: u64,
-    first: u64,
-    tables: &'a [u64; 448],
-)
+fn fill_table<'a>(table: &mut [u16], rows: Rows, last: u64, first: u64, tables: &'a [u64; 448])
     requires { ⌜ ((ps : List Position) × Prepared ps last (now tables) × AllHeld (2 ^ length ps) (rows .sets) (rows .count) (table-rows ps first))
         × (65536 ≤ length (now table)) ⌝ }
     ensures { λ r. ⌜ ((ps : List Position) → Prepared ps last (now (tables .entry))
@@ -167,13 +157,7 @@ fn winner(ending: u64, tables: &[u64; 448]) -> u16
 }
 
 // Writes the winners of all rows. The start has none.
-fn fill_winners<'a>(
-    winners: &mut [u16],
-    rows: Rows,
-    last: u64,
-    first: u64,
-    tables: &'a [u64; 448],
-)
+fn fill_winners<'a>(winners: &mut [u16], rows: Rows, last: u64, first: u64, tables: &'a [u64; 448])
     requires { ⌜ ((ps : List Position) × Prepared ps last (now tables) × AllHeld (2 ^ length ps) (rows .sets) (rows .count) (table-rows ps first))
         × (256 ≤ length (now winners)) ⌝ }
     ensures { λ r. ⌜ ((ps : List Position) → Prepared ps last (now (tables .entry))
@@ -210,19 +194,7 @@ pub fn build_table<'a>(
     if 256 <= met {
         return false;
     }
-    fill_table(
-        table,
-        rows,
-        last,
-        first,
-        tables,
-    );
-    fill_winners(
-        winners,
-        rows,
-        last,
-        first,
-        tables,
-    );
+    fill_table(table, rows, last, first, tables);
+    fill_winners(winners, rows, last, first, tables);
     true
 }

@@ -36,8 +36,13 @@ unfolding having
 having-at [] i b j = bit-zero (i + j) ∙ rw (le-ltb j 0 (omega arith))
 having-at (p ∷ ps) i b zero =
     having-first p ps i b (i + 0)
-    ∙ rw (eq-eqb i (i + 0) (omega arith), having-below ps (suc i) b (i + 0) (omega arith), B.and-true (has-byte p b), B.or-false (has-byte p b),
-    lt-ltb 0 (suc (length ps)) (omega arith))
+    ∙ rw (
+      eq-eqb i (i + 0) (omega arith),
+      having-below ps (suc i) b (i + 0) (omega arith),
+      B.and-true (has-byte p b),
+      B.or-false (has-byte p b),
+      lt-ltb 0 (suc (length ps)) (omega arith),
+    )
 having-at (p ∷ ps) i b (suc j) =
     let e : i + suc j ≡ suc i + j = omega arith in
     having-first p ps i b (i + suc j)

@@ -22,7 +22,15 @@ fn toggle_class(low: u8, high: u8, set: u64, tables: &mut [u64; 448])
 }
 
 // Position n joins those that the tables hold; `one` is a one shifted to it.
-pub fn hold_position(low: u8, high: u8, rule: u8, follow: u64, n: usize, one: u64, tables: &mut [u64; 448])
+pub fn hold_position(
+    low: u8,
+    high: u8,
+    rule: u8,
+    follow: u64,
+    n: usize,
+    one: u64,
+    tables: &mut [u64; 448],
+)
     requires { ⌜ (length (now tables) ≡ 448) × (n < 64) × (one ≡ 2 ^ n) ⌝ }
     ensures { λ r. ⌜ (length (now (tables .exit)) ≡ 448) × ((ps : List Position) (last : Bool) → length ps ≡ n → Holding ps (now (tables .entry))
         → Holding (ps ++ (position low high rule last follow ∷ [])) (now (tables .exit))) ⌝ }

@@ -11,11 +11,13 @@ ghost use mathlib.Core.Path.{_≡_};
 ghost use mathlib.Core.Option.{none};
 ghost use lib.ListN.{length};
 ghost use Rattle.stage1_sheet.specs.Reading.{Contents};
+ghost use Rattle.stage1_sheet.specs.Sheet.{Sheet};
 ghost use Rattle.stage2_types.specs.Questions.{type-fault};
 ghost use Rattle.stage4_lexer.specs.Positions.{empty-match};
+ghost use Rattle.stage4_lexer.specs.RuleOrder.{words-first-sheet};
 ghost use Rattle.stage5_image.specs.Check.{after-types, after-rules, after-work, check, check-answer, work-after};
 ghost use Rattle.stage5_image_checker.specs.Answer.{answer-of, case-of, Ends};
-ghost use Rattle.stage5_image_checker.specs.Steps.{SheetOf};
+ghost use Rattle.stage5_image_checker.specs.Steps.{SheetOf, PassedParts};
 ghost use Rattle.stage5_image_checker.specs.declared.Verdict.the-variants.{Failed};
 
 const WORK_BYTES: usize = 65536;
@@ -152,4 +154,21 @@ pub fn check(sheet: &[u8], work: &mut [u8]) -> Verdict
 {
     let checked = check_sheet(sheet, work);
     checked.verdict
+}
+
+// A sheet that passed, with its rules in the image's order. The questions were asked before, in the order of the sheet.
+pub fn in_image_order(checked: CheckedSheet) -> CheckedSheet
+    requires { ⌜ ((s : Sheet) × PassedParts s checked) ⌝ }
+    ensures { λ r. ⌜ ((s : Sheet) → PassedParts s checked → PassedParts (words-first-sheet s) r) ⌝ }
+{
+    let rules = checked.rules;
+    let links = checked.links;
+    let types = checked.types;
+    let ordered = stage4_lexer_order::words_first(rules);
+    CheckedSheet {
+        verdict: Verdict::Passed,
+        rules: ordered,
+        links,
+        types,
+    }
 }

@@ -6,13 +6,10 @@ use native.Mathlib.Omega.{arith}
 use lib.ListN.{length, drop}
 use borrow.Author.Tests.{le-leb, lt-leb}
 use Rattle.stage1_sheet.specs.Sheet.{Sheet}
-use Rattle.stage1_sheet_columns.specs.Holds.{RulesOf}
-use Rattle.stage1_sheet_columns.specs.declared.RuleColumns.{RuleColumns}
 use Rattle.stage2_types.specs.Typing.{sheet-typed-iff}
 use Rattle.stage3_normal_form.specs.Derives.{derives}
 use Rattle.stage3_normal_form_walk.specs.Columns.{SetOf}
-use Rattle.stage4_lexer.specs.RuleOrder.{words-first, words-first-sheet}
-use Rattle.stage4_lexer.specs.OrderedMatches.{ordered-empty-match, ordered-limits}
+use Rattle.stage4_lexer.specs.RuleOrder.{words-first-sheet}
 use Rattle.stage4_lexer.specs.PositionBounds.{positions-in-range}
 use Rattle.stage4_lexer_columns.specs.declared.PositionColumns.{PositionColumns}
 use Rattle.stage4_lexer_sets.specs.Answer.{PositionsOf}
@@ -45,21 +42,6 @@ module _ (s : Sheet) (k : CheckedSheet) (h : PassedParts s k) where
   pub room-for-any : (buffer : List ℕ) → 65536 ≤ length buffer → length (image-bytes (plain-image s)) ≤ length buffer
   room-for-any buffer l =
       omega (arith, l, plain-fits s (h .limits) (h .no-empty) (sheet-typed-iff s (h .limits) .0 (h .no-fault) .1))
-
-  -- With the rules in the image's order, the sheet in that order has passed.
-  pub ordered-parts : (rules : RuleColumns) → RulesOf rules (words-first (s .rules)) (h .places)
-      → PassedParts (words-first-sheet s) (record { verdict = Passed; rules = rules; links = k .links; types = k .types })
-  unfolding words-first-sheet
-  ordered-parts rules held = record {
-    places = h .places;
-    limits = ordered-limits s (h .limits);
-    rules-held = held;
-    links-most = h .links-most;
-    linked = h .linked;
-    typed = h .typed;
-    no-empty = ordered-empty-match (s .rules) (h .no-empty);
-    no-fault = h .no-fault;
-  }
 
   module _ (p : PositionColumns) (f : PositionsOf (s .rules) p) where
     pub positions-most : p .count ≤ 64

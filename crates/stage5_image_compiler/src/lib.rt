@@ -25,23 +25,6 @@ pub enum Written {
     Refused(u8, usize),
 }
 
-// A sheet that passed, with its rules in the image's order. The questions were asked before, in the order of the sheet.
-fn in_image_order(checked: CheckedSheet) -> CheckedSheet
-    requires { ⌜ ((s : Sheet) × PassedParts s checked) ⌝ }
-    ensures { λ r. ⌜ ((s : Sheet) → PassedParts s checked → PassedParts (words-first-sheet s) r) ⌝ }
-{
-    let rules = checked.rules;
-    let links = checked.links;
-    let types = checked.types;
-    let ordered = stage4_lexer_order::words_first(rules);
-    CheckedSheet {
-        verdict: Verdict::Passed,
-        rules: ordered,
-        links,
-        types,
-    }
-}
-
 // The columns from which productions are found.
 fn grammar_of(checked: CheckedSheet) -> Grammar
     requires { ⌜ ((s : Sheet) × PassedParts s checked) ⌝ }
@@ -89,7 +72,7 @@ pub fn write(sheet: &[u8], work: &mut [u8], image: &mut [u8]) -> Written
     match verdict {
         Verdict::Failed(question, place) => Written::Refused(question, place),
         Verdict::Passed => {
-            let ordered = in_image_order(checked);
+            let ordered = stage5_image_checker::in_image_order(checked);
             write_if_fits(ordered, image)
         }
     }

@@ -154,7 +154,7 @@ module _ (image : Image) (entries : ℕ) (text : List ℕ) where
       by-turn : ((next : State) → next .place ≤ length text → length text ≤ next .place + turns
           → Traces image text entries next (trace-from image entries text turns next))
           → (t : Turn) → Given s t
-          → Traces image text entries s (elim t [ | goes-on next ↦ trace-from image entries text turns next | ends number ↦ ended number s ])
+          → Traces image text entries s (elim t [ goes-on next ↦ trace-from image entries text turns next | ends number ↦ ended number s ])
       by-turn later (ends number) g = g
       by-turn later (goes-on next) g = g .1 _ (later next (g .0 .within) (omega (arith, g .0 .further)))
 

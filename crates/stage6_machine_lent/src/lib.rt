@@ -44,13 +44,7 @@ fn build<'a>(
     if !by_rows {
         return true;
     }
-    stage4_lexer_table::build_table(
-        table,
-        winners,
-        read.last,
-        read.first,
-        tables,
-    )
+    stage4_lexer_table::build_table(table, winners, read.last, read.first, tables)
 }
 
 // Runs a readable image, its table built before the text is read.
@@ -72,13 +66,7 @@ fn build_and_run<'a>(
         ≡ run-image i (now (text .entry)) (lent-by «by_rows» (now (stack .entry)) (now (table .entry)) (now (winners .entry))))
         × Untouched «by_rows» (now (table .entry)) (now (winners .entry)) (now (table .exit)) (now (winners .exit))) ⌝ }
 {
-    let few = build(
-        read,
-        tables,
-        table,
-        winners,
-        by_rows,
-    );
+    let few = build(read, tables, table, winners, by_rows);
     if !few {
         return stage6_machine_turn::answer(19, 0, 0);
     }
@@ -113,11 +101,7 @@ fn read_and_run(
 {
     let mut tables = [0u64; 448];
     let mut productions = [0u16; 2048];
-    let read = stage5_image_reader::read_image(
-        image,
-        &mut tables,
-        &mut productions,
-    );
+    let read = stage5_image_reader::read_image(image, &mut tables, &mut productions);
     let outcome = read.outcome;
     if let Outcome::Refused(place) = outcome {
         return stage6_machine_turn::answer(13, place, 0);
@@ -156,14 +140,7 @@ fn run_lent(
     if 1048576 < text.len() {
         return stage6_machine_turn::answer(12, 0, 0);
     }
-    read_and_run(
-        image,
-        text,
-        table,
-        winners,
-        by_rows,
-        stack,
-    )
+    read_and_run(image, text, table, winners, by_rows, stack)
 }
 
 // Runs an image over a text with a lent stack, without a table.
@@ -173,14 +150,7 @@ pub fn run(image: &[u8], text: &[u8], stack: &mut [u8]) -> RunAnswer
 {
     let mut table = [0u16; 1];
     let mut winners = [0u16; 1];
-    run_lent(
-        image,
-        text,
-        &mut table,
-        &mut winners,
-        false,
-        stack,
-    )
+    run_lent(image, text, &mut table, &mut winners, false, stack)
 }
 
 // Runs an image over a text with a lent stack, table and winners.

@@ -63,14 +63,7 @@ fn run_turns<'a>(
     let mut state = stage6_machine_turn::first_state();
     while state.place < text.len() {
         let p = state.place;
-        let found = scan(
-            &text[p..],
-            read,
-            tables,
-            table,
-            winners,
-            by_rows,
-        );
+        let found = scan(&text[p..], read, tables, table, winners, by_rows);
         let after = stage6_machine_turn::one_turn(
             image,
             tables,

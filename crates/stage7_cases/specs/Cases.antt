@@ -18,7 +18,7 @@ use Rattle.stage6_machine.specs.Run.{run}
 use Rattle.stage6_machine.specs.OwnAnswer.{OwnAnswer, OwnAnswerByNumber}
 use Rattle.stage6_machine.specs.Lexes.{ReadingChanges}
 use Rattle.stage6_machine.specs.Runs.{Runs}
-use Rattle.stage7_cases.specs.ImageD.{rules-of-image-D, image-D}
+use Rattle.stage7_demands.specs.ImageD.{rules-of-image-D, image-D}
 
 pub data Case : Type 0 where
   -- a sheet, and how writing its image ends

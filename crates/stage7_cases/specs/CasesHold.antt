@@ -45,7 +45,7 @@ use Rattle.stage6_machine.specs.Computing.{computing-machine}
 use Rattle.stage7_demands.specs.Demands.{Demand1, Demand2}
 use Rattle.stage7_demands.specs.Proofs.{demand-1, demand-2}
 use Rattle.stage7_demands.specs.Corollaries.{text-changes-only, own-answer-alone}
-use Rattle.stage7_cases.specs.ImageD.{image-D, D-written}
+use Rattle.stage7_demands.specs.ImageD.{image-D, D-written}
 use Rattle.stage7_cases.specs.Cases.{Case, writes, writes-with, checks, reads, changes, runs, tables, runs-table, denotes-nothing}
 use Rattle.stage7_cases.specs.Cases.{written-sheet, stack-for, buffers, run-of-sheet, Holds, endless, cases}
 use Rattle.stage7_cases.specs.RepetitionCases.{image-of-counts, image-of-numbers, repetition-cases}

@@ -5,7 +5,7 @@ use Prim.Native.Nat.{ℕ}
 use Rattle.stage1_sheet.specs.SheetD.{with-expression, bytes-of-D}
 use Rattle.stage5_image.specs.Check.{work-bytes}
 use Rattle.stage5_image.specs.Write.{refused, too-long, written}
-use Rattle.stage7_cases.specs.ImageD.{image-D}
+use Rattle.stage7_demands.specs.ImageD.{image-D}
 use Rattle.stage7_cases.specs.Cases.{Case, checks, writes-with}
 
 -- N ∨ N

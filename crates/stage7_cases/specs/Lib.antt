@@ -1,7 +1,6 @@
--- The worked cases that are proved from the definitions: sheet D's image (`ImageD`), document 01's cases (`Cases`), those of repetition
+-- The worked cases that are proved from the definitions: document 01's cases (`Cases`), those of repetition
 -- (`RepetitionCases`), of checking and writing (`CheckCases`), of padded numbers (`PaddingCases`), of word rules (`WordCases`) and of tables
 -- (`TableCases`), and that every row holds (`CasesHold`).
-pub mod ImageD
 pub mod Cases
 pub mod RepetitionCases
 pub mod CheckCases

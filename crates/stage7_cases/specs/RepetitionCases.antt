@@ -5,7 +5,7 @@ use Prim.Native.Nat.{ℕ}
 use Rattle.stage1_sheet.specs.SheetD.{with-expression}
 use Rattle.stage5_image.specs.Write.{refused, written}
 use Rattle.stage6_machine.specs.Answer.{answer}
-use Rattle.stage7_cases.specs.ImageD.{rules-of-image-D}
+use Rattle.stage7_demands.specs.ImageD.{rules-of-image-D}
 use Rattle.stage7_cases.specs.Cases.{Case, writes, reads}
 
 -- N·(S·N)*, and its image

@@ -3,7 +3,7 @@
 use mathlib.Core.List.{List, [], _∷_}
 use Prim.Native.Nat.{ℕ}
 use Rattle.stage6_machine.specs.Answer.{answer}
-use Rattle.stage7_cases.specs.ImageD.{image-D}
+use Rattle.stage7_demands.specs.ImageD.{image-D}
 use Rattle.stage7_cases.specs.Cases.{Case, tables, runs-table}
 
 -- One rule, of any bytes in a row: every byte of every text is kept.

@@ -48,9 +48,11 @@ loop-less c =
 loop-again : tie.Need-loop-again Inv-loop μ-loop
 loop-again c =
     let l = c .before .before .before .loop in
-    let a = c .before .before .before .before .args in
-    (omega arith, rw (← getD-drop 256 (now (a .tables)) (c .before .lowest-first .result .position) 0)
-    (walked-step _ _ (l .left) (l .next) _ _ (c .before .lowest-first .ensures) (l .inv .1)))
+    let a = c .before .before .before .before .args in (
+      omega arith,
+      rw (← getD-drop 256 (now (a .tables)) (c .before .lowest-first .result .position) 0)
+          (walked-step _ _ (l .left) (l .next) _ _ (c .before .lowest-first .ensures) (l .inv .1)),
+    )
 
 returns : tie.Need-returns Inv-loop μ-loop
 returns c =

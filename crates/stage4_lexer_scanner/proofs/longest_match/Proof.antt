@@ -66,16 +66,19 @@ after-byte-requires : tie.Need-after-byte-requires Inv-loop μ-loop
 after-byte-requires c κs = tt
 
 loop-holds : tie.Need-loop-holds Inv-loop μ-loop
-loop-holds c = (omega arith, λ ps h.
-    let known = c .before .before .before in
-    let s = known .before .before .before in
-    let a = s .args in
-    let b = getD (now (a .text)) 0 0 in
-    let kept = kept-is _ _ ps h (a .first) b (known .shared-slice-known2 .given 0 .fits) in
-    let next = c .after-byte .ensures ps h .next-held ∙ ap (follows ps 0) (sym kept) in (
-      walk-begun ps (drop 320 (now (a .tables))) (now (a .text)) (a .first) _ _ (a .last) (omega arith) kept next (ended-kept _ _ ps h (a .first) b _ kept),
-      next,
-    ))
+loop-holds c = (
+  omega arith,
+  λ ps h.
+      let known = c .before .before .before in
+      let s = known .before .before .before in
+      let a = s .args in
+      let b = getD (now (a .text)) 0 0 in
+      let kept = kept-is _ _ ps h (a .first) b (known .shared-slice-known2 .given 0 .fits) in
+      let next = c .after-byte .ensures ps h .next-held ∙ ap (follows ps 0) (sym kept) in (
+        walk-begun ps (drop 320 (now (a .tables))) (now (a .text)) (a .first) _ _ (a .last) (omega arith) kept next (ended-kept _ _ ps h (a .first) b _ kept),
+        next,
+      ),
+)
 
 -- ---- a turn
 
@@ -144,18 +147,21 @@ match-here c =
     (c .if3 .came)
 
 loop-again : tie.Need-loop-again Inv-loop μ-loop
-loop-again c = (omega arith, λ ps h.
-    let head = c .before .before .before .before in
-    let l = head .loop in
-    let s = head .before .before .before .before .before .before .before in
-    let old = so-far (drop 320 (now (s .args .tables))) (s .args .last) (l .kept) (l .n) (l .earlier) in
-    let more : l .n < length (now (s .args .text)) = c .before .before .before .loop-test .taken in
-    let k = step-here c ps h .0 in (
-      walk-turn ps (now (s .args .text)) (l .held) (l .n) (c .if3 .kept) (c .if3 .held) old _ more k (step-here c ps h .1)
-          (match-here c ∙ ap (λ (o : Option ℕ). longer o (l .n + 1) old) (ended-kept _ _ ps h (l .held) _ (c .if3 .kept) k))
-          ∙ l .inv .1 ps h .0,
-      step-here c ps h .1,
-    ))
+loop-again c = (
+  omega arith,
+  λ ps h.
+      let head = c .before .before .before .before in
+      let l = head .loop in
+      let s = head .before .before .before .before .before .before .before in
+      let old = so-far (drop 320 (now (s .args .tables))) (s .args .last) (l .kept) (l .n) (l .earlier) in
+      let more : l .n < length (now (s .args .text)) = c .before .before .before .loop-test .taken in
+      let k = step-here c ps h .0 in (
+        walk-turn ps (now (s .args .text)) (l .held) (l .n) (c .if3 .kept) (c .if3 .held) old _ more k (step-here c ps h .1)
+            (match-here c ∙ ap (λ (o : Option ℕ). longer o (l .n + 1) old) (ended-kept _ _ ps h (l .held) _ (c .if3 .kept) k))
+            ∙ l .inv .1 ps h .0,
+        step-here c ps h .1,
+      ),
+)
 
 -- ---- after the loop
 

@@ -62,9 +62,11 @@ returns c =
     let made = c .before .before .before .before .before .before in
     let a = start-of made .args in
     λ i d range.
-    let x = built-here made i d range in
-    (run-over-rows i (now (a .text)) (now (a .stack)) (now (a .table)) (now (a .winners)) _ _ (a .by-rows) (made .build .result) x
-    (c .before .if1 .taken) (c .answer .result) (ap answer-held (c .answer .ensures)), x .untouched)
+    let x = built-here made i d range in (
+      run-over-rows i (now (a .text)) (now (a .stack)) (now (a .table)) (now (a .winners)) _ _ (a .by-rows) (made .build .result) x
+          (c .before .if1 .taken) (c .answer .result) (ap answer-held (c .answer .ensures)),
+      x .untouched,
+    )
 
 run-image-requires : tie.Need-run-image-requires
 run-image-requires c κs =
@@ -88,10 +90,11 @@ returns-2 c =
     let made = passed .before .before .before .before .before in
     let a = start-of made .args in
     λ i d range.
-    let x = built-here made i d range in
-    (run-few-rows i (now (a .text)) (now (a .stack)) (now (a .table)) (now (a .winners)) _ _ (a .by-rows) (made .build .result) x
-    (passed .if1 .left) (ran .run-image .result) _ (ran .run-image .ensures .1 i (with-here passed i d range)) (ran .run-image .ensures .0),
-    x .untouched)
+    let x = built-here made i d range in (
+      run-few-rows i (now (a .text)) (now (a .stack)) (now (a .table)) (now (a .winners)) _ _ (a .by-rows) (made .build .result) x
+          (passed .if1 .left) (ran .run-image .result) _ (ran .run-image .ensures .1 i (with-here passed i d range)) (ran .run-image .ensures .0),
+      x .untouched,
+    )
 
 pub build-and-run-spec : {M : Type 1} → statement M
 build-and-run-spec =

@@ -33,9 +33,10 @@ returns c =
     let start = start-of read in
     let a = start .args in
     let refused = read .read-image .ensures .refusal (known .outcome .given .1) in
-    let lent = lent-by (a .by-rows) (now (a .stack)) (now (a .table)) (now (a .winners)) in
-    (left-alone _ _ lent 13 _ (run-stop _ _ lent (start .pre .0) (start .pre .1) 13 _ (refused .0)) (c .answer .result) (ap answer-held (c .answer .ensures)),
-    none-touched (a .by-rows) _ _)
+    let lent = lent-by (a .by-rows) (now (a .stack)) (now (a .table)) (now (a .winners)) in (
+      left-alone _ _ lent 13 _ (run-stop _ _ lent (start .pre .0) (start .pre .1) 13 _ (refused .0)) (c .answer .result) (ap answer-held (c .answer .ensures)),
+      none-touched (a .by-rows) _ _,
+    )
 
 enum-told : tie.Need-enum-told
 enum-told c = search needs

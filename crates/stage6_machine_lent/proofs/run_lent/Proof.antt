@@ -41,9 +41,10 @@ returns c =
     let asked = c .before .before in
     let a = start-of asked .args in
     let lent = lent-here asked in
-    let short = short-told (lent .scanner) (sym (asked .is-short .ensures) ∙ c .before .if1 .taken) in
-    (left-alone (now (a .image)) (now (a .text)) lent 18 0 (run-short _ _ lent short) (c .answer .result) (ap answer-held (c .answer .ensures)),
-    none-touched (a .by-rows) _ _)
+    let short = short-told (lent .scanner) (sym (asked .is-short .ensures) ∙ c .before .if1 .taken) in (
+      left-alone (now (a .image)) (now (a .text)) lent 18 0 (run-short _ _ lent short) (c .answer .result) (ap answer-held (c .answer .ensures)),
+      none-touched (a .by-rows) _ _,
+    )
 
 answer-requires-2 : tie.Need-answer-requires-2
 answer-requires-2 c κs = search needs
@@ -60,9 +61,11 @@ returns-2 c =
     let passed = c .before .before in
     let asked = passed .before in
     let a = start-of asked .args in
-    let lent = lent-here asked in
-    (left-alone (now (a .image)) (now (a .text)) lent 12 0 (run-long _ _ lent (long-here passed) (c .before .if2 .taken)) (c .answer2 .result)
-    (ap answer-held (c .answer2 .ensures)), none-touched (a .by-rows) _ _)
+    let lent = lent-here asked in (
+      left-alone (now (a .image)) (now (a .text)) lent 12 0 (run-long _ _ lent (long-here passed) (c .before .if2 .taken)) (c .answer2 .result)
+          (ap answer-held (c .answer2 .ensures)),
+      none-touched (a .by-rows) _ _,
+    )
 
 read-and-run-requires : tie.Need-read-and-run-requires
 read-and-run-requires c κs = let passed = c .before .before .before in (long-here (passed .before), passed .if2 .left)

@@ -1,7 +1,7 @@
--- `stage5_image_compiler::in_image_order` meets its contract.
-use Rattle.stage5_image_compiler.proofs.Endings.{ordered-parts}
-use Rattle.stage5_image_compiler.proofs.in_image_order.Statement.{statement}
-use Rattle.stage5_image_compiler.proofs.in_image_order.Tie as tie
+-- `stage5_image_checker::in_image_order` meets its contract.
+use Rattle.stage5_image_checker.proofs.Ordered.{ordered-parts}
+use Rattle.stage5_image_checker.proofs.in_image_order.Statement.{statement}
+use Rattle.stage5_image_checker.proofs.in_image_order.Tie as tie
 
 words-first-requires : tie.Need-words-first-requires
 words-first-requires c κs = let w = c .before .before .before .pre in (w .0 .rules, w .1 .places, w .1 .rules-held)
