@@ -2,19 +2,30 @@
 -- run with a table is the run without one unless 18 or 19 is given. Of the relation alone.
 use mathlib.Core.Path.{_≡_, refl, sym, ap, _∙_}
 use mathlib.Core.Bool.{Bool, true, false, true≢false, _||_}
-use mathlib.Core.List.{List}
+use mathlib.Core.List.{List, _++_}
+use mathlib.Core.Option.{some}
 use Prim.Native.Nat.{ℕ}
 use native.Mathlib.Omega.{arith}
-use lib.ListN.{length, replicate}
+use lib.ListN.{length, drop, replicate}
 use lib.Dec.{eqb}
 use Rattle.stage1_sheet.specs.FieldLaws.{Bytes}
+use Rattle.stage4_lexer.specs.Table.{written-over}
 use Rattle.stage5_image.specs.Image.{Image}
 use Rattle.stage6_machine.specs.Answer.{Answer}
 use Rattle.stage6_machine.specs.Trace.{State, Ended, answer-of}
-use Rattle.stage6_machine.specs.Lent.{Lent, stack-alone, Ran, built, turned-away, finished}
+use Rattle.stage6_machine.specs.Lent.{Lent, stack-alone, Ran, entries-of, winners-of, built, turned-away, finished}
 use Rattle.stage6_machine.specs.Runs.{Traces, rule-skipped, rule-taken, nothing-matched, rule-untaken, stack-overflowed, nullable-at-end}
 use Rattle.stage6_machine.specs.Runs.{pending-at-end, Begins, Runs, short, long-text, unreadable, many-rows, no-entry, started}
 use Rattle.stage6_machine.specs.RunsLaws.{runs-one}
+
+-- "Entries past the last row keep what they held."
+pub rest-kept : (image : Image) (table winners : List ℕ) → built image (some (record { table = table; winners = winners }))
+    ≡ some (record {
+      table = entries-of image ++ drop (length (entries-of image)) table;
+      winners = winners-of image ++ drop (length (winners-of image)) winners;
+    })
+unfolding built written-over
+rest-kept image table winners = refl
 
 -- The numbers by which a run is turned away before it reads the text.
 abbrev pub turns-away : ℕ → Bool
