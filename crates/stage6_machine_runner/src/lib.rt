@@ -8,13 +8,15 @@ ghost use Rattle.stage4_lexer.specs.Walk.{longest-match};
 ghost use Rattle.stage4_lexer_scanner.specs.Meaning.{match-of};
 ghost use Rattle.stage5_image.specs.Image.{Image};
 ghost use Rattle.stage5_image_reader.specs.Decoded.{tables-of};
-ghost use Rattle.stage6_machine.specs.Trace.{answer-of};
+ghost use Rattle.stage6_machine.specs.Trace.{Ended, answer-of};
 ghost use Rattle.stage6_machine.specs.Run.{trace};
 ghost use Rattle.stage6_machine_turn.specs.Steps.{answer-held};
+ghost use Rattle.stage6_machine_turn.specs.Going.{Going, TurnsLead};
 ghost use Rattle.stage6_machine_runner.specs.Prepared.{WithTables};
 use stage4_lexer_scanner::Found;
 use stage5_image_reader::ImageRead;
 use stage6_machine_turn::RunAnswer;
+use stage6_machine_turn::State;
 use stage6_machine_turn::Turn;
 
 // The longest match at the front of a text: by the rows of the image's table, or by sets of positions.
@@ -38,9 +40,57 @@ fn scan<'a>(
     stage4_lexer_scanner::longest_match(text, tables, read.last, read.first)
 }
 
-// The turns of a readable image over a text, by rows or by sets. There is one loop for both, so that the compiler puts the code of a turn
-// into it: a function that is called from two places it leaves apart. What is left on the stack is not promised.
-fn run_turns<'a>(
+// The turns of a readable image over a text, by rows or by sets, from a state on until a place is reached or the run ends. With the text's
+// length as that place they are all turns, with the place after the state's own one turn. There is one loop for both ways of scanning, so
+// that the compiler puts the code of a turn into it: a function that is called from two places it leaves apart.
+pub fn run_turns<'a>(
+    image: &[u8],
+    read: ImageRead,
+    tables: &'a [u64; 448],
+    productions: &[u16; 2048],
+    table: &'a [u16],
+    winners: &'a [u16],
+    by_rows: bool,
+    text: &'a [u8],
+    stack: &mut [u8],
+    from: State,
+    stop: usize,
+) -> Turn
+    requires { ⌜ (stop ≤ length (now text)) × ((i : Image) × (whole : Ended)
+        × WithTables (now image) (tables-of read (now tables) (now productions)) «by_rows» (now table) (now winners) i
+        × Going i (now image) (tables-of read (now tables) (now productions)) (now text) (now stack) from whole) ⌝ }
+    ensures { λ r. ⌜ ((i : Image) (whole : Ended)
+        → WithTables (now (image .entry)) (tables-of read (now (tables .entry)) (now (productions .entry))) «by_rows» (now (table .entry))
+        (now (winners .entry)) i
+        → Going i (now (image .entry)) (tables-of read (now (tables .entry)) (now (productions .entry))) (now (text .entry))
+        (now (stack .entry)) from whole
+        → TurnsLead i (now (image .entry)) (tables-of read (now (tables .entry)) (now (productions .entry))) (now (text .entry)) stop whole
+        (now (stack .exit)) r) ⌝ }
+{
+    let mut state = from;
+    while state.place < stop {
+        let p = state.place;
+        let found = scan(&text[p..], read, tables, table, winners, by_rows);
+        let after = stage6_machine_turn::one_turn(
+            image,
+            tables,
+            productions,
+            read.empty,
+            read.skips,
+            stack,
+            found,
+            state,
+        );
+        match after {
+            Turn::Done(done) => return Turn::Done(done),
+            Turn::Next(next) => state = next,
+        }
+    }
+    Turn::Next(state)
+}
+
+// All turns, from the start to the text's end. What is left on the stack is not promised.
+fn run_text<'a>(
     image: &[u8],
     read: ImageRead,
     tables: &'a [u64; 448],
@@ -60,26 +110,25 @@ fn run_turns<'a>(
     if stack.len() < 1 {
         return stage6_machine_turn::answer(17, 0, 0);
     }
-    let mut state = stage6_machine_turn::first_state();
-    while state.place < text.len() {
-        let p = state.place;
-        let found = scan(&text[p..], read, tables, table, winners, by_rows);
-        let after = stage6_machine_turn::one_turn(
-            image,
-            tables,
-            productions,
-            read.empty,
-            read.skips,
-            stack,
-            found,
-            state,
-        );
-        match after {
-            Turn::Done(done) => return done,
-            Turn::Next(next) => state = next,
-        }
+    let first = stage6_machine_turn::first_state();
+    let stop = text.len();
+    let turned = run_turns(
+        image,
+        read,
+        tables,
+        productions,
+        table,
+        winners,
+        by_rows,
+        text,
+        stack,
+        first,
+        stop,
+    );
+    match turned {
+        Turn::Done(done) => return done,
+        Turn::Next(last) => return stage6_machine_turn::at_end(read.empty, stack, last),
     }
-    stage6_machine_turn::at_end(read.empty, stack, state)
 }
 
 // Runs a readable image, given by its bytes and its tables, none of which is copied, with the table of its scanner or without. The stack
@@ -101,7 +150,7 @@ pub fn run_image<'a>(
         (now (winners .entry)) i
         → answer-held r ≡ answer-of (trace i (length (now (stack .entry))) (now (text .entry)))) ⌝ }
 {
-    let ran = run_turns(
+    let ran = run_text(
         image,
         read,
         tables,

@@ -23,6 +23,7 @@ use Rattle.stage6_machine_turn.specs.Steps.{answer-held, state-at, state
 use Rattle.stage6_machine_turn.specs.TurnLaws.{turn-done, turn-next, end-is, GoesOn}
 use Rattle.stage6_machine_turn.specs.declared.RunAnswer.{RunAnswer}
 use Rattle.stage6_machine_turn.specs.declared.State.{State}
+use Rattle.stage6_machine_turn.specs.declared.Turn.{Turn}
 use Rattle.stage6_machine_turn.specs.declared.Turn.the-variants.{Next, Done}
 
 -- The turns from the present state, with these takes before it, lead to the end of the whole run.
@@ -35,6 +36,11 @@ pub record Going (i : Image) (bytes : List ℕ) (t : ImageTables) (text stack : 
   pub counted : s .count ≤ s .place
   pub same : trace-from i (length stack) text turns (state-held takes stack s) ≡ whole
   pub ready : Ready bytes (drop 384 (t .tables)) (t .productions) (t .empty) (i .rows) (t .nonterminals) stack (s .depth) (s .first)
+
+-- What turns from a state on leave: the answer of the whole run; or a state from which its turns go on, once a place is reached.
+abbrev pub TurnsLead : Image → List ℕ → ImageTables → List ℕ → ℕ → Ended → List ℕ → Turn → Type 0
+TurnsLead i bytes t text stop whole stack (Done a) = answer-held a ≡ answer-of whole
+TurnsLead i bytes t text stop whole stack (Next s) = Going i bytes t text stack s whole × (stop ≤ s .place)
 
 -- What the scanner sees of a text is the rest from the place on.
 pub rest-of : (text : List ℕ) (p : ℕ) → take (length text - p) (drop p text) ≡ drop p text

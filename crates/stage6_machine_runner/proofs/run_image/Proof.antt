@@ -8,8 +8,8 @@ use Rattle.stage0_buffers.specs.Cleared.{cleared-all}
 use Rattle.stage6_machine_runner.proofs.run_image.Statement.{statement}
 use Rattle.stage6_machine_runner.proofs.run_image.Tie as tie
 
-run-turns-requires : tie.Need-run-turns-requires
-run-turns-requires c κs = search needs
+run-text-requires : tie.Need-run-text-requires
+run-text-requires c κs = search needs
 
 clear-front-requires : tie.Need-clear-front-requires
 clear-front-requires c κs = search needs
@@ -21,12 +21,12 @@ returns : tie.Need-returns
 returns c =
     let cleared = c .before .before in
     let ran = cleared .before .before .before .before in
-    let left = ran .run-turns .last .1 .1 .1 .1 .1 .1 .1 .1 .0 in (
+    let left = ran .run-text .last .1 .1 .1 .1 .1 .1 .1 .1 .0 in (
       cleared .clear-front .ensures
           ∙ cleared-all (length left) left (omega arith)
-          ∙ ap (λ (k : ℕ). replicate k 0) (ran .run-turns .kept .1 .1 .1 .1 .1 .1 .1 .1 .0),
-      ran .run-turns .ensures,
+          ∙ ap (λ (k : ℕ). replicate k 0) (ran .run-text .kept .1 .1 .1 .1 .1 .1 .1 .1 .0),
+      ran .run-text .ensures,
     )
 
 pub run-image-spec : {M : Type 1} → statement M
-run-image-spec = tie.close (tie.spec run-turns-requires clear-front-requires same-length returns)
+run-image-spec = tie.close (tie.spec run-text-requires clear-front-requires same-length returns)

@@ -1,77 +1,81 @@
--- `run_turns` meets its contract. The loop's invariant: the run from the present state gives the whole answer.
+-- `run_turns` meets its contract. The loop's invariant: the turns from the present state lead to the end of every run that those from the
+-- first state lead to.
 use borrow.Author.Needs.{needs}
-use mathlib.Core.Path.{_≡_, refl, sym, ap, _∙_}
-use Prim.Native.Nat.{_-_, _<_}
+use mathlib.Core.Path.{_≡_, refl, sym, ap, subst, _∙_}
+use Prim.Native.Nat.{_-_, _≤_, _<_}
 use native.Mathlib.Omega.{arith}
 use lib.ListN.{length, drop}
 use denote.Ref.{now}
 use Rattle.stage4_lexer_scanner.specs.Meaning.{match-of}
 use Rattle.stage5_image.specs.Image.{Image}
 use Rattle.stage5_image_reader.specs.Decoded.{ImageTables, tables-of}
-use Rattle.stage6_machine.specs.Trace.{match-at, start-state}
-use Rattle.stage6_machine.specs.Run.{trace-from}
-use Rattle.stage6_machine_turn.specs.Steps.{answer-held, turn-step, MatchFits}
+use Rattle.stage6_machine.specs.Trace.{match-at, Ended}
+use Rattle.stage6_machine_turn.specs.Steps.{turn-step, MatchFits}
 use Rattle.stage6_machine_turn.specs.declared.Turn.the-variants.{Next, Done}
-use Rattle.stage6_machine_turn.specs.StackLaws.{ready-entries}
+use Rattle.stage6_machine_turn.specs.Going.{Going, scanned, going-fits, going-done, going-next}
 use Rattle.stage6_machine_runner.specs.Prepared.{WithTables}
-use Rattle.stage6_machine_turn.specs.Going.{Going, scanned, going-first, going-ends, going-fits, going-done, going-next}
-use Rattle.stage6_machine_runner.proofs.Ending.{run-no-entry, run-some-entry}
 use Rattle.stage6_machine_runner.proofs.run_turns.Statement.{statement}
 use Rattle.stage6_machine_runner.proofs.run_turns.Tie as tie
 
 abbrev Inv-loop : tie.InvT-loop
-Inv-loop image read tables productions table winners by-rows text stack₀ state₀ stack state =
+Inv-loop image read tables productions table winners by-rows text stack₀ stop state₀ stack state =
     (length stack ≡ length stack₀)
-    × ((i : Image) → WithTables image (tables-of read tables productions) by-rows table winners i
-    → Going i image (tables-of read tables productions) text stack state
-    (trace-from i (length stack₀) text (length text) start-state))
+    × ((i : Image) (whole : Ended) → WithTables image (tables-of read tables productions) by-rows table winners i
+    → Going i image (tables-of read tables productions) text stack₀ state₀ whole
+    → Going i image (tables-of read tables productions) text stack state whole)
 
 abbrev μ-loop : tie.MeasureT-loop
-μ-loop image read tables productions table winners by-rows text stack₀ state₀ stack state =
-    length text - state .place
+μ-loop image read tables productions table winners by-rows text stack₀ stop state₀ stack state = length text - state .place
 
 -- The start, from the head of the loop.
 abbrev start-of : tie.At-loop Inv-loop μ-loop → tie.Start Inv-loop μ-loop
-start-of head = head .before .before .before .before .before .before .before .before
+start-of head = head .before .before .before .before .before .before
 
 abbrev scan-head : tie.After-scan Inv-loop μ-loop → tie.At-loop Inv-loop μ-loop
 scan-head c = c .before .before .before .before
 
--- The machine's tables, and that they hold an image.
+-- The machine's tables, that they hold an image, and what the turns lead to.
 abbrev tables-here : tie.Start Inv-loop μ-loop → ImageTables
 tables-here s =
     let a = s .args in
     tables-of (a .read) (now (a .tables)) (now (a .productions))
 
-abbrev Held : tie.Start Inv-loop μ-loop → Image → Type 0
-Held s i =
-    let a = s .args in WithTables (now (a .image)) (tables-here s) (a .by-rows) (now (a .table)) (now (a .winners)) i
+abbrev Held : tie.Start Inv-loop μ-loop → Image → Ended → Type 0
+Held s i whole =
+    let a = s .args in
+    WithTables (now (a .image)) (tables-here s) (a .by-rows) (now (a .table)) (now (a .winners)) i
+    × Going i (now (a .image)) (tables-here s) (now (a .text)) (now (a .stack)) (a .from) whole
+
+going-here : (head : tie.At-loop Inv-loop μ-loop) (i : Image) (whole : Ended) → Held (start-of head) i whole
+    → let a = start-of head .args in
+    Going i (now (a .image)) (tables-here (start-of head)) (now (a .text)) (head .loop .stack) (head .loop .state) whole
+going-here head i whole w = head .loop .inv .1 i whole (w .0) (w .1)
 
 -- ---- what is known within a turn, for any image that the tables hold
 
 -- What was found is the image's longest match.
-found-here : (c : tie.After-scan Inv-loop μ-loop) (i : Image) → Held (start-of (scan-head c)) i
+found-here : (c : tie.After-scan Inv-loop μ-loop) (i : Image) (whole : Ended) → Held (start-of (scan-head c)) i whole
     → match-of (c .scan .result) ≡ match-at i (now (start-of (scan-head c) .args .text)) (scan-head c .loop .state .place)
-found-here c i w =
+found-here c i whole w =
     let head = scan-head c in
     let start = start-of head in
-    scanned i (now (start .args .text)) (head .loop .state .place) (c .scan .result) (c .scan .ensures _ _ i w)
+    scanned i (now (start .args .text)) (head .loop .state .place) (c .scan .result) (c .scan .ensures _ _ i (w .0))
 
 more-here : (c : tie.After-scan Inv-loop μ-loop) → scan-head c .loop .state .place < length (now (start-of (scan-head c) .args .text))
-more-here c = c .before .before .if2 .taken
+more-here c = omega (arith, c .before .before .if1 .taken, start-of (scan-head c) .pre .0)
 
-small : (c : tie.After-shared-slice-known4 Inv-loop μ-loop) → length (now (c .before .before .before .before .args .text)) < 18446744073709551616
-small c = omega arith
+small : (head : tie.At-loop Inv-loop μ-loop) → length (now (start-of head .args .text)) < 18446744073709551616
+small head = omega arith
 
 -- It fits the state.
-fits-here : (c : tie.After-scan Inv-loop μ-loop) (i : Image) → Held (start-of (scan-head c)) i
+fits-here : (c : tie.After-scan Inv-loop μ-loop) (i : Image) (whole : Ended) → Held (start-of (scan-head c)) i whole
     → MatchFits (c .scan .result) (scan-head c .loop .state)
-fits-here c i w =
+fits-here c i whole w =
     let head = scan-head c in
     let l = head .loop in
     let a = start-of head .args in
-    going-fits i (now (a .image)) (tables-here (start-of head)) (w .decoded) (now (a .text)) (l .stack) (l .state) _ (l .inv .1 i w) (more-here c)
-    (c .scan .result) (found-here c i w) (small (head .before .before .before .before))
+    going-fits i (now (a .image)) (tables-here (start-of head)) (w .0 .decoded) (now (a .text)) (l .stack) (l .state) whole (going-here head i whole w)
+    (more-here c) (c .scan .result) (found-here c i whole w) (small head)
 
 -- From what a turn leaves to the match and the head of the loop.
 abbrev turn-scan : tie.After-one-turn Inv-loop μ-loop → tie.After-scan Inv-loop μ-loop
@@ -81,15 +85,14 @@ abbrev next-turn : tie.After-after2 Inv-loop μ-loop → tie.After-one-turn Inv-
 next-turn c = c .before .before .before .before
 
 -- The state after the turn.
-next-here : (c : tie.After-after2 Inv-loop μ-loop) (i : Image)
+next-here : (c : tie.After-after2 Inv-loop μ-loop) (i : Image) (whole : Ended)
     → let turn = next-turn c in
     let head = scan-head (turn-scan turn) in
     let a = start-of head .args in
-    Held (start-of head) i
-    → Going i (now (a .image)) (tables-here (start-of head)) (now (a .text)) (turn .one-turn .last .1 .1 .1 .1 .1 .0) (c .after2 .given .0 .0)
-    (trace-from i (length (now (a .stack))) (now (a .text)) (length (now (a .text))) start-state)
+    Held (start-of head) i whole
+    → Going i (now (a .image)) (tables-here (start-of head)) (now (a .text)) (turn .one-turn .last .1 .1 .1 .1 .1 .0) (c .after2 .given .0 .0) whole
     × (head .loop .state .place < c .after2 .given .0 .0 .place)
-next-here c i w =
+next-here c i whole w =
     let turn = next-turn c in
     let scan = turn-scan turn in
     let head = scan-head scan in
@@ -98,45 +101,31 @@ next-here c i w =
     let t = tables-here (start-of head) in
     let e : turn-step (now (a .image)) (drop 384 (t .tables)) (t .productions) (t .empty) (t .skips) (l .stack) (scan .scan .result) (l .state) .outcome
     ≡ Next (c .after2 .given .0 .0) = sym (turn .one-turn .ensures .0) ∙ c .after2 .given .1 in
-    going-next i (now (a .image)) t (w .decoded) (now (a .text)) (l .stack) (l .state) _ (l .inv .1 i w) (more-here scan)
-    (scan .scan .result) (found-here scan i w) (fits-here scan i w) _ (c .after2 .given .0 .0)
+    going-next i (now (a .image)) t (w .0 .decoded) (now (a .text)) (l .stack) (l .state) whole (going-here head i whole w) (more-here scan)
+    (scan .scan .result) (found-here scan i whole w) (fits-here scan i whole w) _ (c .after2 .given .0 .0)
     (turn .one-turn .kept .1 .1 .1 .1 .1 .0) (turn .one-turn .ensures .1) e
 
-answer-requires : tie.Need-answer-requires Inv-loop μ-loop
-answer-requires c κs = tt
-
-returns : tie.Need-returns Inv-loop μ-loop
-unfolding answer-held
-returns c =
-    let start = c .before .before .before .before .before .before .before in
-    λ i w. ap answer-held (c .answer .ensures) ∙ run-no-entry i _ (now (start .args .text)) (c .before .if1 .taken)
-
-first-state-requires : tie.Need-first-state-requires Inv-loop μ-loop
-first-state-requires c κs = tt
-
 loop-holds : tie.Need-loop-holds Inv-loop μ-loop
-loop-holds c =
-    let room = c .before .if1 .left in
-    (refl, λ i w. going-first i _ _ (w .decoded) _ _ (c .first-state .ensures) room)
+loop-holds c = (refl, λ i whole w g. g)
 
 sub-scan : tie.Need-sub-scan Inv-loop μ-loop
-sub-scan c = search needs
+sub-scan c = omega (arith, c .if1 .taken, start-of (c .before .before) .pre .0)
 
 part-scan-start : tie.Need-part-scan-start Inv-loop μ-loop
-part-scan-start c = search needs
+part-scan-start c = omega (arith, c .if1 .taken, start-of (c .before .before) .pre .0)
 
 part-scan-end : tie.Need-part-scan-end Inv-loop μ-loop
 part-scan-end c = search needs
 
 scan-requires : tie.Need-scan-requires Inv-loop μ-loop
-scan-requires c κs = let w = start-of (c .before .before .before) .pre in (_, _, w .0, w .1)
+scan-requires c κs = let w = start-of (c .before .before .before) .pre .1 in (_, _, w .0, w .2)
 
 one-turn-requires : tie.Need-one-turn-requires Inv-loop μ-loop
 one-turn-requires c κs =
     let scan = c .before in
     let head = scan-head scan in
-    let w = start-of head .pre in
-    (fits-here scan (w .0) (w .1), (_, _, head .loop .inv .1 (w .0) (w .1) .ready))
+    let w = start-of head .pre .1 in
+    (fits-here scan (w .0) (w .1) (w .2, w .3), (_, _, going-here head (w .0) (w .1) (w .2, w .3) .ready))
 
 enum-known-after : tie.Need-enum-known-after Inv-loop μ-loop
 enum-known-after c = search needs
@@ -151,8 +140,8 @@ kept-here turn =
 same-length : tie.Need-same-length Inv-loop μ-loop
 same-length c = kept-here (c .before .before .before .before .before)
 
-returns-2 : tie.Need-returns-2 Inv-loop μ-loop
-returns-2 c =
+returns : tie.Need-returns Inv-loop μ-loop
+returns c =
     let turn = c .before .before .before .before .before in
     let scan = turn-scan turn in
     let head = scan-head scan in
@@ -162,44 +151,29 @@ returns-2 c =
     let done = c .before .after .given .0 .0 in
     let e : turn-step (now (a .image)) (drop 384 (t .tables)) (t .productions) (t .empty) (t .skips) (l .stack) (scan .scan .result) (l .state) .outcome ≡ Done done =
     sym (turn .one-turn .ensures .0) ∙ c .before .after .given .1 in
-    λ i w.
-    let g = going-done i (now (a .image)) t (w .decoded) (now (a .text)) (l .stack) (l .state) _ (l .inv .1 i w) (more-here scan)
-    (scan .scan .result) (found-here scan i w) (fits-here scan i w) done e in
-    run-some-entry i _ _ (head .before .before .if1 .left) _ g
+    λ i whole w g.
+    going-done i (now (a .image)) t (w .decoded) (now (a .text)) (l .stack) (l .state) whole (going-here head i whole (w, g)) (more-here scan)
+    (scan .scan .result) (found-here scan i whole (w, g)) (fits-here scan i whole (w, g)) done e
 
 enum-known-after-2 : tie.Need-enum-known-after-2 Inv-loop μ-loop
 enum-known-after-2 c = search needs
 
 loop-less : tie.Need-loop-less Inv-loop μ-loop
 loop-less c =
-    let w = start-of (scan-head (turn-scan (next-turn (c .before)))) .pre in
-    let t = next-here (c .before) (w .0) (w .1) in
+    let w = start-of (scan-head (turn-scan (next-turn (c .before)))) .pre .1 in
+    let t = next-here (c .before) (w .0) (w .1) (w .2, w .3) in
     omega (arith, t .0 .within, t .1)
 
 loop-again : tie.Need-loop-again Inv-loop μ-loop
 loop-again c =
     let turn = next-turn (c .before) in
-    (turn .one-turn .kept .1 .1 .1 .1 .1 .0 ∙ scan-head (turn-scan turn) .loop .inv .0, λ i w. next-here (c .before) i w .0)
-
-at-end-requires : tie.Need-at-end-requires Inv-loop μ-loop
-at-end-requires c κs =
-    let head = c .before .before .before in
-    let w = start-of head .pre in
-    ready-entries (head .loop .inv .1 (w .0) (w .1) .ready)
+    (turn .one-turn .kept .1 .1 .1 .1 .1 .0 ∙ scan-head (turn-scan turn) .loop .inv .0, λ i whole w g. next-here (c .before) i whole (w, g) .0)
 
 same-length-2 : tie.Need-same-length-2 Inv-loop μ-loop
-same-length-2 c =
-    let head = c .before .before .before .before in
-    head .loop .inv .0
+same-length-2 c = c .before .before .loop .inv .0
 
-returns-3 : tie.Need-returns-3 Inv-loop μ-loop
-returns-3 c =
-    let head = c .before .before .before .before in
-    let l = head .loop in
-    let a = start-of head .args in
-    λ i w.
-    let g = going-ends i (now (a .image)) (tables-here (start-of head)) (w .decoded) (now (a .text)) (l .stack) (l .state) _ (l .inv .1 i w) (c .before .before .if2 .left) in
-    run-some-entry i _ _ (head .before .before .if1 .left) _ (ap answer-held (c .at-end .ensures) ∙ g)
+returns-2 : tie.Need-returns-2 Inv-loop μ-loop
+returns-2 c = λ i whole w g. (going-here (c .before .before) i whole (w, g), c .if1 .left)
 
 pub run-turns-spec : {M : Type 1} → statement M
 run-turns-spec =
@@ -207,9 +181,6 @@ run-turns-spec =
     (tie.spec
     Inv-loop
     μ-loop
-    answer-requires
-    returns
-    first-state-requires
     loop-holds
     sub-scan
     part-scan-start
@@ -218,10 +189,9 @@ run-turns-spec =
     one-turn-requires
     enum-known-after
     same-length
-    returns-2
+    returns
     enum-known-after-2
     loop-less
     loop-again
-    at-end-requires
     same-length-2
-    returns-3)
+    returns-2)
