@@ -1,5 +1,5 @@
 -- Running as a function, which the code's contracts cite: one turn, turns in a row, and a run with all that it is lent. What it gives is
--- what the relation says, and nothing else (RunLaws: `runs-iff`).
+-- what the relation says, and nothing else (RunsLaws: `runs-iff`).
 use mathlib.Core.Bool.{Bool, false, _||_, cond}
 use mathlib.Core.List.{List, [], _∷_, _++_}
 use mathlib.Core.Option.{Option, none, some}

@@ -1,6 +1,6 @@
 -- What running does, as relations: a turn goes on or the run stops, one case for a skip, a take, acceptance and each of the questions 14 to
 -- 17; and a run with all that it is lent, one case for each question before the text is read. It names neither the reader of images nor
--- turns that are counted; it has one answer, and `run` gives it (RunLaws: `runs-iff`).
+-- turns that are counted; it has one answer, and `run` gives it (RunsLaws: `runs-iff`).
 use mathlib.Core.Path.{_≡_}
 use mathlib.Core.Bool.{Bool, true, false}
 use mathlib.Core.List.{List, [], _∷_, _++_}
