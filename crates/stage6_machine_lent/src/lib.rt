@@ -47,7 +47,8 @@ fn build<'a>(
     stage4_lexer_table::build_table(table, winners, read.last, read.first, tables)
 }
 
-// Runs a readable image, its table built before the text is read.
+// Runs a readable image, its table built before the text is read. The run is called from two places, so that the compiler leaves it a
+// function of its own: put into this one, its loop would have fewer registers.
 fn build_and_run<'a>(
     image: &[u8],
     read: ImageRead,
@@ -70,6 +71,19 @@ fn build_and_run<'a>(
     if !few {
         return stage6_machine_turn::answer(19, 0, 0);
     }
+    if by_rows {
+        return stage6_machine_runner::run_image(
+            image,
+            read,
+            tables,
+            productions,
+            table,
+            winners,
+            true,
+            text,
+            stack,
+        );
+    }
     stage6_machine_runner::run_image(
         image,
         read,
@@ -77,7 +91,7 @@ fn build_and_run<'a>(
         productions,
         table,
         winners,
-        by_rows,
+        false,
         text,
         stack,
     )

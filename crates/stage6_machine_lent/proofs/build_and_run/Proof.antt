@@ -1,6 +1,7 @@
 -- `build_and_run` meets its contract: 19 where the table has too many rows, otherwise the run.
 use borrow.Author.Needs.{needs}
-use mathlib.Core.Path.{ap}
+use mathlib.Core.Path.{_≡_, ap, subst}
+use mathlib.Core.Bool.{Bool, true, false}
 use denote.Ref.{now}
 use Rattle.stage5_image.specs.Image.{Image}
 use Rattle.stage5_image.specs.ImageRanges.{InRange}
@@ -68,11 +69,25 @@ returns c =
       x .untouched,
     )
 
+-- The same, once the flag is known.
+with-flag : (c : tie.Else1) (b : Bool) (i : Image)
+    → let made = c .before .before .before .before .before in
+    let a = start-of made .args in
+    a .by-rows ≡ b → Held made i → InRange i
+    → WithTables (now (a .image)) (tables-of (a .read) (now (a .tables)) (now (a .productions))) b
+    (made .build .last .1 .1 .0) (made .build .last .1 .1 .1 .0) i
+with-flag c b i e d range =
+    let made = c .before .before .before .before .before in
+    let a = start-of made .args in
+    subst (λ (x : Bool). WithTables (now (a .image)) (tables-of (a .read) (now (a .tables)) (now (a .productions))) x
+    (made .build .last .1 .1 .0) (made .build .last .1 .1 .1 .0) i) e (with-here c i d range)
+
 run-image-requires : tie.Need-run-image-requires
 run-image-requires c κs =
-    let passed = c .before .before .before in
+    let then = c .before .before .before in
+    let passed = then .before in
     let w = start-of (passed .before .before .before .before .before) .pre in
-    (w .1 .0, with-here passed (w .1 .0) (w .1 .1) (w .1 .2))
+    (w .1 .0, with-flag passed true (w .1 .0) (then .if2 .taken) (w .1 .1) (w .1 .2))
 
 same-length-3 : tie.Need-same-length-3
 same-length-3 c = search needs
@@ -86,13 +101,46 @@ same-length-5 c = search needs
 returns-2 : tie.Need-returns-2
 returns-2 c =
     let ran = c .before .before in
-    let passed = ran .before .before .before .before in
+    let then = ran .before .before .before .before in
+    let passed = then .before in
     let made = passed .before .before .before .before .before in
     let a = start-of made .args in
     λ i d range.
     let x = built-here made i d range in (
       run-few-rows i (now (a .text)) (now (a .stack)) (now (a .table)) (now (a .winners)) _ _ (a .by-rows) (made .build .result) x
-          (passed .if1 .left) (ran .run-image .result) _ (ran .run-image .ensures .1 i (with-here passed i d range)) (ran .run-image .ensures .0),
+          (passed .if1 .left) (ran .run-image .result) _ (ran .run-image .ensures .1 i (with-flag passed true i (then .if2 .taken) d range))
+          (ran .run-image .ensures .0),
+      x .untouched,
+    )
+
+run-image-requires-2 : tie.Need-run-image-requires-2
+run-image-requires-2 c κs =
+    let else = c .before .before .before in
+    let passed = else .before in
+    let w = start-of (passed .before .before .before .before .before) .pre in
+    (w .1 .0, with-flag passed false (w .1 .0) (else .if2 .left) (w .1 .1) (w .1 .2))
+
+same-length-6 : tie.Need-same-length-6
+same-length-6 c = search needs
+
+same-length-7 : tie.Need-same-length-7
+same-length-7 c = search needs
+
+same-length-8 : tie.Need-same-length-8
+same-length-8 c = search needs
+
+returns-3 : tie.Need-returns-3
+returns-3 c =
+    let ran = c .before .before in
+    let else = ran .before .before .before .before in
+    let passed = else .before in
+    let made = passed .before .before .before .before .before in
+    let a = start-of made .args in
+    λ i d range.
+    let x = built-here made i d range in (
+      run-few-rows i (now (a .text)) (now (a .stack)) (now (a .table)) (now (a .winners)) _ _ (a .by-rows) (made .build .result) x
+          (passed .if1 .left) (ran .run-image2 .result) _ (ran .run-image2 .ensures .1 i (with-flag passed false i (else .if2 .left) d range))
+          (ran .run-image2 .ensures .0),
       x .untouched,
     )
 
@@ -109,4 +157,9 @@ build-and-run-spec =
     same-length-3
     same-length-4
     same-length-5
-    returns-2)
+    returns-2
+    run-image-requires-2
+    same-length-6
+    same-length-7
+    same-length-8
+    returns-3)
