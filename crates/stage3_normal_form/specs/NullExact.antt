@@ -3,17 +3,16 @@
 use mathlib.Core.Path.{_≡_, refl, sym, _∙_}
 use mathlib.Core.Bool.{Bool, true, false, true≢false}
 use mathlib.Core.List.{List, []}
-use Prim.Native.Nat.{ℕ, zero, suc, _≤_}
-use lib.ListN.{length, replicate, List·getD-eq-default}
+use Prim.Native.Nat.{ℕ, suc, _≤_}
+use lib.ListN.{List·getD-eq-default}
 use Rattle.stage0_laws.specs.Truth.{and-true-first}
-use Rattle.stage0_laws.specs.Settling.{settle-keeps}
 use Rattle.stage1_sheet.specs.Expression.{Expression, size}
 use Rattle.stage2_types.specs.Denotation.{Environment}
 use Rattle.stage2_types.specs.Types.{LanguageType, epsilon-type, bottom-type, token-type, sequence-type, alternative-type, Context, _⊢_∶_, type-epsilon, type-bottom, type-token, type-variable, type-sequence, type-alternative, type-fixed-point, type-repetition}
 use Rattle.stage2_types.specs.Soundness.{Satisfies}
 use Rattle.stage2_types.specs.Nodes.{Node, epsilon-node, bottom-node, token-node, sequence-node, alternative-node, fixed-point-node, variable-node, repetition-node, nodes, node-at}
-use Rattle.stage2_types.specs.LeastTypes.{type-of, node-type, next-types, same-types, type-rounds, types-of, least-types}
-use Rattle.stage2_types.specs.LeastTypeLaws.{type-of-next}
+use Rattle.stage2_types.specs.LeastTypes.{type-of, node-type, next-types, least-types}
+use Rattle.stage2_types.specs.LeastTypeLaws.{types-every}
 use Rattle.stage2_types.specs.SetOrder.{or-rises}
 use Rattle.stage2_types.specs.QuestionLaws.{passes-apart}
 use Rattle.stage2_types.specs.Typing.{least-passes}
@@ -83,22 +82,10 @@ module _ (rs : List Row) (types : List LanguageType) (within : (n : ℕ) → Nul
   node-within (variable-node f guarded) s e = within f e
   node-within (repetition-node b self) s e = refl
 
-none-typed : (m n : ℕ) → type-of (replicate m bottom-type) n ≡ bottom-type
-none-typed zero n = refl
-none-typed (suc m) zero = refl
-none-typed (suc m) (suc n) = none-typed m n
-
 null-within : {e : Expression} {a : LanguageType} → [] ⊢ e ∶ a → (n : ℕ) → NullWithin (type-of (least-types e) n) (row-of (rows e) n)
-unfolding least-types types-of bottom-type
-null-within {e} d = settle-keeps same-types (next-types (nodes e)) Within step (type-rounds (nodes e))
-    (replicate (length (nodes e)) bottom-type) (λ n. rw (none-typed (length (nodes e)) n) (λ h. absurd (true≢false (sym h))))
-  where
-    Within : List LanguageType → Type 0
-    Within types = (n : ℕ) → NullWithin (type-of types n) (row-of (rows e) n)
-
-    step : (types : List LanguageType) → Within types → Within (next-types (nodes e) types)
-    step types w n = rw (type-of-next (nodes e) types n, row-solves d n)
-        (node-within (rows e) types w (node-at (nodes e) n) (left-not-null d n))
+unfolding least-types bottom-type
+null-within {e} d = types-every (nodes e) (λ n a. NullWithin a (row-of (rows e) n)) (λ n h. absurd (true≢false (sym h)))
+    (λ types w n. rw (row-solves d n) (node-within (rows e) types w (node-at (nodes e) n) (left-not-null d n)))
 
 same-truth : (a b : Bool) → (a ≡ true → b ≡ true) → (b ≡ true → a ≡ true) → a ≡ b
 same-truth true b f g = sym (f refl)
