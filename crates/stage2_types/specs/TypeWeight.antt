@@ -1,17 +1,17 @@
 -- How much a type holds: a flag and the members of two sets of at most 24 tokens, so at most `type-height`. A type that grows weighs more.
 -- This counts for what the rounds of the least types need, and is no part of a type's meaning.
 use mathlib.Core.Path.{_≡_, subst}
-use mathlib.Core.Bool.{Bool}
 use mathlib.Core.Logic.{⊎-elim}
 use Prim.Native.Nat.{ℕ, _+_, _^_, _≤_, _<_}
 use native.Mathlib.Omega.{arith}
 use lib.Bits.{bitOr}
 use Rattle.stage0_laws.specs.Bits.{_∈_}
-use Rattle.stage0_laws.specs.BitLaws.{∈-zero, ∈-one, ∈-cases, ∈-cond, bit-below, lt-pow-self}
+use Rattle.stage0_laws.specs.BitLaws.{∈-zero, ∈-one, ∈-cases, bit-below, lt-pow-self}
 use Rattle.stage1_sheet.specs.Limits.{most-tokens}
-use Rattle.stage2_types.specs.Types.{LanguageType, if-null, epsilon-type, bottom-type, token-type, sequence-type, alternative-type, repetition-type}
+use Rattle.stage2_types.specs.Types.{LanguageType, epsilon-type, bottom-type, token-type, sequence-type, alternative-type, repetition-type}
 use Rattle.stage2_types.specs.LeastTypes.{type-height}
 use Rattle.stage2_types.specs.SetOrder.{flag, flag-rises, flag-most, flag-implies, count, count-most, count-rises, count-full}
+use Rattle.stage2_types.specs.SequenceTypeLaws.{sequence-first-cases, sequence-flast-cases}
 use Rattle.stage2_types.specs.TypeLaws.{⊑-antisym}
 use Rattle.stage2_types.specs.LeastSolution.{_⊑_}
 
@@ -25,9 +25,6 @@ pub record Fits (a : LanguageType) : Type 0 where
 
 union-only : (s t : ℕ) → TokensOnly s → TokensOnly t → TokensOnly (bitOr s t)
 union-only s t f g i h = ⊎-elim (f i) (g i) (∈-cases s t i h)
-
-if-null-only : (b : Bool) (s : ℕ) → TokensOnly s → TokensOnly (if-null b s)
-if-null-only b s f i h = f i ((∈-cond b s i h) .1)
 
 pub below-fits : {a b : LanguageType} → a ⊑ b → Fits b → Fits a
 below-fits p f = record {
@@ -48,11 +45,9 @@ unfolding token-type
 token-fits t l = record { first-fits = λ i h. subst (λ n. n < most-tokens) (∈-one t i h) l; flast-fits = λ i h. ∈-zero i h }
 
 pub sequence-fits : {a b : LanguageType} → Fits a → Fits b → Fits (sequence-type a b)
-unfolding sequence-type
 sequence-fits {a} {b} p q = record {
-  first-fits = union-only (a .first) (if-null (a .null) (b .first)) (p .first-fits) (if-null-only (a .null) (b .first) (q .first-fits));
-  flast-fits = union-only (b .flast) (if-null (b .null) (bitOr (b .first) (a .flast))) (q .flast-fits)
-      (if-null-only (b .null) (bitOr (b .first) (a .flast)) (union-only (b .first) (a .flast) (q .first-fits) (p .flast-fits)));
+  first-fits = λ i m. ⊎-elim (p .first-fits i) (λ x. q .first-fits i (x .1)) (sequence-first-cases a b i m);
+  flast-fits = λ i m. ⊎-elim (q .flast-fits i) (λ x. ⊎-elim (q .first-fits i) (p .flast-fits i) (x .1)) (sequence-flast-cases a b i m);
 }
 
 pub alternative-fits : {a b : LanguageType} → Fits a → Fits b → Fits (alternative-type a b)

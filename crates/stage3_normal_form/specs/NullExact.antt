@@ -5,15 +5,15 @@ use mathlib.Core.Bool.{Bool, true, false, true≢false}
 use mathlib.Core.List.{List, []}
 use Prim.Native.Nat.{ℕ, suc, _≤_}
 use lib.ListN.{List·getD-eq-default}
-use Rattle.stage0_laws.specs.Truth.{and-true-first}
 use Rattle.stage1_sheet.specs.Expression.{Expression, size}
 use Rattle.stage2_types.specs.Denotation.{Environment}
-use Rattle.stage2_types.specs.Types.{LanguageType, epsilon-type, bottom-type, token-type, sequence-type, alternative-type, Context, _⊢_∶_, type-epsilon, type-bottom, type-token, type-variable, type-sequence, type-alternative, type-fixed-point, type-repetition}
+use Rattle.stage2_types.specs.Types.{LanguageType, epsilon-type, bottom-type, token-type, alternative-type, Context, _⊢_∶_, type-epsilon, type-bottom, type-token, type-variable, type-sequence, type-alternative, type-fixed-point, type-repetition}
 use Rattle.stage2_types.specs.Soundness.{Satisfies}
 use Rattle.stage2_types.specs.Nodes.{Node, epsilon-node, bottom-node, token-node, sequence-node, alternative-node, fixed-point-node, variable-node, repetition-node, nodes, node-at}
 use Rattle.stage2_types.specs.LeastTypes.{type-of, node-type, next-types, least-types}
 use Rattle.stage2_types.specs.LeastTypeLaws.{types-every}
 use Rattle.stage2_types.specs.SetOrder.{or-rises}
+use Rattle.stage2_types.specs.SequenceTypeLaws.{sequence-null-left}
 use Rattle.stage2_types.specs.QuestionLaws.{passes-apart}
 use Rattle.stage2_types.specs.Typing.{least-passes}
 use Rattle.stage3_normal_form.specs.Productions.{Row, row-of, node-row, rows}
@@ -70,12 +70,12 @@ NullWithin a P = a .null ≡ true → P .has-epsilon ≡ true
 -- One round of types, over rows that solve the equations.
 module _ (rs : List Row) (types : List LanguageType) (within : (n : ℕ) → NullWithin (type-of types n) (row-of rs n)) where
   node-within : (x : Node) → LeftNotNull rs x → NullWithin (node-type types x) (node-row rs x)
-  unfolding node-type node-row epsilon-type bottom-type token-type sequence-type alternative-type
+  unfolding node-type node-row epsilon-type bottom-type token-type alternative-type
   node-within epsilon-node s e = refl
   node-within bottom-node s e = e
   node-within (token-node t) s e = e
   node-within (sequence-node l r) s e =
-      absurd (true≢false (sym (within l (and-true-first ((type-of types l) .null) ((type-of types r) .null) e)) ∙ s))
+      absurd (true≢false (sym (within l (sequence-null-left (type-of types l) (type-of types r) e)) ∙ s))
   node-within (alternative-node l r) s e = or-rises ((type-of types l) .null) ((row-of rs l) .has-epsilon)
       ((type-of types r) .null) ((row-of rs r) .has-epsilon) (within l) (within r) e
   node-within (fixed-point-node b) s e = within b e
