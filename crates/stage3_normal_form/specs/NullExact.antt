@@ -12,7 +12,7 @@ use Rattle.stage2_types.specs.Soundness.{Satisfies}
 use Rattle.stage2_types.specs.Nodes.{Node, epsilon-node, bottom-node, token-node, sequence-node, alternative-node, fixed-point-node, variable-node, repetition-node, nodes, node-at}
 use Rattle.stage2_types.specs.LeastTypes.{type-of, node-type, next-types, least-types}
 use Rattle.stage2_types.specs.LeastTypeLaws.{types-every}
-use Rattle.stage2_types.specs.SetOrder.{or-rises}
+use Rattle.stage2_types.specs.SetOrder.{implied-both, or-rises}
 use Rattle.stage2_types.specs.SequenceTypeLaws.{sequence-null-left}
 use Rattle.stage2_types.specs.QuestionLaws.{passes-apart}
 use Rattle.stage2_types.specs.Typing.{least-passes}
@@ -87,14 +87,9 @@ unfolding least-types bottom-type
 null-within {e} d = types-every (nodes e) (λ n a. NullWithin a (row-of (rows e) n)) (λ n h. absurd (true≢false (sym h)))
     (λ types w n. rw (row-solves d n) (node-within (rows e) types w (node-at (nodes e) n) (left-not-null d n)))
 
-same-truth : (a b : Bool) → (a ≡ true → b ≡ true) → (b ≡ true → a ≡ true) → a ≡ b
-same-truth true b f g = sym (f refl)
-same-truth false true f g = absurd (true≢false (sym (g refl)))
-same-truth false false f g = refl
-
 -- NULL is the ε flag, and so it is exact: it holds iff the empty word is in L(n).
 pub null-is-epsilon : {e : Expression} {a : LanguageType} → [] ⊢ e ∶ a → least-types e ≡ next-types (nodes e) (least-types e)
     → (n : ℕ) → (type-of (least-types e) n) .null ≡ (row-of (normal-form e) n) .has-epsilon
-null-is-epsilon {e} d s n = same-truth ((type-of (least-types e) n) .null) ((row-of (normal-form e) n) .has-epsilon)
+null-is-epsilon {e} d s n = implied-both ((type-of (least-types e) n) .null) ((row-of (normal-form e) n) .has-epsilon)
     (λ h. normal-form-epsilon e n ∙ null-within d n h)
     ((rows-within e (least-types e) s (passes-apart (nodes e) (least-types e) (least-passes e d)) n) .null-within)
