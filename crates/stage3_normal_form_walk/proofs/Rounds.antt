@@ -188,7 +188,7 @@ module _ (links : NodeLinks) (before : List Bool) (n old : ℕ) (b : Bool) (insi
 
 -- ---- the rounds
 
--- A set after so many rounds that each added a node. No solution has fewer nodes.
+-- A set after so many rounds that each added a node. Every solution of the equations has its nodes.
 pub record AfterRounds (links : NodeLinks) (rounds set : ℕ) : Type 0 where
   pub flags : List Bool
   pub set-of : SetOf set flags

@@ -1,5 +1,5 @@
--- `stage3_normal_form_walk::derives` meets its contract. The loop's invariant: each round so far added a node, and no solution of the
--- equations has fewer nodes.
+-- `stage3_normal_form_walk::derives` meets its contract. The loop's invariant: each round so far added a node, and every solution of the
+-- equations has the nodes of the set.
 use Prim.Native.Nat.{_≤_, _-_}
 use native.Mathlib.Omega.{arith}
 use Rattle.stage3_normal_form_walk.proofs.Rounds.{AfterRounds, rounds-start, rounds-next, rounds-same, rounds-over}
