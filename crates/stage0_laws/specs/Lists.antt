@@ -1,9 +1,9 @@
--- Lists: what holds of every member, and sums over the members; the members that pass a test; the first answer of two; and a step that
--- is taken until nothing changes. The laws of lists themselves are the library's.
+-- Lists: what holds of every member, and sums over the members; the members that pass a test; and the first answer of two. The laws of
+-- lists themselves are the library's.
 use mathlib.Core.Bool.{Bool, true, false, not}
 use mathlib.Core.List.{List, [], _∷_, _++_}
 use mathlib.Core.Option.{Option, none, some}
-use Prim.Native.Nat.{ℕ, zero, suc, _+_}
+use Prim.Native.Nat.{ℕ, _+_}
 
 -- Every member of the list is so.
 abbrev pub All : {A : Type 0} → (A → Type 0) → List A → Type 0
@@ -28,8 +28,3 @@ partition p l = filter p l ++ filter (λ a. not (p a)) l
 abbrev pub or-else : {A : Type 0} → Option A → Option A → Option A
 or-else none b = b
 or-else (some a) b = some a
-
--- A step taken so many times, but no further once it changes nothing.
-unfoldable pub settle : {A : Type 0} → (A → A → Bool) → (A → A) → ℕ → A → A
-settle same step zero a = a
-settle same step (suc k) a = let b = step a in elim (same a b) [ true ↦ a | false ↦ settle same step k b ]

@@ -4,7 +4,7 @@ use mathlib.Core.Path.{_≡_, refl}
 use mathlib.Core.Bool.{Bool, true, false}
 use Prim.Native.Nat.{ℕ, zero, suc, _≤_, _<_}
 use native.Mathlib.Omega.{arith}
-use Rattle.stage0_laws.specs.Lists.{settle}
+use Rattle.stage0_laws.specs.Rounds.{settle}
 
 module _ {A : Type 0} (same : A → A → Bool) (step : A → A) (P : A → Type 0) (left : A → ℕ) (keeps : (a : A) → P a → P (step a))
     (falls : (a : A) → P a → same a (step a) ≡ false → left (step a) < left a) where

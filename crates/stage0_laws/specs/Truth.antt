@@ -1,6 +1,7 @@
--- Truth values: in and out of "and", "or" and "not", for tests held as `T b` and as equations with true.
+-- Truth values: in and out of "and", "or" and "not", for tests held as `T b` and as equations with true; and the test whether two are
+-- equal.
 use mathlib.Core.Path.{_≡_, refl, sym, subst}
-use mathlib.Core.Bool.{Bool, true, false, not, _&&_, _||_, false≢true}
+use mathlib.Core.Bool.{Bool, true, false, not, _&&_, _||_, Bool·beq, false≢true}
 use mathlib.Core.Logic.{_⊎_, inl, inr}
 use lib.Dec.{T}
 
@@ -48,3 +49,13 @@ or-true-left false b e = absurd (false≢true e)
 pub or-true-right : (a b : Bool) → b ≡ true → (a || b) ≡ true
 or-true-right true b e = refl
 or-true-right false b e = e
+
+pub beq-equal : (a b : Bool) → Bool·beq a b ≡ true → a ≡ b
+beq-equal true true e = refl
+beq-equal true false e = sym e
+beq-equal false true e = e
+beq-equal false false e = refl
+
+pub beq-self : (a : Bool) → Bool·beq a a ≡ true
+beq-self true = refl
+beq-self false = refl

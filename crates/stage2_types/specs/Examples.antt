@@ -3,11 +3,11 @@ use mathlib.Core.Path.{_≡_, refl}
 use mathlib.Core.List.{List, [], _∷_, map}
 use mathlib.Core.Option.{Option, none, some}
 use Prim.Native.Nat.{ℕ}
-use Rattle.stage0_laws.specs.Lists.{settle}
+use Rattle.stage0_laws.specs.Rounds.{settle, same-all, least-solution}
 use Rattle.stage1_sheet.specs.Expression.{Expression, epsilon, bottom, token, sequence, alternative, fixed-point, variable, repetition, size}
 use Rattle.stage2_types.specs.Types.{epsilon-type, bottom-type, token-type, sequence-type, alternative-type, repetition-type}
 use Rattle.stage2_types.specs.Nodes.{nodes-from, nodes}
-use Rattle.stage2_types.specs.LeastTypes.{node-type, next-types, same-type, same-types, type-rounds, types-of, least-types}
+use Rattle.stage2_types.specs.LeastTypes.{node-type, same-type, types-of, least-types}
 use Rattle.stage2_types.specs.Questions.{Fault, separable, apart, unless, node-fault, first-fault, type-fault}
 
 record Example : Type 0 where
@@ -65,6 +65,6 @@ examples =
     ∷ []
 
 examples-answered : map (λ x. type-fault (x .expression)) examples ≡ map (λ x. x .answer) examples
-unfolding type-fault first-fault node-fault unless separable apart least-types types-of settle type-rounds next-types node-type same-types same-type
+unfolding type-fault first-fault node-fault unless separable apart least-types types-of least-solution settle same-all node-type same-type
     nodes nodes-from size epsilon-type bottom-type token-type sequence-type alternative-type repetition-type
 examples-answered = refl

@@ -1,40 +1,44 @@
 -- The computed types solve Figure 2's equations over the whole expression, and they are below every other solution.
 -- Whether they pass the side conditions is not asked here.
-use mathlib.Core.Path.{_≡_, refl, sym, ap, ap₂, subst, _∙_}
-use mathlib.Core.Bool.{Bool, true, false, _&&_, Bool·beq, true≢false}
-use mathlib.Core.List.{List, [], _∷_}
-use mathlib.Core.Logic.{⊎-elim}
-use Prim.Native.Nat.{ℕ, zero, suc, _-_, _*_, _≤_, _<_}
+use mathlib.Core.Path.{_≡_, refl, ap, subst, _∙_}
+use mathlib.Core.Bool.{true, _&&_, Bool·beq}
+use mathlib.Core.List.{List}
+use Prim.Native.Nat.{ℕ, _≤_}
 use native.Mathlib.Omega.{arith}
 use lib.Dec.{eqb}
-use lib.ListN.{length, replicate, length-map, length-replicate, List·getD-map}
-use lib.Seq.{ext-getD}
+use lib.ListN.{length, replicate}
 use borrow.Author.Tests.{eq-eqb, eqb-true}
-use Rattle.stage0_laws.specs.Truth.{and-true-first, and-true-second}
-use Rattle.stage0_laws.specs.Order.{lt-or-le}
-use Rattle.stage0_laws.specs.Lists.{sum}
-use Rattle.stage0_laws.specs.Settling.{settle-keeps, settled}
+use Rattle.stage0_laws.specs.Truth.{and-true-first, and-true-second, beq-equal, beq-self}
+use Rattle.stage0_laws.specs.RoundLaws.{Equations, each-least, round-at, solution-long, solution-every, solution-below, solution-unique, solution-fits, solution-solves}
 use Rattle.stage1_sheet.specs.Limits.{most-tokens}
 use Rattle.stage1_sheet.specs.Expression.{Expression, size}
 use Rattle.stage1_sheet.specs.WellFormed.{Closed}
 use Rattle.stage2_types.specs.Types.{LanguageType, epsilon-type, bottom-type, token-type}
 use Rattle.stage2_types.specs.Nodes.{Node, epsilon-node, bottom-node, token-node, sequence-node, alternative-node, fixed-point-node, variable-node, repetition-node, nodes, node-at}
 use Rattle.stage2_types.specs.NodeRanges.{NodeInRange, in-range-more, node-in-range, nodes-in-range}
-use Rattle.stage2_types.specs.LeastTypes.{type-of, node-type, next-types, same-type, same-types, type-height, type-rounds, types-of, least-types}
+use Rattle.stage2_types.specs.LeastTypes.{type-of, node-type, next-types, same-type, type-height, types-of, least-types}
 use Rattle.stage2_types.specs.TypeLaws.{⊑-refl, ⊑-trans, ⊑-antisym, bottom-least, sequence-rises, alternative-rises, repetition-rises}
 use Rattle.stage2_types.specs.LeastSolution.{_⊑_, AllBelow, Solves}
-use Rattle.stage2_types.specs.TypeWeight.{Fits, epsilon-fits, bottom-fits, token-fits, sequence-fits, alternative-fits, repetition-fits, weight, weights-most, weights-full}
+use Rattle.stage2_types.specs.TypeWeight.{Fits, epsilon-fits, bottom-fits, token-fits, sequence-fits, alternative-fits, repetition-fits, weight, weight-most, weight-rises, weight-full}
 
--- One round, at one node.
-pub type-of-next : (ns : List Node) (types : List LanguageType) (n : ℕ) → type-of (next-types ns types) n ≡ node-type types (node-at ns n)
-unfolding next-types node-type
-type-of-next ns types n = List·getD-map (node-type types) ns n bottom-node
+-- ---- Figure 2's equations can be solved by rounds
 
-pub solved-at : (ns : List Node) (types : List LanguageType) → Solves ns types → (n : ℕ) → type-of types n ≡ node-type types (node-at ns n)
-solved-at ns types s n = ap (λ (l : List LanguageType). type-of l n) s ∙ type-of-next ns types n
+pub same-type-equal : (a b : LanguageType) → same-type a b ≡ true → a ≡ b
+unfolding same-type
+same-type-equal a b e =
+    let sets = eqb (a .first) (b .first) && eqb (a .flast) (b .flast) in
+    let rest = and-true-second (Bool·beq (a .null) (b .null)) sets e in
+    let n = beq-equal (a .null) (b .null) (and-true-first (Bool·beq (a .null) (b .null)) sets e) in
+    let s = eqb-true (a .first) (b .first) (and-true-first (eqb (a .first) (b .first)) (eqb (a .flast) (b .flast)) rest) in
+    let t = eqb-true (a .flast) (b .flast) (and-true-second (eqb (a .first) (b .first)) (eqb (a .flast) (b .flast)) rest) in
+    λ i. record { null = n i; first = s i; flast = t i }
+
+pub same-type-self : (a : LanguageType) → same-type a a ≡ true
+unfolding same-type
+same-type-self a = rw (beq-self (a .null), eq-eqb (a .first) (a .first) refl, eq-eqb (a .flast) (a .flast) refl)
 
 -- A round keeps the order.
-pub node-type-rises : (xs ys : List LanguageType) → AllBelow xs ys → (x : Node) → node-type xs x ⊑ node-type ys x
+node-type-rises : (xs ys : List LanguageType) → AllBelow xs ys → (x : Node) → node-type xs x ⊑ node-type ys x
 unfolding node-type
 node-type-rises xs ys h epsilon-node = ⊑-refl epsilon-type
 node-type-rises xs ys h bottom-node = ⊑-refl bottom-type
@@ -45,46 +49,69 @@ node-type-rises xs ys h (fixed-point-node b) = h b
 node-type-rises xs ys h (variable-node f guarded) = h f
 node-type-rises xs ys h (repetition-node b self) = repetition-rises (h b) (h self)
 
-pub next-rises : (ns : List Node) (xs ys : List LanguageType) → AllBelow xs ys → AllBelow (next-types ns xs) (next-types ns ys)
-next-rises ns xs ys h n = rw (type-of-next ns xs n, type-of-next ns ys n) (node-type-rises xs ys h (node-at ns n))
+pub type-equations : Equations same-type bottom-type type-height node-type bottom-node _⊑_ Fits weight
+unfolding node-type
+type-equations = record {
+  same-equal = same-type-equal;
+  same-self = same-type-self;
+  transitive = ⊑-trans;
+  antisymmetric = ⊑-antisym;
+  rises = node-type-rises;
+  none-least = λ types. refl;
+  least-fits = bottom-fits;
+  least-below = λ a f. bottom-least a;
+  weight-most = weight-most;
+  weight-rises = weight-rises;
+  weight-full = λ p f g. weight-full p g;
+}
 
-bottom-at : (k n : ℕ) → type-of (replicate k bottom-type) n ≡ bottom-type
-bottom-at zero n = refl
-bottom-at (suc k) zero = refl
-bottom-at (suc k) (suc n) = bottom-at k n
+-- ---- one round
+
+-- One round, at one node.
+pub type-of-next : (ns : List Node) (types : List LanguageType) (n : ℕ) → type-of (next-types ns types) n ≡ node-type types (node-at ns n)
+unfolding next-types
+type-of-next = round-at type-equations
+
+pub solved-at : (ns : List Node) (types : List LanguageType) → Solves ns types → (n : ℕ) → type-of types n ≡ node-type types (node-at ns n)
+solved-at ns types s n = ap (λ (l : List LanguageType). type-of l n) s ∙ type-of-next ns types n
 
 pub bottoms-below : (k : ℕ) (types : List LanguageType) → AllBelow (replicate k bottom-type) types
-bottoms-below k types n = subst (λ (a : LanguageType). a ⊑ type-of types n) (sym (bottom-at k n)) (bottom-least (type-of types n))
-
-pub types-long : (ns : List Node) → length (types-of ns) ≡ length ns
-unfolding types-of next-types
-types-long ns = settle-keeps same-types (next-types ns) (λ types. length types ≡ length ns) (λ types h. length-map ns (node-type types))
-    (type-rounds ns) (replicate (length ns) bottom-type) (length-replicate (length ns) bottom-type)
-
--- Least: no round rises above types to which a round adds nothing.
-pub types-below : (ns : List Node) (types : List LanguageType) → AllBelow (next-types ns types) types → AllBelow (types-of ns) types
-unfolding types-of
-types-below ns types closed =
-    settle-keeps same-types (next-types ns) (λ xs. AllBelow xs types) (λ xs h n. ⊑-trans (next-rises ns xs types h n) (closed n))
-    (type-rounds ns) (replicate (length ns) bottom-type) (bottoms-below (length ns) types)
-
-pub least-below : (e : Expression) (types : List LanguageType) → Solves (nodes e) types → AllBelow (least-types e) types
-unfolding least-types
-least-below e types s =
-    types-below (nodes e) types (λ n. subst (λ l. type-of l n ⊑ type-of types n) s (⊑-refl (type-of types n)))
+bottoms-below k types = each-least bottom-type (λ n a. a ⊑ type-of types n) (λ n. bottom-least (type-of types n)) k
 
 -- What one equation gives from types below a solution is below the solution.
 pub step-below : (ns : List Node) (types solution : List LanguageType) → Solves ns solution → AllBelow types solution
     → (n : ℕ) → node-type types (node-at ns n) ⊑ type-of solution n
 step-below ns types solution s below n = rw (solved-at ns solution s n) (node-type-rises types solution below (node-at ns n))
 
+-- ---- the least types
+
+pub types-long : (ns : List Node) → length (types-of ns) ≡ length ns
+unfolding types-of
+types-long = solution-long type-equations
+
+-- What holds of ⊥'s type at each node, and is kept by Figure 2's equations, holds of the computed types.
+pub types-every : (ns : List Node) (Q : ℕ → LanguageType → Type 0) → ((n : ℕ) → Q n bottom-type)
+    → ((types : List LanguageType) → ((n : ℕ) → Q n (type-of types n)) → (n : ℕ) → Q n (node-type types (node-at ns n)))
+    → (n : ℕ) → Q n (type-of (types-of ns) n)
+unfolding types-of
+types-every = solution-every type-equations
+
+-- Least: no round rises above types to which a round adds nothing.
+pub types-below : (ns : List Node) (types : List LanguageType) → AllBelow (next-types ns types) types → AllBelow (types-of ns) types
+unfolding types-of next-types
+types-below ns types = solution-below type-equations ns types (λ n. bottom-least (type-of types n))
+
+pub least-below : (e : Expression) (types : List LanguageType) → Solves (nodes e) types → AllBelow (least-types e) types
+unfolding least-types
+least-below e types s =
+    types-below (nodes e) types (λ n. subst (λ l. type-of l n ⊑ type-of types n) s (⊑-refl (type-of types n)))
+
 -- Types that lie below the computed ones, and to which a round adds nothing, are the computed ones. They need not come by rounds.
 pub types-unique : (ns : List Node) (types : List LanguageType) → length types ≡ length ns → AllBelow types (types-of ns)
     → AllBelow (next-types ns types) types → types ≡ types-of ns
-types-unique ns types long below closed = ext-getD bottom-type types (types-of ns) (long ∙ sym (types-long ns))
-    (λ n l. ⊑-antisym (below n) (types-below ns types closed n))
+unfolding types-of next-types
+types-unique ns types long = solution-unique type-equations ns types long (λ n. bottom-least (type-of types n))
 
--- Solved: every round that changes something adds to the weight of all types together, which is at most `type-height` a node.
 node-type-fits : (types : List LanguageType) → ((n : ℕ) → Fits (type-of types n)) → (count : ℕ) (x : Node) → NodeInRange most-tokens count x
     → Fits (node-type types x)
 unfolding node-type
@@ -97,99 +124,17 @@ node-type-fits types f count (fixed-point-node b) t = f b
 node-type-fits types f count (variable-node b guarded) t = f b
 node-type-fits types f count (repetition-node b self) t = repetition-fits (f b) (f self)
 
-same-type-equal : (a b : LanguageType) → same-type a b ≡ true → a ≡ b
-unfolding same-type
-same-type-equal a b e =
-    let nulls = Bool·beq (a .null) (b .null) in
-    let sets = eqb (a .first) (b .first) && eqb (a .flast) (b .flast) in
-    let rest = and-true-second nulls sets e in
-    let n = beq-equal (a .null) (b .null) (and-true-first nulls sets e) in
-    let s = eqb-true (a .first) (b .first) (and-true-first (eqb (a .first) (b .first)) (eqb (a .flast) (b .flast)) rest) in
-    let t = eqb-true (a .flast) (b .flast) (and-true-second (eqb (a .first) (b .first)) (eqb (a .flast) (b .flast)) rest) in
-    λ i. record { null = n i; first = s i; flast = t i }
-  where
-    beq-equal : (x y : Bool) → Bool·beq x y ≡ true → x ≡ y
-    beq-equal true true h = refl
-    beq-equal true false h = sym h
-    beq-equal false true h = h
-    beq-equal false false h = refl
-
-pub same-types-equal : (xs ys : List LanguageType) → same-types xs ys ≡ true → xs ≡ ys
-unfolding same-types
-same-types-equal [] [] e = refl
-same-types-equal [] (b ∷ ys) e = absurd (true≢false (sym e))
-same-types-equal (a ∷ xs) [] e = absurd (true≢false (sym e))
-same-types-equal (a ∷ xs) (b ∷ ys) e =
-    ap₂ _∷_ (same-type-equal a b (and-true-first (same-type a b) (same-types xs ys) e))
-    (same-types-equal xs ys (and-true-second (same-type a b) (same-types xs ys) e))
-
-same-types-self : (xs : List LanguageType) → same-types xs xs ≡ true
-unfolding same-types same-type
-same-types-self [] = refl
-same-types-self (a ∷ xs) =
-    ap₂ _&&_ (ap₂ _&&_ (beq-self (a .null)) (ap₂ _&&_ (eq-eqb (a .first) (a .first) refl) (eq-eqb (a .flast) (a .flast) refl)))
-    (same-types-self xs)
-  where
-    beq-self : (x : Bool) → Bool·beq x x ≡ true
-    beq-self true = refl
-    beq-self false = refl
-
--- What every round keeps.
-record Rising (ns : List Node) (types : List LanguageType) : Type 0 where
-  as-many : length types ≡ length ns
-  rises : AllBelow types (next-types ns types)
-  fits : (n : ℕ) → Fits (type-of types n)
-
 module _ (ns : List Node) (count : ℕ) (in-range : (n : ℕ) → NodeInRange most-tokens count (node-at ns n)) where
-  rising-first : Rising ns (replicate (length ns) bottom-type)
-  rising-first = record {
-    as-many = length-replicate (length ns) bottom-type;
-    rises = bottoms-below (length ns) (next-types ns (replicate (length ns) bottom-type));
-    fits = λ n. subst Fits (sym (bottom-at (length ns) n)) bottom-fits;
-  }
-
-  rising-next : (types : List LanguageType) → Rising ns types → Rising ns (next-types ns types)
-  unfolding next-types
-  rising-next types r = record {
-    as-many = length-map ns (node-type types);
-    rises = next-rises ns types (next-types ns types) (r .rises);
-    fits = λ n. rw (type-of-next ns types n) (node-type-fits types (r .fits) count (node-at ns n) (in-range n));
-  }
-
-  rising-weight : (types : List LanguageType) → Rising ns types → same-types types (next-types ns types) ≡ false
-      → sum weight types < sum weight (next-types ns types)
-  rising-weight types r changed = ⊎-elim (λ l. l) (λ l. absurd (true≢false (sym (same l) ∙ changed)))
-      (lt-or-le (sum weight types) (sum weight (next-types ns types)))
-    where
-      next : Rising ns (next-types ns types)
-      next = rising-next types r
-
-      same : sum weight (next-types ns types) ≤ sum weight types → same-types types (next-types ns types) ≡ true
-      same l =
-          let e = weights-full types (next-types ns types) (r .as-many ∙ sym (next .as-many)) (r .rises) (next .fits) l in
-          subst (λ ys. same-types types ys ≡ true) e (same-types-self types)
-
-  -- What is left until all types are the greatest that fit.
-  abbrev left-over : List LanguageType → ℕ
-  left-over types = type-height * length ns - sum weight types
-
-  rising-falls : (types : List LanguageType) → Rising ns types → same-types types (next-types ns types) ≡ false
-      → left-over (next-types ns types) < left-over types
-  rising-falls types r changed =
-      let next = rising-next types r in
-      let most = subst (λ n. sum weight (next-types ns types) ≤ type-height * n) (next .as-many) (weights-most (next-types ns types)) in
-      omega (arith, most, rising-weight types r changed)
+  next-fits : (types : List LanguageType) → ((n : ℕ) → Fits (type-of types n)) → (n : ℕ) → Fits (node-type types (node-at ns n))
+  next-fits types f n = node-type-fits types f count (node-at ns n) (in-range n)
 
   pub types-fit : (n : ℕ) → Fits (type-of (types-of ns) n)
   unfolding types-of
-  types-fit n = (settle-keeps same-types (next-types ns) (Rising ns) rising-next (type-rounds ns) (replicate (length ns) bottom-type) rising-first)
-      .fits n
+  types-fit = solution-fits type-equations ns next-fits
 
   pub types-solve : Solves ns (types-of ns)
-  unfolding types-of type-rounds
-  types-solve = same-types-equal (types-of ns) (next-types ns (types-of ns))
-      (settled same-types (next-types ns) (Rising ns) left-over rising-next rising-falls (type-rounds ns)
-      (replicate (length ns) bottom-type) rising-first (omega arith) .1)
+  unfolding types-of next-types
+  types-solve = solution-solves type-equations ns next-fits
 
 module _ (tokens : ℕ) (within : tokens ≤ most-tokens) where
   expression-in-range : (e : Expression) → Closed tokens 0 e → (n : ℕ) → NodeInRange most-tokens (size e) (node-at (nodes e) n)

@@ -1,11 +1,11 @@
 -- "Each expression node has the least type (nullable, first set, follow-last set) that solves Figure 2's equations over the
 -- whole expression": all nodes start with ⊥'s type, and the equations are applied to all of them until nothing changes.
-use mathlib.Core.Bool.{Bool, true, false, _&&_, Bool·beq}
-use mathlib.Core.List.{List, [], _∷_, map}
+use mathlib.Core.Bool.{Bool, _&&_, Bool·beq}
+use mathlib.Core.List.{List, map}
 use Prim.Native.Nat.{ℕ, _+_, _*_}
-use lib.ListN.{getD, length, replicate}
+use lib.ListN.{getD}
 use lib.Dec.{eqb}
-use Rattle.stage0_laws.specs.Lists.{settle}
+use Rattle.stage0_laws.specs.Rounds.{least-solution}
 use Rattle.stage1_sheet.specs.Expression.{Expression}
 use Rattle.stage1_sheet.specs.Limits.{most-tokens}
 use Rattle.stage2_types.specs.Types.{LanguageType, epsilon-type, bottom-type, token-type, sequence-type, alternative-type, repetition-type}
@@ -34,22 +34,12 @@ next-types ns types = map (node-type types) ns
 unfoldable pub same-type : LanguageType → LanguageType → Bool
 same-type a b = Bool·beq (a .null) (b .null) && (eqb (a .first) (b .first) && eqb (a .flast) (b .flast))
 
-unfoldable pub same-types : List LanguageType → List LanguageType → Bool
-same-types [] [] = true
-same-types [] (b ∷ ys) = false
-same-types (a ∷ xs) [] = false
-same-types (a ∷ xs) (b ∷ ys) = same-type a b && same-types xs ys
-
 -- How often a node's type can grow: once to nullable, and by each token of a sheet in each set.
 abbrev pub type-height : ℕ
 type-height = 1 + 2 * most-tokens
 
--- So this many rounds are enough.
-unfoldable pub type-rounds : List Node → ℕ
-type-rounds ns = type-height * length ns
-
 unfoldable pub types-of : List Node → List LanguageType
-types-of ns = settle same-types (next-types ns) (type-rounds ns) (replicate (length ns) bottom-type)
+types-of ns = least-solution same-type bottom-type type-height node-type ns
 
 -- The least types of all nodes of an expression, in sheet order.
 unfoldable pub least-types : Expression → List LanguageType

@@ -13,6 +13,7 @@ pub mod Computing
 pub mod DenotationLaws
 pub mod Soundness
 pub mod SetOrder
+pub mod SequenceTypeLaws
 pub mod TypeLaws
 pub mod TypeWeight
 pub mod LeastTypeLaws

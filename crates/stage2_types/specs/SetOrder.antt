@@ -1,5 +1,5 @@
--- Sets of small numbers ordered by inclusion: union and "only if" keep the order, and how many members a set has below a bound.
--- Nothing here speaks of types or expressions.
+-- Truth values ordered by implication, and sets of small numbers by inclusion: union keeps the order, and how many members a set has below
+-- a bound. Nothing here speaks of types or expressions.
 use mathlib.Core.Path.{_≡_, refl, sym, ap, ap₂, _∙_}
 use mathlib.Core.Bool.{Bool, true, false, _||_, _&&_, cond, true≢false}
 use mathlib.Core.Logic.{_⊎_, inl, inr, ⊎-elim}
@@ -7,7 +7,7 @@ use Prim.Native.Nat.{ℕ, zero, suc, _+_, _≤_, _<_}
 use native.Mathlib.Omega.{arith}
 use lib.Bits.{bitOr}
 use Rattle.stage0_laws.specs.Bits.{bit, _∈_}
-use Rattle.stage0_laws.specs.BitLaws.{bit-ext-all, ∈-cases, ∈-left, ∈-right, ∈-cond, ∈-when}
+use Rattle.stage0_laws.specs.BitLaws.{bit-ext-all, ∈-cases, ∈-left, ∈-right}
 use Rattle.stage0_laws.specs.Order.{compare-cases}
 
 -- Truth values ordered by implication.
@@ -51,9 +51,6 @@ union-rises s s' t t' f g i h = ⊎-elim (λ x. ∈-left s' t' i (f i x)) (λ x.
 
 pub union-most : (s t u : ℕ) → s ⊆ u → t ⊆ u → bitOr s t ⊆ u
 union-most s t u f g i h = ⊎-elim (f i) (g i) (∈-cases s t i h)
-
-pub cond-rises : (a a' : Bool) (s s' : ℕ) → a ⇒ a' → s ⊆ s' → cond a s 0 ⊆ cond a' s' 0
-cond-rises a a' s s' f g i h = let m = ∈-cond a s i h in ∈-when a' s' i (f (m .0)) (g i (m .1))
 
 -- 1 if it holds, else 0.
 unfoldable pub flag : Bool → ℕ

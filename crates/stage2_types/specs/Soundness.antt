@@ -1,7 +1,8 @@
--- 001's Theorem 4.3: what a typed expression denotes satisfies its type, and a sequence's words are cut in one way only
--- (its Lemma 3.4). Types that are too large satisfy as well; which types are least is not asked here.
-use mathlib.Core.Path.{_≡_, refl, sym, ap, subst, _∙_}
-use mathlib.Core.Bool.{Bool, true, _&&_, _||_, true≢false}
+-- 001's Theorem 4.3: what a typed expression denotes satisfies its type; the parts of an alternative have no word in common, and a
+-- sequence's words are cut in one way only (its Lemmas 3.3 and 3.4). Types that are too large satisfy as well; which types are least is not
+-- asked here.
+use mathlib.Core.Path.{_≡_, refl, sym, ap, ap₂, subst, _∙_}
+use mathlib.Core.Bool.{true, _&&_, _||_, true≢false}
 use mathlib.Core.List.{List, [], _∷_, _++_, append-assoc, head-eq-of-cons-eq, tail-eq-of-cons-eq, cons≢nil, nil≢cons}
 use mathlib.Core.Logic.{_⊎_, inl, inr}
 use Prim.Native.Nat.{ℕ, zero, suc, _+_, _^_}
@@ -9,11 +10,12 @@ use native.Mathlib.Omega.{arith}
 use lib.Bits.{bitOr}
 use Rattle.stage0_laws.specs.Truth.{or-true-left, or-true-right}
 use Rattle.stage0_laws.specs.Bits.{_∈_}
-use Rattle.stage0_laws.specs.BitLaws.{∈-left, ∈-right, ∈-when, ∈-self, ∈-disjoint}
+use Rattle.stage0_laws.specs.BitLaws.{∈-left, ∈-right, ∈-self, ∈-disjoint}
 use Rattle.stage1_sheet.specs.Expression.{Expression}
 use Rattle.stage2_types.specs.Denotation.{Language, no-words, followed-by, either, iterate, least-fixed-point, none-or-more, any-number-of, Environment, language-at, denotation, Denotes}
-use Rattle.stage2_types.specs.Types.{LanguageType, if-null, epsilon-type, bottom-type, token-type, sequence-type, alternative-type, repetition-type, Separable, Apart, Hypothesis, Context, all-usable, Usable, here, there, _⊢_∶_, type-epsilon, type-bottom, type-token, type-variable, type-sequence, type-alternative, type-fixed-point, type-repetition}
+use Rattle.stage2_types.specs.Types.{LanguageType, epsilon-type, bottom-type, token-type, sequence-type, alternative-type, repetition-type, Separable, Apart, Hypothesis, Context, all-usable, Usable, here, there, _⊢_∶_, type-epsilon, type-bottom, type-token, type-variable, type-sequence, type-alternative, type-fixed-point, type-repetition}
 use Rattle.stage2_types.specs.DenotationLaws.{Pointwise, pointwise-nil, pointwise-cons, _⊆_, none-or-more-monotone, body-monotone, iterate-rises}
+use Rattle.stage2_types.specs.SequenceTypeLaws.{sequence-first-left, sequence-flast-right, sequence-flast-first, sequence-flast-left}
 use Rattle.stage2_types.specs.TypeLaws.{separable-from-repetition, epsilon-apart}
 
 -- A language satisfies a type, section 2.1 of 000: "(1) when the empty string is in L, NULL is true; (2) the set of tokens that can
@@ -70,8 +72,14 @@ two-cuts (c ∷ x) y (d ∷ x') y' e = cuts-cons c d (head-eq-of-cons-eq e) (two
 
 module _ (L M : Language) (a b : LanguageType) (s : Satisfies L a) (r : Satisfies M b) where
   module _ (k : Apart a b) where
-    no-common-start : (c : ℕ) (w w' : List ℕ) → L (c ∷ w) → M (c ∷ w') → ⊥
+    -- No word of L begins with a token that begins a word of M.
+    pub no-common-start : (c : ℕ) (w w' : List ℕ) → L (c ∷ w) → M (c ∷ w') → ⊥
     no-common-start c w w' x y = ∈-disjoint (a .first) (b .first) c (k .disjoint) (s .first-holds c w x) (r .first-holds c w' y)
+
+    -- Lemma 3.3 of 001, disjunctive unique decomposition: L ∩ M = ∅.
+    pub no-common-word : (w : List ℕ) → L w → M w → ⊥
+    no-common-word [] x y = true≢false (sym (ap₂ _&&_ (s .null-holds x) (r .null-holds y)) ∙ k .one-null)
+    no-common-word (c ∷ w) x y = no-common-start c w w x y
 
     alternative-satisfies : Satisfies (either L M) (alternative-type a b)
     unfolding alternative-type
@@ -116,25 +124,18 @@ module _ (L M : Language) (a b : LanguageType) (s : Satisfies L a) (r : Satisfie
 
     -- Lemma 3.5 of 001: x y is a word, and so is x' y', which is x y then c then v. The word of M in the shorter one is split first.
     sequence-flast : (x y : List ℕ) (c : ℕ) (v : List ℕ) → L x → M y → (x' y' : List ℕ) → L x' → M y' → Cuts x (y ++ (c ∷ v)) x' y'
-        → c ∈ bitOr (b .flast) (if-null (b .null) (bitOr (b .first) (a .flast)))
+        → c ∈ (sequence-type a b) .flast
     sequence-flast x y c v p q x' y' p' q' (earlier d u f g) =
         absurd (goes-not-on x' d u (u ++ (y ++ (c ∷ v))) p' (subst L f p) (subst M g q'))
     sequence-flast x [] c v p q x' y' p' q' (alike f g) =
-        ∈-right (b .flast) (if-null (b .null) (bitOr (b .first) (a .flast))) c
-        (∈-when (b .null) (bitOr (b .first) (a .flast)) c (r .null-holds q)
-        (∈-left (b .first) (a .flast) c (r .first-holds c v (subst M (sym g) q'))))
-    sequence-flast x [] c v p q x' y' p' q' (later d u f g) =
-        ∈-right (b .flast) (if-null (b .null) (bitOr (b .first) (a .flast))) c
-        (∈-when (b .null) (bitOr (b .first) (a .flast)) c (r .null-holds q)
-        (∈-right (b .first) (a .flast) c
-        (subst (λ (n : ℕ). n ∈ a .flast) (sym (head-eq-of-cons-eq g)) (flast-of x d u p (subst L f p')))))
-    sequence-flast x (d ∷ y) c v p q x' y' p' q' (alike f g) =
-        ∈-left (b .flast) (if-null (b .null) (bitOr (b .first) (a .flast))) c (r .flast-holds d y c v q (subst M (sym g) q'))
+        sequence-flast-first a b c (r .null-holds q) (r .first-holds c v (subst M (sym g) q'))
+    sequence-flast x [] c v p q x' y' p' q' (later d u f g) = sequence-flast-left a b c (r .null-holds q)
+        (subst (λ (n : ℕ). n ∈ a .flast) (sym (head-eq-of-cons-eq g)) (flast-of x d u p (subst L f p')))
+    sequence-flast x (d ∷ y) c v p q x' y' p' q' (alike f g) = sequence-flast-right a b c (r .flast-holds d y c v q (subst M (sym g) q'))
     sequence-flast x (d ∷ y) c v p q x' y' p' q' (later e u f g) =
         absurd (goes-not-on x e u y p (subst L f p') (subst (λ (n : ℕ). M (n ∷ y)) (head-eq-of-cons-eq g) q))
 
     sequence-satisfies : Satisfies (followed-by L M) (sequence-type a b)
-    unfolding sequence-type
     sequence-satisfies = record {
       null-holds = λ h. null (h .0) (h .1) (h .2) (h .3);
       first-holds = λ c w h. first c w (h .0) (h .1) (h .2) (h .3);
@@ -143,13 +144,13 @@ module _ (L M : Language) (a b : LanguageType) (s : Satisfies L a) (r : Satisfie
           (sym (append-assoc (x .0) (x .1) (c ∷ v)) ∙ (ap (λ (z : List ℕ). z ++ (c ∷ v)) (sym (x .2)) ∙ y .2)));
     }
       where
-        null : (u v : List ℕ) → [] ≡ u ++ v → L u → (a .null && b .null) ≡ true
+        null : (u v : List ℕ) → [] ≡ u ++ v → L u → (sequence-type a b) .null ≡ true
         null [] v e p = absurd (first-not-empty p)
         null (c ∷ u) v e p = absurd (nil≢cons e)
 
-        first : (c : ℕ) (w u v : List ℕ) → c ∷ w ≡ u ++ v → L u → c ∈ bitOr (a .first) (if-null (a .null) (b .first))
+        first : (c : ℕ) (w u v : List ℕ) → c ∷ w ≡ u ++ v → L u → c ∈ (sequence-type a b) .first
         first c w [] v e p = absurd (first-not-empty p)
-        first c w (d ∷ u) v e p = ∈-left (a .first) (if-null (a .null) (b .first)) c
+        first c w (d ∷ u) v e p = sequence-first-left a b c
             (subst (λ (n : ℕ). n ∈ a .first) (sym (head-eq-of-cons-eq e)) (s .first-holds d u p))
 
 -- The union of a rising chain of languages: two words of it lie in one common member.

@@ -1,11 +1,11 @@
 -- Repetitions and their forms, worked out.
 use mathlib.Core.Path.{_≡_, refl}
 use mathlib.Core.Option.{some}
-use Rattle.stage0_laws.specs.Lists.{settle}
+use Rattle.stage0_laws.specs.Rounds.{settle, same-all, least-solution}
 use Rattle.stage1_sheet.specs.Expression.{Expression, epsilon, token, sequence, alternative, fixed-point, variable, repetition, size}
 use Rattle.stage2_types.specs.Types.{epsilon-type, bottom-type, sequence-type, alternative-type}
 use Rattle.stage2_types.specs.Nodes.{nodes-from, nodes}
-use Rattle.stage2_types.specs.LeastTypes.{node-type, next-types, same-type, same-types, type-rounds, types-of, least-types}
+use Rattle.stage2_types.specs.LeastTypes.{node-type, same-type, types-of, least-types}
 use Rattle.stage2_types.specs.Questions.{separable, apart, unless, node-fault, first-fault, type-fault}
 use Rattle.stage2_types.specs.SpelledOut.{spelled-out}
 
@@ -34,6 +34,6 @@ twice = refl
 -- (ε)*: both are refused, but not by the same question. The repetition is asked 9 alone (`Examples`); its form is asked first whether ε
 -- and ε·β are apart.
 form-asked : type-fault (spelled-out (repetition epsilon)) ≡ some (record { number = 10; node = 1 })
-unfolding type-fault first-fault node-fault unless separable apart least-types types-of settle type-rounds next-types node-type same-types same-type
+unfolding type-fault first-fault node-fault unless separable apart least-types types-of least-solution settle same-all node-type same-type
     nodes nodes-from size epsilon-type bottom-type sequence-type alternative-type
 form-asked = refl

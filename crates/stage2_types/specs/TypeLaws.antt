@@ -1,16 +1,17 @@
 -- Types ordered by inclusion. Figure 2's operations keep the order, and a side condition that holds holds of smaller types too.
 -- Nothing here is about expressions or languages.
 use mathlib.Core.Path.{_≡_, sym, ap, subst, _∙_}
-use mathlib.Core.Bool.{Bool, false, _&&_, true≢false, false≢true}
+use mathlib.Core.Bool.{false, _&&_, true≢false, false≢true}
 use mathlib.Core.Logic.{⊎-elim}
 use Prim.Native.Nat.{ℕ}
-use lib.Bits.{bitOr, bitAnd}
+use lib.Bits.{bitAnd}
 use Rattle.stage0_laws.specs.Bits.{_∈_}
 use Rattle.stage0_laws.specs.Truth.{or-true-left, or-true-right}
-use Rattle.stage0_laws.specs.BitLaws.{∈-zero, ∈-left, ∈-right, ∈-cases, ∈-cond, ∈-disjoint, disjoint-zero}
-use Rattle.stage2_types.specs.Types.{LanguageType, if-null, epsilon-type, bottom-type, sequence-type, alternative-type, repetition-type, Separable, Apart}
+use Rattle.stage0_laws.specs.BitLaws.{∈-zero, ∈-left, ∈-right, ∈-cases, ∈-disjoint, disjoint-zero}
+use Rattle.stage2_types.specs.Types.{LanguageType, epsilon-type, bottom-type, sequence-type, alternative-type, repetition-type, Separable, Apart}
 use Rattle.stage2_types.specs.LeastSolution.{_⊑_}
-use Rattle.stage2_types.specs.SetOrder.{implied-both, and-rises, or-rises, or-most, false-falls, _⊆_, included-both, union-rises, union-most, cond-rises}
+use Rattle.stage2_types.specs.SequenceTypeLaws.{sequence-null, sequence-null-left, sequence-null-right, sequence-first-left, sequence-first-right, sequence-first-cases, sequence-flast-right, sequence-flast-first, sequence-flast-left, sequence-flast-cases}
+use Rattle.stage2_types.specs.SetOrder.{implied-both, and-rises, or-rises, or-most, false-falls, _⊆_, included-both, union-rises, union-most}
 
 pub ⊑-refl : (a : LanguageType) → a ⊑ a
 ⊑-refl a = record { null-rises = λ e. e; first-rises = λ i m. m; flast-rises = λ i m. m }
@@ -34,16 +35,13 @@ unfolding bottom-type
 bottom-least a = record { null-rises = λ e. absurd (false≢true e); first-rises = λ i m. ∈-zero i m; flast-rises = λ i m. ∈-zero i m }
 
 pub sequence-rises : {a a' b b' : LanguageType} → a ⊑ a' → b ⊑ b' → sequence-type a b ⊑ sequence-type a' b'
-unfolding sequence-type
 sequence-rises {a} {a'} {b} {b'} p q = record {
-  null-rises = and-rises (a .null) (a' .null) (b .null) (b' .null) (p .null-rises) (q .null-rises);
-  first-rises = union-rises (a .first) (a' .first) (if-null (a .null) (b .first)) (if-null (a' .null) (b' .first)) (p .first-rises)
-      (cond-rises (a .null) (a' .null) (b .first) (b' .first) (p .null-rises) (q .first-rises));
-  flast-rises =
-      let inner : bitOr (b .first) (a .flast) ⊆ bitOr (b' .first) (a' .flast)
-      = union-rises (b .first) (b' .first) (a .flast) (a' .flast) (q .first-rises) (p .flast-rises) in
-      union-rises (b .flast) (b' .flast) (if-null (b .null) (bitOr (b .first) (a .flast))) (if-null (b' .null) (bitOr (b' .first) (a' .flast)))
-      (q .flast-rises) (cond-rises (b .null) (b' .null) (bitOr (b .first) (a .flast)) (bitOr (b' .first) (a' .flast)) (q .null-rises) inner);
+  null-rises = λ e. sequence-null a' b' (p .null-rises (sequence-null-left a b e)) (q .null-rises (sequence-null-right a b e));
+  first-rises = λ i m. ⊎-elim (λ x. sequence-first-left a' b' i (p .first-rises i x))
+      (λ x. sequence-first-right a' b' i (p .null-rises (x .0)) (q .first-rises i (x .1))) (sequence-first-cases a b i m);
+  flast-rises = λ i m. ⊎-elim (λ x. sequence-flast-right a' b' i (q .flast-rises i x))
+      (λ x. let n = q .null-rises (x .0) in ⊎-elim (λ y. sequence-flast-first a' b' i n (q .first-rises i y))
+      (λ y. sequence-flast-left a' b' i n (p .flast-rises i y)) (x .1)) (sequence-flast-cases a b i m);
 }
 
 pub alternative-rises : {a a' b b' : LanguageType} → a ⊑ a' → b ⊑ b' → alternative-type a b ⊑ alternative-type a' b'
@@ -103,17 +101,15 @@ apart-falls {a} {a'} {b} {b'} p q k = record {
 -- and only if it is separable from the repetition.
 module _ (a b : LanguageType) (e : b ≡ repetition-type a b) where
   first-of-part : a .null ≡ false → b .first ⊆ a .first
-  unfolding repetition-type alternative-type sequence-type epsilon-type
+  unfolding repetition-type alternative-type epsilon-type
   first-of-part n i m = ⊎-elim (λ z. ∈-zero i z)
-      (λ x. ⊎-elim (λ y. y) (λ y. absurd (true≢false (sym (∈-cond (a .null) (b .first) i y .0) ∙ n)))
-      (∈-cases (a .first) (if-null (a .null) (b .first)) i x))
-      (∈-cases 0 (bitOr (a .first) (if-null (a .null) (b .first))) i
-      (subst (λ (s : ℕ). i ∈ s) (ap (λ (x : LanguageType). x .first) e) m))
+      (λ x. ⊎-elim (λ y. y) (λ y. absurd (true≢false (sym (y .0) ∙ n))) (sequence-first-cases a b i x))
+      (∈-cases 0 ((sequence-type a b) .first) i (subst (λ (s : ℕ). i ∈ s) (ap (λ (x : LanguageType). x .first) e) m))
 
   part-first : a .first ⊆ b .first
-  unfolding repetition-type alternative-type sequence-type epsilon-type
-  part-first i m = subst (λ (s : ℕ). i ∈ s) (sym (ap (λ (x : LanguageType). x .first) e))
-      (∈-right 0 (bitOr (a .first) (if-null (a .null) (b .first))) i (∈-left (a .first) (if-null (a .null) (b .first)) i m))
+  unfolding repetition-type
+  part-first i m = subst (λ (x : LanguageType). i ∈ x .first) (sym e)
+      (above-right epsilon-type (sequence-type a b) .first-rises i (sequence-first-left a b i m))
 
   pub separable-from-repetition : Separable a a → Separable a b
   separable-from-repetition s = record {
@@ -129,8 +125,8 @@ module _ (a b : LanguageType) (e : b ≡ repetition-type a b) where
 
 -- ε is apart from a sequence whose left part is not NULL.
 pub epsilon-apart : (a b : LanguageType) → a .null ≡ false → Apart epsilon-type (sequence-type a b)
-unfolding epsilon-type sequence-type
+unfolding epsilon-type
 epsilon-apart a b n = record {
-  disjoint = disjoint-zero 0 (bitOr (a .first) (if-null (a .null) (b .first))) (λ i x y. ∈-zero i x);
-  one-null = ap (λ (x : Bool). x && b .null) n;
+  disjoint = disjoint-zero 0 ((sequence-type a b) .first) (λ i x y. ∈-zero i x);
+  one-null = false-falls ((sequence-type a b) .null) (a .null) (sequence-null-left a b) n;
 }

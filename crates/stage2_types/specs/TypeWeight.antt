@@ -1,22 +1,19 @@
 -- How much a type holds: a flag and the members of two sets of at most 24 tokens, so at most `type-height`. A type that grows weighs more.
 -- This counts for what the rounds of the least types need, and is no part of a type's meaning.
-use mathlib.Core.Path.{_≡_, refl, ap₂, subst}
-use mathlib.Core.Bool.{Bool}
-use mathlib.Core.List.{List, [], _∷_}
+use mathlib.Core.Path.{_≡_, subst}
 use mathlib.Core.Logic.{⊎-elim}
-use Prim.Native.Nat.{ℕ, suc, _+_, _*_, _^_, _≤_, _<_}
+use Prim.Native.Nat.{ℕ, _+_, _^_, _≤_, _<_}
 use native.Mathlib.Omega.{arith}
 use lib.Bits.{bitOr}
-use lib.ListN.{length}
 use Rattle.stage0_laws.specs.Bits.{_∈_}
-use Rattle.stage0_laws.specs.BitLaws.{∈-zero, ∈-one, ∈-cases, ∈-cond, bit-below, lt-pow-self}
-use Rattle.stage0_laws.specs.Lists.{sum}
+use Rattle.stage0_laws.specs.BitLaws.{∈-zero, ∈-one, ∈-cases, bit-below, lt-pow-self}
 use Rattle.stage1_sheet.specs.Limits.{most-tokens}
-use Rattle.stage2_types.specs.Types.{LanguageType, if-null, epsilon-type, bottom-type, token-type, sequence-type, alternative-type, repetition-type}
-use Rattle.stage2_types.specs.LeastTypes.{type-of, type-height}
+use Rattle.stage2_types.specs.Types.{LanguageType, epsilon-type, bottom-type, token-type, sequence-type, alternative-type, repetition-type}
+use Rattle.stage2_types.specs.LeastTypes.{type-height}
 use Rattle.stage2_types.specs.SetOrder.{flag, flag-rises, flag-most, flag-implies, count, count-most, count-rises, count-full}
+use Rattle.stage2_types.specs.SequenceTypeLaws.{sequence-first-cases, sequence-flast-cases}
 use Rattle.stage2_types.specs.TypeLaws.{⊑-antisym}
-use Rattle.stage2_types.specs.LeastSolution.{_⊑_, AllBelow}
+use Rattle.stage2_types.specs.LeastSolution.{_⊑_}
 
 -- Every member of the set is a token that a sheet may have.
 abbrev pub TokensOnly : ℕ → Type 0
@@ -29,8 +26,11 @@ pub record Fits (a : LanguageType) : Type 0 where
 union-only : (s t : ℕ) → TokensOnly s → TokensOnly t → TokensOnly (bitOr s t)
 union-only s t f g i h = ⊎-elim (f i) (g i) (∈-cases s t i h)
 
-if-null-only : (b : Bool) (s : ℕ) → TokensOnly s → TokensOnly (if-null b s)
-if-null-only b s f i h = f i ((∈-cond b s i h) .1)
+pub below-fits : {a b : LanguageType} → a ⊑ b → Fits b → Fits a
+below-fits p f = record {
+  first-fits = λ i h. f .first-fits i (p .first-rises i h);
+  flast-fits = λ i h. f .flast-fits i (p .flast-rises i h);
+}
 
 pub epsilon-fits : Fits epsilon-type
 unfolding epsilon-type
@@ -45,11 +45,9 @@ unfolding token-type
 token-fits t l = record { first-fits = λ i h. subst (λ n. n < most-tokens) (∈-one t i h) l; flast-fits = λ i h. ∈-zero i h }
 
 pub sequence-fits : {a b : LanguageType} → Fits a → Fits b → Fits (sequence-type a b)
-unfolding sequence-type
 sequence-fits {a} {b} p q = record {
-  first-fits = union-only (a .first) (if-null (a .null) (b .first)) (p .first-fits) (if-null-only (a .null) (b .first) (q .first-fits));
-  flast-fits = union-only (b .flast) (if-null (b .null) (bitOr (b .first) (a .flast))) (q .flast-fits)
-      (if-null-only (b .null) (bitOr (b .first) (a .flast)) (union-only (b .first) (a .flast) (q .first-fits) (p .flast-fits)));
+  first-fits = λ i m. ⊎-elim (p .first-fits i) (λ x. q .first-fits i (x .1)) (sequence-first-cases a b i m);
+  flast-fits = λ i m. ⊎-elim (q .flast-fits i) (λ x. ⊎-elim (q .first-fits i) (p .flast-fits i) (x .1)) (sequence-flast-cases a b i m);
 }
 
 pub alternative-fits : {a b : LanguageType} → Fits a → Fits b → Fits (alternative-type a b)
@@ -76,11 +74,11 @@ flast-small {a} f = only-small (a .flast) (f .flast-fits)
 pub weight : LanguageType → ℕ
 weight a = flag (a .null) + (count most-tokens (a .first) + count most-tokens (a .flast))
 
-weight-most : (a : LanguageType) → weight a ≤ type-height
+pub weight-most : (a : LanguageType) → weight a ≤ type-height
 unfolding weight
 weight-most a = omega (arith, flag-most (a .null), count-most most-tokens (a .first), count-most most-tokens (a .flast))
 
-weight-rises : {a b : LanguageType} → a ⊑ b → weight a ≤ weight b
+pub weight-rises : {a b : LanguageType} → a ⊑ b → weight a ≤ weight b
 unfolding weight
 weight-rises {a} {b} p =
     let n = flag-rises (a .null) (b .null) (p .null-rises) in
@@ -89,7 +87,7 @@ weight-rises {a} {b} p =
     omega arith
 
 -- A type that is below another and weighs no less is that other.
-weight-full : {a b : LanguageType} → a ⊑ b → Fits b → weight b ≤ weight a → a ≡ b
+pub weight-full : {a b : LanguageType} → a ⊑ b → Fits b → weight b ≤ weight a → a ≡ b
 unfolding weight
 weight-full {a} {b} p f h =
     let n = flag-rises (a .null) (b .null) (p .null-rises) in
@@ -103,24 +101,3 @@ weight-full {a} {b} p f h =
       first-rises = λ i m. count-full most-tokens (a .first) (b .first) (p .first-rises) s' i (f .first-fits i m) m;
       flast-rises = λ i m. count-full most-tokens (a .flast) (b .flast) (p .flast-rises) t' i (f .flast-fits i m) m;
     })
-
--- The same for the types of all nodes together.
-pub weights-most : (types : List LanguageType) → sum weight types ≤ type-height * length types
-weights-most [] = omega arith
-weights-most (a ∷ types) = omega (arith, weight-most a, weights-most types)
-
-weights-rise : (xs ys : List LanguageType) → length xs ≡ length ys → AllBelow xs ys → sum weight xs ≤ sum weight ys
-weights-rise [] [] e h = omega arith
-weights-rise [] (b ∷ ys) e h = absurd (omega arith)
-weights-rise (a ∷ xs) [] e h = absurd (omega arith)
-weights-rise (a ∷ xs) (b ∷ ys) e h = omega (arith, weight-rises (h 0), weights-rise xs ys (omega arith) (λ n. h (suc n)))
-
-pub weights-full : (xs ys : List LanguageType) → length xs ≡ length ys → AllBelow xs ys → ((n : ℕ) → Fits (type-of ys n))
-    → sum weight ys ≤ sum weight xs → xs ≡ ys
-weights-full [] [] e h f w = refl
-weights-full [] (b ∷ ys) e h f w = absurd (omega arith)
-weights-full (a ∷ xs) [] e h f w = absurd (omega arith)
-weights-full (a ∷ xs) (b ∷ ys) e h f w =
-    let x = weight-rises (h 0) in
-    let y = weights-rise xs ys (omega arith) (λ n. h (suc n)) in
-    ap₂ _∷_ (weight-full (h 0) (f 0) (omega arith)) (weights-full xs ys (omega arith) (λ n. h (suc n)) (λ n. f (suc n)) (omega arith))

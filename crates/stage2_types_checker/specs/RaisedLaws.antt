@@ -1,26 +1,27 @@
 -- Raising nodes one after another, in any order, leads to the least types, if a node is raised again once a type that it goes by has
 -- changed. Columns and code are not spoken of.
 use mathlib.Core.Path.{_≡_, refl, sym, ap, ap₂, subst, _∙_}
-use mathlib.Core.Bool.{Bool, true, false, not, Bool·beq, true≢false}
-use mathlib.Core.List.{List, [], _∷_}
+use mathlib.Core.Bool.{Bool, true, false, not, true≢false}
+use mathlib.Core.List.{List}
 use mathlib.Core.Logic.{_⊎_, inl, inr, ⊎-elim}
 use Prim.Native.Nat.{ℕ, _+_, _-_, _*_, _≤_, _<_}
 use native.Mathlib.Omega.{arith}
 use native.Mathlib.Nat.{mul-le-mul-left}
 use lib.ListN.{getD, length, replicate, set, length-set, length-replicate, List·getD-eq-default}
 use lib.Seq.{getD-set-same, getD-set-other, set-out, ext-getD}
-use borrow.Author.Tests.{eq-eqb, not-true, not-false}
+use borrow.Author.Tests.{not-true, not-false}
 use Rattle.stage0_laws.specs.Lists.{sum}
 use Rattle.stage0_laws.specs.Order.{compare-cases, lt-or-le}
+use Rattle.stage0_laws.specs.RoundLaws.{weights-most, weights-full}
 use Rattle.stage1_sheet.specs.Limits.{most-tokens}
 use Rattle.stage2_types.specs.Types.{LanguageType, bottom-type, sequence-type, alternative-type, repetition-type}
 use Rattle.stage2_types.specs.Nodes.{Node, epsilon-node, bottom-node, token-node, sequence-node, alternative-node, fixed-point-node, variable-node, repetition-node, node-at}
 use Rattle.stage2_types.specs.NodeRanges.{NodeInRange}
-use Rattle.stage2_types.specs.LeastTypes.{type-of, node-type, same-type, same-types, type-height, types-of}
+use Rattle.stage2_types.specs.LeastTypes.{type-of, node-type, same-type, type-height, types-of}
 use Rattle.stage2_types.specs.LeastSolution.{_⊑_, AllBelow}
-use Rattle.stage2_types.specs.TypeWeight.{Fits, weight, weights-most, weights-full}
+use Rattle.stage2_types.specs.TypeWeight.{Fits, below-fits, weight}
 use Rattle.stage2_types.specs.TypeLaws.{⊑-refl, ⊑-trans, bottom-least, above-left, above-right, above-least}
-use Rattle.stage2_types.specs.LeastTypeLaws.{type-of-next, bottoms-below, step-below, types-unique, types-fit, types-solve, same-types-equal}
+use Rattle.stage2_types.specs.LeastTypeLaws.{same-type-equal, same-type-self, type-equations, type-of-next, bottoms-below, step-below, types-unique, types-fit, types-solve}
 use Rattle.stage2_types_checker.specs.Dependents.{GoesBy}
 use Rattle.stage2_types_checker.specs.Raised.{grown, raised-at}
 
@@ -36,21 +37,6 @@ set-entry d P xs k x f h n = go (compare-cases n k)
     go (inl l) = rw (getD-set-other xs k n x d (λ e. omega arith)) (f n)
     go (inr (inl e)) = rw e here
     go (inr (inr l)) = rw (getD-set-other xs k n x d (λ e. omega arith)) (f n)
-
--- ---- equal types
-
-same-type-equal : (a b : LanguageType) → same-type a b ≡ true → a ≡ b
-unfolding same-types
-same-type-equal a b e =
-    ap (λ (l : List LanguageType). type-of l 0) (same-types-equal (a ∷ []) (b ∷ []) (rw e))
-
-same-type-self : (a : LanguageType) → same-type a a ≡ true
-unfolding same-type
-same-type-self a = rw (beq-self (a .null), eq-eqb (a .first) (a .first) refl, eq-eqb (a .flast) (a .flast) refl)
-  where
-    beq-self : (x : Bool) → Bool·beq x x ≡ true
-    beq-self true = refl
-    beq-self false = refl
 
 -- ---- one node is raised
 
@@ -165,15 +151,13 @@ module _ (ns : List Node) where
           holds n l gone (inr (inl e)) = rw e (at-next ns k types there)
           holds n l gone (inr (inr i)) = away n l gone (λ e. omega arith)
 
-    fits : (n : ℕ) → Fits (type-of next n)
-    fits n = record {
-      first-fits = λ i h. types-fit ns count in-range n .first-fits i (next-below n .first-rises i h);
-      flast-fits = λ i h. types-fit ns count in-range n .flast-fits i (next-below n .flast-rises i h);
-    }
+    fits : (xs : List LanguageType) → AllBelow xs (types-of ns) → (n : ℕ) → Fits (type-of xs n)
+    fits xs below n = below-fits (below n) (types-fit ns count in-range n)
 
     heavier : changed ≡ true → sum weight types < sum weight next
     heavier e = ⊎-elim (λ l. l)
-        (λ l. absurd (other e (sym (weights-full types next (sym (at-long ns k types)) (at-rises ns k types) fits l))))
+        (λ l. absurd (other e (sym
+        (weights-full type-equations types next (sym (at-long ns k types)) (at-rises ns k types) (fits types (s .below)) (fits next next-below) l))))
         (lt-or-le (sum weight types) (sum weight next))
 
     pub settling-falls : (limit left later : ℕ) → later < limit → (changed ≡ false → later < left)
@@ -184,7 +168,7 @@ module _ (ns : List Node) where
         go : (b : Bool) → changed ≡ b → steps-left ns next limit later < steps-left ns types limit left
         go true e =
             let room : sum weight next ≤ type-height * length ns =
-            subst (λ (n : ℕ). sum weight next ≤ type-height * n) (at-long ns k types ∙ s .as-many) (weights-most next) in
+            subst (λ (n : ℕ). sum weight next ≤ type-height * n) (at-long ns k types ∙ s .as-many) (weights-most type-equations next) in
             let fewer : 1 + (type-height * length ns - sum weight next) ≤ type-height * length ns - sum weight types = omega (arith, heavier e) in
             omega (arith, most, mul-le-mul-left limit fewer)
         go false e = rw (same e) (omega (arith, less e))

@@ -1,10 +1,10 @@
 -- Which nodes derive a token sequence; the empty one counts. All nodes start with none, and the equations are applied to all
 -- of them until nothing changes.
 use mathlib.Core.Bool.{Bool, true, false, _&&_, _||_, Bool·beq}
-use mathlib.Core.List.{List, [], _∷_, map}
+use mathlib.Core.List.{List}
 use Prim.Native.Nat.{ℕ}
-use lib.ListN.{getD, length, replicate}
-use Rattle.stage0_laws.specs.Lists.{settle}
+use lib.ListN.{getD}
+use Rattle.stage0_laws.specs.Rounds.{least-solution}
 use Rattle.stage1_sheet.specs.Expression.{Expression}
 use Rattle.stage2_types.specs.Nodes.{Node, epsilon-node, bottom-node, token-node, sequence-node, alternative-node, fixed-point-node, variable-node, repetition-node, nodes}
 
@@ -22,15 +22,6 @@ node-derives derives (variable-node f guarded) = derives-at derives f
 -- It derives the empty sequence, whatever its part derives.
 node-derives derives (repetition-node b self) = true
 
-unfoldable pub next-derives : List Node → List Bool → List Bool
-next-derives ns derives = map (node-derives derives) ns
-
-unfoldable pub same-flags : List Bool → List Bool → Bool
-same-flags [] [] = true
-same-flags [] (b ∷ ys) = false
-same-flags (a ∷ xs) [] = false
-same-flags (a ∷ xs) (b ∷ ys) = Bool·beq a b && same-flags xs ys
-
--- Each round that changes something adds a node, so a round for each node is enough.
+-- A node's flag can change once.
 unfoldable pub derives : Expression → List Bool
-derives e = settle same-flags (next-derives (nodes e)) (length (nodes e)) (replicate (length (nodes e)) false)
+derives e = least-solution Bool·beq false 1 node-derives (nodes e)

@@ -1,32 +1,72 @@
 -- The nodes that are found to derive a token sequence are those whose language has a word, at a typed expression.
 use mathlib.Core.Path.{_≡_, refl, sym, ap, subst, _∙_}
-use mathlib.Core.Bool.{Bool, true, false}
+use mathlib.Core.Bool.{Bool, true, false, Bool·beq, true≢false}
 use mathlib.Core.List.{List, [], _∷_, _++_}
 use mathlib.Core.Logic.{inl, inr, _↔_, ⊎-elim}
-use Prim.Native.Nat.{ℕ, zero, suc, _+_, _≤_, _<_}
-use native.Mathlib.Omega.{arith}
+use Prim.Native.Nat.{ℕ, zero, suc, _+_}
 use lib.Dec.{T}
-use lib.ListN.{getD, length, replicate, length-map, length-replicate, List·getD-map}
-use Rattle.stage0_laws.specs.Truth.{or-left, or-right, or-cases, and-both, and-first, and-second, holds-true, true-holds}
-use Rattle.stage0_laws.specs.Lists.{settle}
+use lib.ListN.{getD, length}
+use Rattle.stage0_laws.specs.Truth.{or-left, or-right, or-cases, and-both, and-first, and-second, holds-true, true-holds, beq-equal, beq-self}
+use Rattle.stage0_laws.specs.RoundLaws.{Equations, round-at, solution-every, solution-unique, solution-solves}
 use Rattle.stage1_sheet.specs.Expression.{Expression, epsilon, bottom, token, sequence, alternative, fixed-point, variable, repetition, size}
 use Rattle.stage2_types.specs.Denotation.{Language, iterate, Environment, language-at, denotation}
 use Rattle.stage2_types.specs.Types.{LanguageType, _⊢_∶_}
+use Rattle.stage2_types.specs.SetOrder.{_⇒_, implied-both, and-rises, or-rises, flag, flag-rises, flag-most, flag-implies}
 use Rattle.stage2_types.specs.Nodes.{Node, epsilon-node, bottom-node, token-node, sequence-node, alternative-node, fixed-point-node, variable-node, repetition-node, nodes, node-at}
-use Rattle.stage3_normal_form.specs.Derives.{derives-at, node-derives, next-derives, same-flags, derives}
+use Rattle.stage3_normal_form.specs.Derives.{derives-at, node-derives, derives}
 use Rattle.stage3_normal_form.specs.Places.{Placed, Everywhere, everywhere-all}
 use Rattle.stage3_normal_form.specs.NodeLanguages.{language-of, languages-past, PartsDenote, whole-site, node-language, language-equation}
-use Rattle.stage0_laws.specs.Settling.{settled}
 
 abbrev pub HasWord : Language → Type 0
 HasWord L = (w : List ℕ) × L w
 
--- A round's flag of a node is what the node's equation gives from the flags before it.
-pub next-derives-at : (ns : List Node) (flags : List Bool) (n : ℕ) → derives-at (next-derives ns flags) n ≡ node-derives flags (node-at ns n)
-unfolding next-derives node-derives
-next-derives-at ns flags n = List·getD-map (node-derives flags) ns n bottom-node
+-- ---- the equations can be solved by rounds
 
--- What is found has a word, if what was found before has one.
+-- Flags ordered by implication: one that holds is above one that does not.
+node-derives-rises : (xs ys : List Bool) → ((n : ℕ) → derives-at xs n ⇒ derives-at ys n) → (x : Node) → node-derives xs x ⇒ node-derives ys x
+unfolding node-derives
+node-derives-rises xs ys h epsilon-node e = e
+node-derives-rises xs ys h bottom-node e = e
+node-derives-rises xs ys h (token-node k) e = e
+node-derives-rises xs ys h (sequence-node l r) e = and-rises (derives-at xs l) (derives-at ys l) (derives-at xs r) (derives-at ys r) (h l) (h r) e
+node-derives-rises xs ys h (alternative-node l r) e = or-rises (derives-at xs l) (derives-at ys l) (derives-at xs r) (derives-at ys r) (h l) (h r) e
+node-derives-rises xs ys h (fixed-point-node b) e = h b e
+node-derives-rises xs ys h (variable-node f guarded) e = h f e
+node-derives-rises xs ys h (repetition-node b self) e = e
+
+pub derive-equations : Equations Bool·beq false 1 node-derives bottom-node _⇒_ (λ b. Unit) flag
+unfolding node-derives
+derive-equations = record {
+  same-equal = beq-equal;
+  same-self = beq-self;
+  transitive = λ f g e. g (f e);
+  antisymmetric = λ {a} {b} f g. implied-both a b f g;
+  rises = node-derives-rises;
+  none-least = λ flags. refl;
+  least-fits = tt;
+  least-below = λ b f e. absurd (true≢false (sym e));
+  weight-most = flag-most;
+  weight-rises = λ {a} {b} f. flag-rises a b f;
+  weight-full = λ {a} {b} f u v h. implied-both a b f (flag-implies b a h);
+}
+
+-- The flags solve the equations.
+pub derives-solve : (e : Expression) (n : ℕ) → derives-at (derives e) n ≡ node-derives (derives e) (node-at (nodes e) n)
+unfolding derives
+derives-solve e n = ap (λ (l : List Bool). derives-at l n) (solution-solves derive-equations (nodes e) (λ flags f m. tt))
+    ∙ round-at derive-equations (nodes e) (derives e) n
+
+-- Flags that lie below them, and to which the equations add nothing, are these flags.
+pub derives-unique : (e : Expression) (flags : List Bool) → length flags ≡ length (nodes e)
+    → ((n : ℕ) → derives-at flags n ⇒ derives-at (derives e) n) → ((n : ℕ) → node-derives flags (node-at (nodes e) n) ⇒ derives-at flags n)
+    → flags ≡ derives e
+unfolding derives
+derives-unique e flags long below closed = solution-unique derive-equations (nodes e) flags long (λ n h. absurd (true≢false (sym h))) below
+    (λ n h. closed n (sym (round-at derive-equations (nodes e) flags n) ∙ h))
+
+-- ---- what is found has a word
+
+-- If what was found before has one.
 module _ (N : ℕ → Language) where
   abbrev Found : List Bool → Type 0
   Found flags = (n : ℕ) → T (derives-at flags n) → HasWord (N n)
@@ -45,119 +85,10 @@ module _ (N : ℕ → Language) where
   node-found flags f (variable-node b guarded) t = f b t
   node-found flags f (repetition-node b self) t = ([], inl refl)
 
--- Rounds only add nodes.
-abbrev Within : List Bool → List Bool → Type 0
-Within xs ys = (n : ℕ) → T (derives-at xs n) → T (derives-at ys n)
-
-node-derives-more : (xs ys : List Bool) → Within xs ys → (x : Node) → T (node-derives xs x) → T (node-derives ys x)
-unfolding node-derives
-node-derives-more xs ys h epsilon-node t = t
-node-derives-more xs ys h bottom-node t = t
-node-derives-more xs ys h (token-node k) t = t
-node-derives-more xs ys h (sequence-node l r) t = and-both (derives-at ys l) (derives-at ys r)
-    (h l (and-first (derives-at xs l) (derives-at xs r) t)) (h r (and-second (derives-at xs l) (derives-at xs r) t))
-node-derives-more xs ys h (alternative-node l r) t = ⊎-elim (λ x. or-left (derives-at ys l) (derives-at ys r) (h l x))
-    (λ x. or-right (derives-at ys l) (derives-at ys r) (h r x)) (or-cases (derives-at xs l) (derives-at xs r) t)
-node-derives-more xs ys h (fixed-point-node b) t = h b t
-node-derives-more xs ys h (variable-node f guarded) t = h f t
-node-derives-more xs ys h (repetition-node b self) t = t
-
-within-next : (ns : List Node) (xs ys : List Bool) → Within xs ys → Within (next-derives ns xs) (next-derives ns ys)
-within-next ns xs ys h n t = subst T (sym (next-derives-at ns ys n))
-    (node-derives-more xs ys h (node-at ns n) (subst T (next-derives-at ns xs n) t))
-
--- How many nodes are not found yet.
-abbrev missing : List Bool → ℕ
-missing [] = 0
-missing (true ∷ l) = missing l
-missing (false ∷ l) = suc (missing l)
-
-missing-falls : (xs ys : List Bool) → length xs ≡ length ys → Within xs ys → missing ys ≤ missing xs
-missing-falls [] [] e h = omega arith
-missing-falls [] (y ∷ ys) e h = absurd (omega arith)
-missing-falls (x ∷ xs) [] e h = absurd (omega arith)
-missing-falls (true ∷ xs) (true ∷ ys) e h = missing-falls xs ys (omega arith) (λ n. h (suc n))
-missing-falls (true ∷ xs) (false ∷ ys) e h = absurd (h 0 tt)
-missing-falls (false ∷ xs) (true ∷ ys) e h = let a = missing-falls xs ys (omega arith) (λ n. h (suc n)) in omega arith
-missing-falls (false ∷ xs) (false ∷ ys) e h = let a = missing-falls xs ys (omega arith) (λ n. h (suc n)) in omega arith
-
-missing-less : (xs ys : List Bool) → length xs ≡ length ys → Within xs ys → same-flags xs ys ≡ false → missing ys < missing xs
-unfolding same-flags
-missing-less [] [] e h d = absurd (subst T d tt)
-missing-less [] (y ∷ ys) e h d = absurd (omega arith)
-missing-less (x ∷ xs) [] e h d = absurd (omega arith)
-missing-less (true ∷ xs) (true ∷ ys) e h d = missing-less xs ys (omega arith) (λ n. h (suc n)) d
-missing-less (true ∷ xs) (false ∷ ys) e h d = absurd (h 0 tt)
-missing-less (false ∷ xs) (true ∷ ys) e h d = let a = missing-falls xs ys (omega arith) (λ n. h (suc n)) in omega arith
-missing-less (false ∷ xs) (false ∷ ys) e h d = let a = missing-less xs ys (omega arith) (λ n. h (suc n)) d in omega arith
-
-pub same-flags-path : (xs ys : List Bool) → same-flags xs ys ≡ true → xs ≡ ys
-unfolding same-flags
-same-flags-path [] [] e = refl
-same-flags-path [] (y ∷ ys) e = absurd (subst T (sym e) tt)
-same-flags-path (x ∷ xs) [] e = absurd (subst T (sym e) tt)
-same-flags-path (true ∷ xs) (true ∷ ys) e = ap (λ (l : List Bool). true ∷ l) (same-flags-path xs ys e)
-same-flags-path (true ∷ xs) (false ∷ ys) e = absurd (subst T (sym e) tt)
-same-flags-path (false ∷ xs) (true ∷ ys) e = absurd (subst T (sym e) tt)
-same-flags-path (false ∷ xs) (false ∷ ys) e = ap (λ (l : List Bool). false ∷ l) (same-flags-path xs ys e)
-
--- None is found at first.
-none-found : (m n : ℕ) → T (derives-at (replicate m false) n) → ⊥
-none-found zero n t = t
-none-found (suc m) zero t = t
-none-found (suc m) (suc n) t = none-found m n t
-
-all-missing : (m : ℕ) → missing (replicate m false) ≡ m
-all-missing zero = refl
-all-missing (suc m) = ap suc (all-missing m)
-
-module _ (N : ℕ → Language) (ns : List Node) (equation : (n : ℕ) (w : List ℕ) → N n w ↔ node-language N (node-at ns n) w) where
-  -- Kept by each round.
-  pub record RoundInvariant (flags : List Bool) : Type 0 where
-    pub as-many : length flags ≡ length ns
-    pub rising : Within flags (next-derives ns flags)
-    pub found : Found N flags
-
-  next-length : (flags : List Bool) → length (next-derives ns flags) ≡ length ns
-  unfolding next-derives
-  next-length flags = length-map ns (node-derives flags)
-
-  invariant-next : (flags : List Bool) → RoundInvariant flags → RoundInvariant (next-derives ns flags)
-  invariant-next flags f = record {
-    as-many = next-length flags;
-    rising = within-next ns flags (next-derives ns flags) (f .rising);
-    found = λ n t. let x = node-found N flags (f .found) (node-at ns n) (subst T (next-derives-at ns flags n) t) in
-        (x .0, equation n (x .0) .1 (x .1));
-  }
-
-  invariant-first : RoundInvariant (replicate (length ns) false)
-  invariant-first = record {
-    as-many = length-replicate (length ns) false;
-    rising = λ n t. absurd (none-found (length ns) n t);
-    found = λ n t. absurd (none-found (length ns) n t);
-  }
-
-  invariant-falls : (flags : List Bool) → RoundInvariant flags → same-flags flags (next-derives ns flags) ≡ false
-      → missing (next-derives ns flags) < missing flags
-  invariant-falls flags f d = missing-less flags (next-derives ns flags) (f .as-many ∙ sym (next-length flags)) (f .rising) d
-
-  abbrev last-flags : List Bool
-  last-flags = settle same-flags (next-derives ns) (length ns) (replicate (length ns) false)
-
-  -- So many rounds are enough.
-  pub last-settled : RoundInvariant last-flags × (same-flags last-flags (next-derives ns last-flags) ≡ true)
-  last-settled = settled same-flags (next-derives ns) RoundInvariant missing invariant-next invariant-falls (length ns) (replicate (length ns) false) invariant-first
-      (let a = all-missing (length ns) in omega arith)
-
--- The flags solve the equations, and what is found has a word.
-pub derives-solve : {e : Expression} {a : LanguageType} → [] ⊢ e ∶ a → derives e ≡ next-derives (nodes e) (derives e)
-unfolding derives
-derives-solve {e} d = same-flags-path (derives e) (next-derives (nodes e) (derives e))
-    (last-settled (language-of e) (nodes e) (language-equation d) .1)
-
 derives-found : {e : Expression} {a : LanguageType} → [] ⊢ e ∶ a → (n : ℕ) → T (derives-at (derives e) n) → HasWord (language-of e n)
 unfolding derives
-derives-found {e} d = last-settled (language-of e) (nodes e) (language-equation d) .0 .found
+derives-found {e} d = solution-every derive-equations (nodes e) (λ n b. T b → HasWord (language-of e n)) (λ n t. absurd t)
+    (λ flags f n t. let x = node-found (language-of e) flags f (node-at (nodes e) n) t in (x .0, language-equation d n (x .0) .1 (x .1)))
 
 -- What has a word is found, by any solution of the equations.
 module _ (N : ℕ → Language) (table : ℕ → Node) (flags : List Bool)
@@ -232,8 +163,7 @@ derives-complete : {e : Expression} {a : LanguageType} → [] ⊢ e ∶ a → (n
     → T (derives-at (derives e) n)
 derives-complete {e} d = everywhere-all (λ n. (w : List ℕ) → language-of e n w → T (derives-at (derives e) n)) e
     (words-found (language-of e) (node-at (nodes e)) (derives e)
-    (λ n. ap (λ (l : List Bool). derives-at l n) (derives-solve d) ∙ next-derives-at (nodes e) (derives e) n)
-    e [] 0 [] ((whole-site e) .placed) ((whole-site e) .denoted) ((whole-site e) .parts) (λ n w h. absurd h))
+    (derives-solve e) e [] 0 [] ((whole-site e) .placed) ((whole-site e) .denoted) ((whole-site e) .parts) (λ n w h. absurd h))
     (λ n h w x. absurd (subst (λ L. L w) (languages-past e n h) x))
 
 -- A node is found to derive a token sequence iff its language has one.

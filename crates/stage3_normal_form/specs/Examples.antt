@@ -3,11 +3,12 @@ use mathlib.Core.Path.{_≡_, refl}
 use mathlib.Core.Bool.{true, false}
 use mathlib.Core.List.{List, [], _∷_}
 use Prim.Native.Nat.{ℕ}
-use Rattle.stage0_laws.specs.Lists.{All, settle}
+use Rattle.stage0_laws.specs.Lists.{All}
+use Rattle.stage0_laws.specs.Rounds.{settle, same-all, least-solution}
 use Rattle.stage1_sheet.specs.Expression.{Expression, epsilon, bottom, token, sequence, alternative, fixed-point, variable, repetition}
 use Rattle.stage2_types.specs.Nodes.{nodes-from, nodes}
 use Rattle.stage3_normal_form.specs.Productions.{Production, Row, ended-by, node-row, next-rows, rows-after, rows}
-use Rattle.stage3_normal_form.specs.Derives.{node-derives, next-derives, same-flags, derives}
+use Rattle.stage3_normal_form.specs.Derives.{node-derives, derives}
 use Rattle.stage3_normal_form.specs.NormalForm.{all-derive, kept, kept-row, normal-form}
 
 pub record Example : Type 0 where
@@ -70,5 +71,5 @@ examples =
     ∷ []
 
 pub examples-hold : All (λ (x : Example). normal-form (x .expression) ≡ x .expected) examples
-unfolding normal-form kept-row kept all-derive rows rows-after next-rows node-row ended-by derives settle next-derives node-derives same-flags nodes nodes-from
+unfolding normal-form kept-row kept all-derive rows rows-after next-rows node-row ended-by derives least-solution settle same-all node-derives nodes nodes-from
 examples-hold = (refl, (refl, (refl, (refl, (refl, (refl, (refl, tt)))))))

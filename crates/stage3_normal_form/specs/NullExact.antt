@@ -3,18 +3,17 @@
 use mathlib.Core.Path.{_≡_, refl, sym, _∙_}
 use mathlib.Core.Bool.{Bool, true, false, true≢false}
 use mathlib.Core.List.{List, []}
-use Prim.Native.Nat.{ℕ, zero, suc, _≤_}
-use lib.ListN.{length, replicate, List·getD-eq-default}
-use Rattle.stage0_laws.specs.Truth.{and-true-first}
-use Rattle.stage0_laws.specs.Settling.{settle-keeps}
+use Prim.Native.Nat.{ℕ, suc, _≤_}
+use lib.ListN.{List·getD-eq-default}
 use Rattle.stage1_sheet.specs.Expression.{Expression, size}
 use Rattle.stage2_types.specs.Denotation.{Environment}
-use Rattle.stage2_types.specs.Types.{LanguageType, epsilon-type, bottom-type, token-type, sequence-type, alternative-type, Context, _⊢_∶_, type-epsilon, type-bottom, type-token, type-variable, type-sequence, type-alternative, type-fixed-point, type-repetition}
+use Rattle.stage2_types.specs.Types.{LanguageType, epsilon-type, bottom-type, token-type, alternative-type, Context, _⊢_∶_, type-epsilon, type-bottom, type-token, type-variable, type-sequence, type-alternative, type-fixed-point, type-repetition}
 use Rattle.stage2_types.specs.Soundness.{Satisfies}
 use Rattle.stage2_types.specs.Nodes.{Node, epsilon-node, bottom-node, token-node, sequence-node, alternative-node, fixed-point-node, variable-node, repetition-node, nodes, node-at}
-use Rattle.stage2_types.specs.LeastTypes.{type-of, node-type, next-types, same-types, type-rounds, types-of, least-types}
-use Rattle.stage2_types.specs.LeastTypeLaws.{type-of-next}
-use Rattle.stage2_types.specs.SetOrder.{or-rises}
+use Rattle.stage2_types.specs.LeastTypes.{type-of, node-type, next-types, least-types}
+use Rattle.stage2_types.specs.LeastTypeLaws.{types-every}
+use Rattle.stage2_types.specs.SetOrder.{implied-both, or-rises}
+use Rattle.stage2_types.specs.SequenceTypeLaws.{sequence-null-left}
 use Rattle.stage2_types.specs.QuestionLaws.{passes-apart}
 use Rattle.stage2_types.specs.Typing.{least-passes}
 use Rattle.stage3_normal_form.specs.Productions.{Row, row-of, node-row, rows}
@@ -71,43 +70,26 @@ NullWithin a P = a .null ≡ true → P .has-epsilon ≡ true
 -- One round of types, over rows that solve the equations.
 module _ (rs : List Row) (types : List LanguageType) (within : (n : ℕ) → NullWithin (type-of types n) (row-of rs n)) where
   node-within : (x : Node) → LeftNotNull rs x → NullWithin (node-type types x) (node-row rs x)
-  unfolding node-type node-row epsilon-type bottom-type token-type sequence-type alternative-type
+  unfolding node-type node-row epsilon-type bottom-type token-type alternative-type
   node-within epsilon-node s e = refl
   node-within bottom-node s e = e
   node-within (token-node t) s e = e
   node-within (sequence-node l r) s e =
-      absurd (true≢false (sym (within l (and-true-first ((type-of types l) .null) ((type-of types r) .null) e)) ∙ s))
+      absurd (true≢false (sym (within l (sequence-null-left (type-of types l) (type-of types r) e)) ∙ s))
   node-within (alternative-node l r) s e = or-rises ((type-of types l) .null) ((row-of rs l) .has-epsilon)
       ((type-of types r) .null) ((row-of rs r) .has-epsilon) (within l) (within r) e
   node-within (fixed-point-node b) s e = within b e
   node-within (variable-node f guarded) s e = within f e
   node-within (repetition-node b self) s e = refl
 
-none-typed : (m n : ℕ) → type-of (replicate m bottom-type) n ≡ bottom-type
-none-typed zero n = refl
-none-typed (suc m) zero = refl
-none-typed (suc m) (suc n) = none-typed m n
-
 null-within : {e : Expression} {a : LanguageType} → [] ⊢ e ∶ a → (n : ℕ) → NullWithin (type-of (least-types e) n) (row-of (rows e) n)
-unfolding least-types types-of bottom-type
-null-within {e} d = settle-keeps same-types (next-types (nodes e)) Within step (type-rounds (nodes e))
-    (replicate (length (nodes e)) bottom-type) (λ n. rw (none-typed (length (nodes e)) n) (λ h. absurd (true≢false (sym h))))
-  where
-    Within : List LanguageType → Type 0
-    Within types = (n : ℕ) → NullWithin (type-of types n) (row-of (rows e) n)
-
-    step : (types : List LanguageType) → Within types → Within (next-types (nodes e) types)
-    step types w n = rw (type-of-next (nodes e) types n, row-solves d n)
-        (node-within (rows e) types w (node-at (nodes e) n) (left-not-null d n))
-
-same-truth : (a b : Bool) → (a ≡ true → b ≡ true) → (b ≡ true → a ≡ true) → a ≡ b
-same-truth true b f g = sym (f refl)
-same-truth false true f g = absurd (true≢false (sym (g refl)))
-same-truth false false f g = refl
+unfolding least-types bottom-type
+null-within {e} d = types-every (nodes e) (λ n a. NullWithin a (row-of (rows e) n)) (λ n h. absurd (true≢false (sym h)))
+    (λ types w n. rw (row-solves d n) (node-within (rows e) types w (node-at (nodes e) n) (left-not-null d n)))
 
 -- NULL is the ε flag, and so it is exact: it holds iff the empty word is in L(n).
 pub null-is-epsilon : {e : Expression} {a : LanguageType} → [] ⊢ e ∶ a → least-types e ≡ next-types (nodes e) (least-types e)
     → (n : ℕ) → (type-of (least-types e) n) .null ≡ (row-of (normal-form e) n) .has-epsilon
-null-is-epsilon {e} d s n = same-truth ((type-of (least-types e) n) .null) ((row-of (normal-form e) n) .has-epsilon)
+null-is-epsilon {e} d s n = implied-both ((type-of (least-types e) n) .null) ((row-of (normal-form e) n) .has-epsilon)
     (λ h. normal-form-epsilon e n ∙ null-within d n h)
     ((rows-within e (least-types e) s (passes-apart (nodes e) (least-types e) (least-passes e d)) n) .null-within)

@@ -9,12 +9,13 @@ use lib.Bits.{bitAnd}
 use Rattle.stage0_laws.specs.Bits.{_∈_}
 use Rattle.stage0_laws.specs.BitLaws.{∈-zero, ∈-left, ∈-right, ∈-self, ∈-disjoint, disjoint-zero}
 use Rattle.stage1_sheet.specs.Expression.{Expression}
-use Rattle.stage2_types.specs.Types.{LanguageType, if-null, epsilon-type, bottom-type, token-type, sequence-type, alternative-type, repetition-type, Apart, _⊢_∶_}
+use Rattle.stage2_types.specs.Types.{LanguageType, epsilon-type, bottom-type, token-type, alternative-type, repetition-type, Apart, _⊢_∶_}
 use Rattle.stage2_types.specs.Nodes.{Node, epsilon-node, bottom-node, token-node, sequence-node, alternative-node, fixed-point-node, variable-node, repetition-node, nodes, node-at}
 use Rattle.stage2_types.specs.LeastTypes.{type-of, node-type}
 use Rattle.stage2_types.specs.LeastTypeLaws.{solved-at}
 use Rattle.stage2_types.specs.LeastSolution.{Solves}
 use Rattle.stage2_types.specs.SetOrder.{or-rises}
+use Rattle.stage2_types.specs.SequenceTypeLaws.{sequence-first-left}
 use Rattle.stage2_types.specs.QuestionLaws.{AlternativesApart, passes-apart}
 use Rattle.stage2_types.specs.Typing.{typed-solution}
 use Rattle.stage3_normal_form.specs.Productions.{Production, Row, no-productions, ended-by, row-of, node-row}
@@ -49,11 +50,11 @@ alternative-within {P} {Q} {a} {b} x y k = record {
 -- Over types that solve Figure 2's equations, with the parts of each alternative apart.
 module _ (flags : List Bool) (types : List LanguageType) (rs : List Row) (w : (n : ℕ) → RowWithin (row-of rs n) (type-of types n)) where
   sequence-within : (l r : ℕ) → RowWithin (node-row rs (sequence-node l r)) (node-type types (sequence-node l r))
-  unfolding node-type node-row sequence-type ended-by
+  unfolding node-type node-row ended-by
   sequence-within l r = record {
     null-within = λ e. absurd (true≢false (sym e));
     heads-within = λ q m. let o = Memᴰ·of-map (ended-by r) ((row-of rs l) .productions) m in
-        ∈-left ((type-of types l) .first) (if-null ((type-of types l) .null) ((type-of types r) .first)) (q .head)
+        sequence-first-left (type-of types l) (type-of types r) (q .head)
         (subst (λ (z : Production). z .head ∈ (type-of types l) .first) (o .2) ((w l) .heads-within (o .0) (o .1)));
     distinct = distinct-ended r ((row-of rs l) .productions) ((w l) .distinct);
   }

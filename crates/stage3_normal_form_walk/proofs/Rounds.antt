@@ -1,33 +1,33 @@
 -- Laws of the rounds that find the productive nodes: a node's equation for each way through the code, the set that one round in place
 -- makes, and the rounds until nothing changes.
 use mathlib.Core.Path.{_≡_, refl, sym, ap, ap₂, subst, _∙_}
-use mathlib.Core.Bool.{Bool, true, false, _&&_, _||_, cond}
-use mathlib.Core.List.{List}
+use mathlib.Core.Bool.{Bool, true, false, _&&_, _||_, cond, true≢false}
+use mathlib.Core.List.{List, [], _∷_}
 use mathlib.Core.Logic.{⊎-elim}
 use Prim.Native.Nat.{ℕ, zero, suc, _+_, _^_, _≤_, _<_}
 use native.Mathlib.Decide.{ℕ-discrete}
 use native.Mathlib.Omega.{arith}
 use native.Mathlib.Nat.{zero-add}
 use native.Mathlib.Numerals.{add-one}
-use lib.Dec.{T, eqb}
+use lib.Dec.{eqb}
 use lib.Bits.{bitOr}
 use lib.ListN.{getD, length, replicate, set, length-set, length-replicate, List·getD-eq-default}
 use lib.Seq.{getD-set-same, getD-set-other}
 use borrow.Author.Tests.{eq-eqb, ne-eqb}
 use Rattle.stage0_laws.specs.Bits.{bit}
-use Rattle.stage0_laws.specs.BitLaws.{bit-or, bit-one, bit-zero}
-use Rattle.stage0_laws.specs.Lists.{settle}
+use Rattle.stage0_laws.specs.BitLaws.{bit-or, bit-one, bit-zero, bit-ext-all}
+use Rattle.stage0_laws.specs.Lists.{sum}
 use Rattle.stage0_laws.specs.Order.{lt-or-le}
-use Rattle.stage0_laws.specs.Settling.{settle-keeps}
-use Rattle.stage0_laws.specs.Truth.{or-left, or-right, or-cases, and-both, and-first, and-second}
+use Rattle.stage0_laws.specs.RoundLaws.{least-at, each-least, weights-most, weights-full}
+use Rattle.stage0_laws.specs.Truth.{or-true-left, or-true-right}
 use Rattle.stage1_sheet.specs.Expression.{Expression}
-use Rattle.stage2_types.specs.Nodes.{Node, epsilon-node, bottom-node, token-node, sequence-node, alternative-node, fixed-point-node, variable-node, repetition-node, nodes, node-at}
-use Rattle.stage2_types.specs.Types.{HasType}
+use Rattle.stage2_types.specs.Nodes.{Node, bottom-node, nodes, node-at}
+use Rattle.stage2_types.specs.SetOrder.{_⇒_, or-most, flag}
 use Rattle.stage2_types_columns.specs.Tabulate.{tabulate-length, tabulate-at}
 use Rattle.stage2_types_columns.specs.Held.{node-of, held-node, held-nodes}
 use Rattle.stage2_types_columns.specs.declared.NodeLinks.{NodeLinks}
-use Rattle.stage3_normal_form.specs.Derives.{derives-at, node-derives, next-derives, same-flags, derives}
-use Rattle.stage3_normal_form.specs.DerivesExact.{same-flags-path, next-derives-at, derives-solve}
+use Rattle.stage3_normal_form.specs.Derives.{derives-at, node-derives, derives}
+use Rattle.stage3_normal_form.specs.DerivesExact.{derive-equations, derives-solve, derives-unique}
 use Rattle.stage3_normal_form_walk.specs.Columns.{SetOf}
 use Rattle.stage3_normal_form_walk.specs.Raised.{Within, AddsNothing, Raised}
 
@@ -94,10 +94,6 @@ bit-with set n m false = go (bit set m)
     go true = refl
     go false = refl
 
--- The flags after so many rounds more.
-abbrev rounds-from : List Node → ℕ → List Bool → List Bool
-rounds-from ns k flags = settle same-flags (next-derives ns) k flags
-
 pub held-count : (links : NodeLinks) → length (held-nodes links) ≡ links .count
 unfolding held-nodes
 held-count links = tabulate-length (held-node (links .tag) (links .link) (links .guarded)) 0 (links .count)
@@ -114,19 +110,6 @@ held-here links n l =
 
 -- ---- one round
 
-derives-more : (xs ys : List Bool) → Within xs ys → (x : Node) → T (node-derives xs x) → T (node-derives ys x)
-unfolding node-derives
-derives-more xs ys h epsilon-node t = t
-derives-more xs ys h bottom-node t = t
-derives-more xs ys h (token-node k) t = t
-derives-more xs ys h (sequence-node l r) t = and-both (derives-at ys l) (derives-at ys r)
-    (h l (and-first (derives-at xs l) (derives-at xs r) t)) (h r (and-second (derives-at xs l) (derives-at xs r) t))
-derives-more xs ys h (alternative-node l r) t = ⊎-elim (λ x. or-left (derives-at ys l) (derives-at ys r) (h l x))
-    (λ x. or-right (derives-at ys l) (derives-at ys r) (h r x)) (or-cases (derives-at xs l) (derives-at xs r) t)
-derives-more xs ys h (fixed-point-node b) t = h b t
-derives-more xs ys h (variable-node f guarded) t = h f t
-derives-more xs ys h (repetition-node b self) t = t
-
 pub raised-start : (links : NodeLinks) (flags : List Bool) (set : ℕ) → SetOf set flags → length flags ≡ links .count
     → Raised links flags (links .count) set
 unfolding node-derives
@@ -135,8 +118,8 @@ raised-start links flags set s long = record {
   set-of = s;
   as-many = long;
   rising = λ n t. t;
-  applied = λ m h t. absurd (subst (λ x. T (node-derives flags x))
-      (List·getD-eq-default (held-nodes links) bottom-node {n = m} (rw (held-count links) h)) t);
+  applied = λ m h t. absurd (true≢false
+      (sym t ∙ ap (node-derives flags) (List·getD-eq-default (held-nodes links) bottom-node {n = m} (rw (held-count links) h))));
   least = λ closed c h. h;
 }
 
@@ -163,7 +146,7 @@ module _ (links : NodeLinks) (before : List Bool) (n old : ℕ) (b : Bool) (insi
   ]
 
   grown : Within (r .flags) flag-here
-  grown = each (λ m x. T (derives-at (r .flags) m) → T x) (λ m e t. t) (or-left (derives-at (r .flags) n) b)
+  grown = each (λ m x. derives-at (r .flags) m ⇒ x) (λ m e t. t) (or-true-left (derives-at (r .flags) n) b)
 
   set-here : SetOf (cond b (bitOr old (2 ^ n)) old) flag-here
   set-here = each (λ m x. bit (cond b (bitOr old (2 ^ n)) old) m ≡ x)
@@ -181,9 +164,6 @@ module _ (links : NodeLinks) (before : List Bool) (n old : ℕ) (b : Bool) (insi
       joined false true = refl
       joined false false = refl
 
-  holds : (flags : List Bool) → T (node-derives flags (node-at (held-nodes links) n)) → T (node-derives flags (node-here links n))
-  holds flags t = subst (λ x. T (node-derives flags x)) (held-here links n inside) t
-
   pub raised-more : Raised links before n (cond b (bitOr old (2 ^ n)) old)
   unfolding flag-here
   raised-more = record {
@@ -193,125 +173,79 @@ module _ (links : NodeLinks) (before : List Bool) (n old : ℕ) (b : Bool) (insi
     rising = λ m t. grown m (r .rising m t);
     applied = λ m h t. ⊎-elim (λ (l : n < m). grown m (r .applied m (omega arith) t))
         (λ (l : m ≤ n). let e : m ≡ n = omega arith in here m e t) (lt-or-le n m);
-    least = λ closed c h. each (λ m x. T x → T (derives-at closed m)) (λ m e t. r .least closed c h m t)
-        (λ t. ⊎-elim (λ x. r .least closed c h n x)
-        (λ x. c n (subst (λ y. T (node-derives closed y)) (sym (held-here links n inside))
-        (derives-more (r .flags) closed (r .least closed c h) (node-here links n) (subst T equation x))))
-        (or-cases (derives-at (r .flags) n) b t));
+    least = λ closed c h. each (λ m x. x ⇒ derives-at closed m) (λ m e. r .least closed c h m)
+        (or-most (derives-at (r .flags) n) b (derives-at closed n) (r .least closed c h n)
+        (λ x. c n (ap (node-derives closed) (held-here links n inside)
+        ∙ derive-equations .rises (r .flags) closed (r .least closed c h) (node-here links n) (sym equation ∙ x))));
   }
     where
-      here : (m : ℕ) → m ≡ n → T (node-derives before (node-at (held-nodes links) m)) → T (derives-at flag-here m)
-      here m e t = subst (λ (k : ℕ). T (derives-at flag-here k)) (sym e) (subst T (sym same-here)
-          (or-right (derives-at (r .flags) n) b (subst T (sym equation)
-          (derives-more before (r .flags) (r .rising) (node-here links n)
-          (holds before (subst (λ (k : ℕ). T (node-derives before (node-at (held-nodes links) k))) e t))))))
+      here : (m : ℕ) → m ≡ n → node-derives before (node-at (held-nodes links) m) ⇒ derives-at flag-here m
+      here m e t = subst (λ (k : ℕ). derives-at flag-here k ≡ true) (sym e) (same-here
+          ∙ or-true-right (derives-at (r .flags) n) b (equation
+          ∙ derive-equations .rises before (r .flags) (r .rising) (node-here links n)
+          (sym (ap (node-derives before) (held-here links n inside))
+          ∙ subst (λ (k : ℕ). node-derives before (node-at (held-nodes links) k) ≡ true) e t)))
 
 -- ---- the rounds
 
--- A step that is taken once more, and one time less from there, leads to the same.
-module _ (ns : List Node) where
-  settle-fixed : (k : ℕ) (flags : List Bool) → flags ≡ next-derives ns flags → rounds-from ns k flags ≡ flags
-  unfolding settle
-  settle-fixed zero flags e = refl
-  settle-fixed (suc k) flags e =
-      go (same-flags flags (next-derives ns flags)) (subst (λ xs. rounds-from ns k xs ≡ flags) e (settle-fixed k flags e))
-    where
-      go : (b : Bool) → rounds-from ns k (next-derives ns flags) ≡ flags
-          → elim b [ true ↦ flags | false ↦ rounds-from ns k (next-derives ns flags) ] ≡ flags
-      go true h = refl
-      go false h = h
-
-  settle-step : (k : ℕ) (flags : List Bool) → rounds-from ns k (next-derives ns flags) ≡ rounds-from ns (suc k) flags
-  unfolding settle
-  settle-step k flags = go (same-flags flags (next-derives ns flags)) refl
-    where
-      go : (b : Bool) → same-flags flags (next-derives ns flags) ≡ b
-          → rounds-from ns k (next-derives ns flags) ≡ elim b [ true ↦ flags | false ↦ rounds-from ns k (next-derives ns flags) ]
-      go true h =
-          let e = same-flags-path flags (next-derives ns flags) h in
-          ap (rounds-from ns k) (sym e) ∙ settle-fixed k flags e
-      go false h = refl
-
-none-flagged : (k n : ℕ) → derives-at (replicate k false) n ≡ false
-none-flagged zero n = refl
-none-flagged (suc k) zero = refl
-none-flagged (suc k) (suc n) = none-flagged k n
-
-none-within : (k : ℕ) (flags : List Bool) → Within (replicate k false) flags
-none-within k flags n t = absurd (subst T (none-flagged k n) t)
-
--- A set with so many rounds left: between what rounds of all equations at once have by then, and every solution.
-pub record Between (links : NodeLinks) (set left : ℕ) : Type 0 where
+-- A set after so many rounds that each added a node. Every solution of the equations has its nodes.
+pub record AfterRounds (links : NodeLinks) (rounds set : ℕ) : Type 0 where
   pub flags : List Bool
   pub set-of : SetOf set flags
   pub as-many : length flags ≡ links .count
-  pub at-once : List Bool
-  pub above : Within at-once flags
-  pub leads : rounds-from (held-nodes links) left at-once
-      ≡ rounds-from (held-nodes links) (links .count) (replicate (links .count) false)
+  pub added : rounds ≤ sum flag flags
   pub least : (closed : List Bool) → AddsNothing links closed → Within flags closed
 
-pub between-start : (links : NodeLinks) → Between links 0 (links .count)
-between-start links = record {
+pub rounds-start : (links : NodeLinks) → AfterRounds links 0 0
+rounds-start links = record {
   flags = replicate (links .count) false;
-  set-of = λ n. bit-zero n ∙ sym (none-flagged (links .count) n);
+  set-of = λ n. bit-zero n ∙ sym (least-at false (links .count) n);
   as-many = length-replicate (links .count) false;
-  at-once = replicate (links .count) false;
-  above = λ n t. t;
-  leads = refl;
-  least = λ closed c. none-within (links .count) closed;
+  added = omega arith;
+  least = λ closed c. each-least false (λ n b. b ⇒ derives-at closed n) (λ n e. absurd (true≢false (sym e))) (links .count);
 }
 
-module _ (links : NodeLinks) (set : ℕ) where
-  next-within : (xs ys zs : List Bool) → Within xs ys
-      → ((m : ℕ) → T (node-derives ys (node-at (held-nodes links) m)) → T (derives-at zs m))
-      → Within (next-derives (held-nodes links) xs) zs
-  next-within xs ys zs h f m t =
-      f m (derives-more xs ys h (node-at (held-nodes links) m) (subst T (next-derives-at (held-nodes links) xs m) t))
+-- As many as there are: all are set.
+all-set : (xs : List Bool) → length xs ≤ sum flag xs → (n : ℕ) → n < length xs → derives-at xs n ≡ true
+unfolding flag
+all-set [] h n l = absurd (omega arith)
+all-set (true ∷ xs) h zero l = refl
+all-set (true ∷ xs) h (suc n) l = all-set xs (omega arith) n (omega arith)
+all-set (false ∷ xs) h n l = absurd (omega (arith, weights-most derive-equations xs))
 
-  pub between-next : (next left : ℕ) (b : Between links set (suc left)) → Raised links (b .flags) 0 next → Between links next left
-  between-next next left b r = record {
+module _ (links : NodeLinks) (rounds set : ℕ) (a : AfterRounds links rounds set) where
+  pub rounds-next : (next : ℕ) → Raised links (a .flags) 0 next → (next ≡ set → ⊥) → AfterRounds links (rounds + 1) next
+  rounds-next next r changed = record {
     flags = r .flags;
     set-of = r .set-of;
     as-many = r .as-many;
-    at-once = next-derives (held-nodes links) (b .at-once);
-    above = next-within (b .at-once) (b .flags) (r .flags) (b .above) (λ m t. r .applied m (omega arith) t);
-    leads = settle-step (held-nodes links) left (b .at-once) ∙ b .leads;
-    least = λ closed c. r .least closed c (b .least closed c);
+    added = ⊎-elim (λ (l : sum flag (a .flags) < sum flag (r .flags)). omega (arith, a .added))
+        (λ l. absurd (changed (same (weights-full derive-equations (a .flags) (r .flags) (a .as-many ∙ sym (r .as-many)) (r .rising)
+        (λ n. tt) (λ n. tt) l)))) (lt-or-le (sum flag (a .flags)) (sum flag (r .flags)));
+    least = λ closed c. r .least closed c (a .least closed c);
   }
+    where
+      same : a .flags ≡ r .flags → next ≡ set
+      same e = bit-ext-all next set (λ m. r .set-of m ∙ ap (λ (l : List Bool). derives-at l m) (sym e) ∙ sym (a .set-of m))
 
-  module _ (e : Expression) (typed : HasType e) (h : held-nodes links ≡ nodes e) where
-    whole : rounds-from (held-nodes links) (links .count) (replicate (links .count) false) ≡ derives e
-    unfolding derives
-    whole = ap (λ k. rounds-from (held-nodes links) k (replicate k false)) (sym (held-count links))
-        ∙ ap (λ ns. rounds-from ns (length ns) (replicate (length ns) false)) h
+  module _ (e : Expression) (h : held-nodes links ≡ nodes e) where
+    -- The equations add nothing to the flags.
+    ended : AddsNothing links (a .flags) → SetOf set (derives e)
+    ended closed i = a .set-of i ∙ ap (λ (l : List Bool). derives-at l i)
+        (derives-unique e (a .flags) (a .as-many ∙ sym (held-count links) ∙ ap (λ (l : List Node). length l) h)
+        (a .least (derives e) (λ m t. derives-solve e m ∙ subst (λ ns. node-derives (derives e) (node-at ns m) ≡ true) h t))
+        (λ m t. closed m (subst (λ ns. node-derives (a .flags) (node-at ns m) ≡ true) (sym h) t)))
 
-    derives-closed : AddsNothing links (derives e)
-    derives-closed m t = subst T
-        (sym (ap (λ (l : List Bool). derives-at l m) (derives-solve (typed .1)) ∙ next-derives-at (nodes e) (derives e) m))
-        (subst (λ ns. T (node-derives (derives e) (node-at ns m))) h t)
+    -- All nodes are added.
+    pub rounds-over : links .count ≤ rounds → SetOf set (derives e)
+    unfolding node-derives
+    rounds-over full = ended (λ m t. ⊎-elim
+        (λ (l : m < links .count). all-set (a .flags) (omega (arith, a .as-many, a .added)) m (omega (arith, a .as-many)))
+        (λ (l : links .count ≤ m). absurd (true≢false (sym t ∙ ap (node-derives (a .flags))
+        (List·getD-eq-default (held-nodes links) bottom-node {n = m} (rw (held-count links) l)))))
+        (lt-or-le m (links .count)))
 
-    both : (left : ℕ) (b : Between links set left) → Within (derives e) (b .flags) → SetOf set (derives e)
-    both left b more i = b .set-of i ∙ same (derives-at (b .flags) i) (derives-at (derives e) i) (b .least (derives e) derives-closed i) (more i)
-      where
-        same : (x y : Bool) → (T x → T y) → (T y → T x) → x ≡ y
-        same true true f g = refl
-        same true false f g = absurd (f tt)
-        same false true f g = absurd (g tt)
-        same false false f g = refl
-
-    -- No round is left.
-    pub between-over : Between links set 0 → SetOf set (derives e)
-    unfolding settle
-    between-over b = both 0 b (subst (λ xs. Within xs (b .flags)) (b .leads ∙ whole) (b .above))
-
-    -- A round that changes nothing: the equations add nothing to the flags.
-    pub between-same : (next left : ℕ) (b : Between links set left) → Raised links (b .flags) 0 next → next ≡ set → SetOf set (derives e)
-    between-same next left b r q = both left b
-        (subst (λ xs. Within xs (b .flags)) whole
-        (settle-keeps same-flags (next-derives (held-nodes links)) (λ xs. Within xs (b .flags))
-        (λ xs f. next-within xs (b .flags) (b .flags) f closed) (links .count) (replicate (links .count) false)
-        (none-within (links .count) (b .flags))))
-      where
-        closed : AddsNothing links (b .flags)
-        closed m t = subst T (sym (r .set-of m) ∙ ap (λ s. bit s m) q ∙ b .set-of m) (r .applied m (omega arith) t)
+    -- A round that changes nothing.
+    pub rounds-same : (next : ℕ) → Raised links (a .flags) 0 next → next ≡ set → SetOf set (derives e)
+    rounds-same next r q =
+        ended (λ m t. sym (a .set-of m) ∙ ap (λ s. bit s m) (sym q) ∙ r .set-of m ∙ r .applied m (omega arith) t)

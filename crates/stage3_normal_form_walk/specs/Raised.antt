@@ -4,9 +4,9 @@ use mathlib.Core.Path.{_≡_}
 use mathlib.Core.Bool.{Bool}
 use mathlib.Core.List.{List}
 use Prim.Native.Nat.{ℕ, _≤_}
-use lib.Dec.{T}
 use lib.ListN.{length}
 use Rattle.stage2_types.specs.Nodes.{node-at}
+use Rattle.stage2_types.specs.SetOrder.{_⇒_}
 use Rattle.stage2_types_columns.specs.Held.{held-nodes}
 use Rattle.stage2_types_columns.specs.declared.NodeLinks.{NodeLinks}
 use Rattle.stage3_normal_form.specs.Derives.{derives-at, node-derives}
@@ -14,11 +14,11 @@ use Rattle.stage3_normal_form_walk.specs.Columns.{SetOf}
 
 -- Every node that is flagged by the first is flagged by the second.
 abbrev pub Within : List Bool → List Bool → Type 0
-Within xs ys = (n : ℕ) → T (derives-at xs n) → T (derives-at ys n)
+Within xs ys = (n : ℕ) → derives-at xs n ⇒ derives-at ys n
 
 -- The equations add nothing to the flags.
 abbrev pub AddsNothing : NodeLinks → List Bool → Type 0
-AddsNothing links flags = (n : ℕ) → T (node-derives flags (node-at (held-nodes links) n)) → T (derives-at flags n)
+AddsNothing links flags = (n : ℕ) → node-derives flags (node-at (held-nodes links) n) ⇒ derives-at flags n
 
 -- The set after the equations of the nodes from n on were applied in place, from the last one down.
 pub record Raised (links : NodeLinks) (before : List Bool) (n set : ℕ) : Type 0 where
@@ -26,5 +26,5 @@ pub record Raised (links : NodeLinks) (before : List Bool) (n set : ℕ) : Type 
   pub set-of : SetOf set flags
   pub as-many : length flags ≡ links .count
   pub rising : Within before flags
-  pub applied : (m : ℕ) → n ≤ m → T (node-derives before (node-at (held-nodes links) m)) → T (derives-at flags m)
+  pub applied : (m : ℕ) → n ≤ m → node-derives before (node-at (held-nodes links) m) ⇒ derives-at flags m
   pub least : (closed : List Bool) → AddsNothing links closed → Within before closed → Within flags closed
