@@ -40,6 +40,10 @@ unfoldable pub many-fields : {S T A : Type 0} → (S → (T → Format A) → Fo
 many-fields one update s zero next = next []
 many-fields one update s (suc n) next = one s (λ t. many-fields one update (update s t) n (λ ts. next (t ∷ ts)))
 
+-- Their number, and then so many. The number may decide what is allowed too.
+unfoldable pub counted : {S T A : Type 0} → (ℕ → Bool) → (ℕ → S → (T → Format A) → Format A) → (S → T → S) → S → (ℕ → List T → Format A) → Format A
+counted allowed one update s next = field allowed (λ n. many-fields (one n) update s n (next n))
+
 -- "low, high, rule, last (0 or 1), follow set": "low ≤ high, rules of positions below R and never falling, sets below 2^P"
 unfoldable pub position-format : {A : Type 0} → ℕ → ℕ → ℕ → (Position → Format A) → Format A
 position-format rules count before next =
@@ -55,31 +59,26 @@ position-format rules count before next =
 unfoldable pub production-format : {A : Type 0} → List Bool → ℕ → ℕ → (Production → Format A) → Format A
 production-format skips count least next =
     field (λ v. leb least v && (ltb v (length skips) && not (getD skips v true)))
-    (λ rule. field (between 0 most-tail)
-    (λ size. many-fields (λ (s : Bool). field (λ v. ltb v count)) (λ s m. s) true size
-    (λ tail. next (record { head = rule; tail = tail }))))
+    (λ rule. counted (between 0 most-tail) (λ size (s : Bool). field (λ v. ltb v count)) (λ s m. s) true
+    (λ size tail. next (record { head = rule; tail = tail })))
 
 -- "its ε flag, production count (0 to 32) and productions by rising rule"
 unfoldable pub row-format : {A : Type 0} → List Bool → ℕ → (Row → Format A) → Format A
 row-format skips count next =
     flag-field
-    (λ has-epsilon. field (between 0 most-productions)
-    (λ size. many-fields (production-format skips count) (λ least p. suc (p .head)) 0 size
-    (λ productions. next (record { has-epsilon = has-epsilon; productions = productions }))))
+    (λ has-epsilon. counted (between 0 most-productions) (λ size. production-format skips count) (λ least p. suc (p .head)) 0
+    (λ size productions. next (record { has-epsilon = has-epsilon; productions = productions })))
 
 -- "version 1; R; per rule 1 if it skips, else 0; position count P, 1 to 64; per position ..; first set; nonterminal count, 1 to 64; per
 -- nonterminal .."
 unfoldable pub image-format : {A : Type 0} → (Image → Format A) → Format A
 image-format next =
     field (between 1 1)
-    (λ version. field (between 1 most-rules)
-    (λ rules. many-fields (λ (s : Bool). flag-field) (λ s b. s) true rules
-    (λ skips. field (between 1 most-positions)
-    (λ count. many-fields (position-format rules count) (λ before p. p .rule) 0 count
-    (λ positions. field (λ v. ltb v (2 ^ count))
-    (λ first. field (between 1 most-nonterminals)
-    (λ nonterminals. many-fields (λ (s : Bool). row-format skips nonterminals) (λ s r. s) true nonterminals
-    (λ rows. next (record { skips = skips; positions = positions; first = first; rows = rows })))))))))
+    (λ version. counted (between 1 most-rules) (λ rules (s : Bool). flag-field) (λ s b. s) true
+    (λ rules skips. counted (between 1 most-positions) (position-format rules) (λ before p. p .rule) 0
+    (λ count positions. field (λ v. ltb v (2 ^ count))
+    (λ first. counted (between 1 most-nonterminals) (λ nonterminals (s : Bool). row-format skips nonterminals) (λ s r. s) true
+    (λ nonterminals rows. next (record { skips = skips; positions = positions; first = first; rows = rows }))))))
 
 -- A number "uses the fewest bytes and lies below 2^64": it stands at a place of some bytes, up to the next number's.
 pub record FewestAt (bytes : List ℕ) (at n next : ℕ) : Type 0 where

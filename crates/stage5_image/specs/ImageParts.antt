@@ -20,7 +20,7 @@ use Rattle.stage4_lexer.specs.Positions.{Position}
 use Rattle.stage4_lexer.specs.PositionBounds.{NeverFalling}
 use Rattle.stage5_image.specs.Image.{flag, just, flag-number, position-numbers, production-numbers, row-numbers, image-numbers}
 use Rattle.stage5_image.specs.ImageFormat.{most-positions, most-nonterminals, most-productions}
-use Rattle.stage5_image.specs.ImageFormat.{field, flag-field, position-format, production-format, row-format, image-format}
+use Rattle.stage5_image.specs.ImageFormat.{field, flag-field, counted, position-format, production-format, row-format, image-format}
 use Rattle.stage5_image.specs.ImageRanges.{PositionInRange, ProductionInRange, Rising, RowInRange, InRange}
 use Rattle.stage5_image.specs.FormatParts.{EachFrom, tail-is, Lawful, field-lawful, then-lawful, like-lawful, many-lawful, list-lawful}
 
@@ -123,7 +123,7 @@ module _ (bytes : List ℕ) where
 
     production-lawful : (least : ℕ)
         → Lawful bytes (λ X. production-format skips N least) (λ p. (least ≤ p .head) × ProductionInRange skips N p) production-numbers
-    unfolding production-format
+    unfolding production-format counted
     production-lawful least =
         like-lawful bytes
         (then-lawful bytes (head-lawful least)
@@ -138,7 +138,7 @@ module _ (bytes : List ℕ) where
         (λ p. ap (λ (l : List ℕ). p .head ∷ length (p .tail) ∷ l) (tail-is (p .tail)))
 
     row-lawful : Lawful bytes (λ X. row-format skips N) (RowInRange skips N) row-numbers
-    unfolding row-format
+    unfolding row-format counted
     row-lawful =
         like-lawful bytes
         (then-lawful bytes flag-lawful
@@ -156,7 +156,7 @@ module _ (bytes : List ℕ) where
   -- ---- the image
 
   pub image-lawful : Lawful bytes (λ X. image-format) InRange image-numbers
-  unfolding image-format image-numbers
+  unfolding image-format counted image-numbers
   image-lawful =
       like-lawful bytes
       (then-lawful bytes (between-lawful 1 1 (omega arith))

@@ -1,6 +1,5 @@
--- Reading an image from bytes: question 13, "at the first offending number or leftover byte". "A readable image has every value
--- in these ranges, low ≤ high, rules of positions below R and never falling, sets below 2^P, production rules below R, rising
--- and not skipping, tail members below the nonterminal count, and nothing after."
+-- Reading an image from bytes, a part at a time, as code reads it: question 13, "at the first offending number or leftover byte". Which
+-- numbers an image has is said by its format (ImageFormat), and that this reads by it in ReadableImages (`read-image-iff`).
 use mathlib.Core.Bool.{Bool, true, not, _&&_, cond}
 use mathlib.Core.List.{List}
 use Prim.Native.Nat.{ℕ, suc, _^_}

@@ -21,7 +21,7 @@ use Rattle.stage1_sheet.specs.Format.{Format, done, number, Asked, made, left-o
 use Rattle.stage1_sheet.specs.FormatLaws.{judged, asked, read-part, at-end, read, then-same, then-then, answer-one, read-iff}
 use Rattle.stage5_image.specs.Image.{Image, image-numbers, image-bytes}
 use Rattle.stage5_image.specs.ImageReading.{image-field, read-flag, read-list, read-position, read-production, read-row, image-end, read-image}
-use Rattle.stage5_image.specs.ImageFormat.{field, flag-field, many-fields, position-format, production-format, row-format, image-format}
+use Rattle.stage5_image.specs.ImageFormat.{field, flag-field, many-fields, counted, position-format, production-format, row-format, image-format}
 use Rattle.stage5_image.specs.ImageFormat.{FewestAt, Answered, ReadableAs, FirstOffence}
 use Rattle.stage5_image.specs.ImageRanges.{InRange}
 use Rattle.stage5_image.specs.FormatParts.{fewest-front, fewest-once, fewest-finds, Leads, unread, through}
@@ -83,14 +83,14 @@ module _ (bytes : List ℕ) where
   }
 
   production-turn : (skips : List Bool) (count least : ℕ) → InTurn (λ X. production-format skips count least) (read-production bytes skips count least)
-  unfolding production-format read-production
+  unfolding production-format counted read-production
   production-turn skips count least = record {
     turn = λ X next at.
         over (field-turn _) _ at _ _ (λ rule m₁. over (field-turn _) _ m₁ _ _ (λ size m₂. over (list-turn (field-turn _) size) _ m₂ _ _ (λ tail m₃. refl)));
   }
 
   row-turn : (skips : List Bool) (count : ℕ) → InTurn (λ X. row-format skips count) (read-row bytes skips count)
-  unfolding row-format read-row
+  unfolding row-format counted read-row
   row-turn skips count = record {
     turn = λ X next at.
         over flag-turn _ at _ _ (λ epsilon m₁. over (field-turn _) _ m₁ _ _ (λ size m₂.
@@ -108,7 +108,7 @@ module _ (bytes : List ℕ) where
       ap (λ (r : Reading X). and-then r (at-end of-image)) (t .turn X next at) ∙ then-then (one at) _ (at-end of-image) ∙ then-same (one at) e
 
   image-turn : read (decode-fewest bytes) of-image (image-format done) 0 ≡ read-image bytes
-  unfolding image-format read-image image-end
+  unfolding image-format counted read-image image-end
   image-turn =
       onto (field-turn _) _ 0 _ (λ version m₁. onto (field-turn _) _ m₁ _ (λ rules m₂. onto (list-turn flag-turn rules) _ m₂ _
       (λ skips m₃. onto (field-turn _) _ m₃ _
