@@ -27,7 +27,7 @@ most-nonterminals = 64
 abbrev pub most-productions : ℕ
 most-productions = 32
 
--- A thing's format says what is due where it stands, and then what follows it. A number: "Is the image readable? No: 13".
+-- Each format takes what follows the thing that it is of, given the thing. A number: "Is the image readable? No: 13".
 unfoldable pub field : {A : Type 0} → (ℕ → Bool) → (ℕ → Format A) → Format A
 field allowed next = number (λ v. cond (allowed v) none (some 13)) (λ v place. next v)
 
@@ -46,8 +46,7 @@ counted allowed one update s next = field allowed (λ n. many-fields (one n) upd
 
 -- "low, high, rule, last (0 or 1), follow set": "low ≤ high, rules of positions below R and never falling, sets below 2^P"
 unfoldable pub position-format : {A : Type 0} → ℕ → ℕ → ℕ → (Position → Format A) → Format A
-position-format rules count before next =
-    field (between 0 most-byte)
+position-format rules count before next = field (between 0 most-byte)
     (λ low. field (between low most-byte)
     (λ high. field (λ v. leb before v && ltb v rules)
     (λ rule. flag-field
@@ -57,23 +56,20 @@ position-format rules count before next =
 -- "rule, tail length .., tail"; "Tails and their image field run to 32"; "production rules below R, rising and not skipping, tail
 -- members below the nonterminal count"
 unfoldable pub production-format : {A : Type 0} → List Bool → ℕ → ℕ → (Production → Format A) → Format A
-production-format skips count least next =
-    field (λ v. leb least v && (ltb v (length skips) && not (getD skips v true)))
+production-format skips count least next = field (λ v. leb least v && (ltb v (length skips) && not (getD skips v true)))
     (λ rule. counted (between 0 most-tail) (λ size (s : Bool). field (λ v. ltb v count)) (λ s m. s) true
     (λ size tail. next (record { head = rule; tail = tail })))
 
 -- "its ε flag, production count (0 to 32) and productions by rising rule"
 unfoldable pub row-format : {A : Type 0} → List Bool → ℕ → (Row → Format A) → Format A
-row-format skips count next =
-    flag-field
+row-format skips count next = flag-field
     (λ has-epsilon. counted (between 0 most-productions) (λ size. production-format skips count) (λ least p. suc (p .head)) 0
     (λ size productions. next (record { has-epsilon = has-epsilon; productions = productions })))
 
 -- "version 1; R; per rule 1 if it skips, else 0; position count P, 1 to 64; per position ..; first set; nonterminal count, 1 to 64; per
 -- nonterminal .."
 unfoldable pub image-format : {A : Type 0} → (Image → Format A) → Format A
-image-format next =
-    field (between 1 1)
+image-format next = field (between 1 1)
     (λ version. counted (between 1 most-rules) (λ rules (s : Bool). flag-field) (λ s b. s) true
     (λ rules skips. counted (between 1 most-positions) (position-format rules) (λ before p. p .rule) 0
     (λ count positions. field (λ v. ltb v (2 ^ count))
