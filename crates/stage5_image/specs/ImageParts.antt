@@ -44,6 +44,9 @@ productions-each : (Q : Production → Type 0) (ps : List Production)
     → EachFrom (λ least p. (least ≤ p .head) × Q p) (λ least p. suc (p .head)) 0 ps ↔ (All Q ps × Rising 0 ps)
 productions-each Q ps = each-both Q (λ least p. suc (p .head)) Rising (λ s. tt) (λ s p ps. (λ g. g, λ g. g)) 0 ps
 
+both : (a b : Bool) → (a && b) ≡ true → (a ≡ true) × (b ≡ true)
+both a b e = (and-true-first a b e, and-true-second a b e)
+
 module _ (bytes : List ℕ) where
   -- ---- numbers and flags
 
@@ -79,7 +82,7 @@ module _ (bytes : List ℕ) where
     rule-lawful : (before : ℕ) → Lawful bytes (λ X. field (λ v. leb before v && ltb v R)) (λ v. (before ≤ v) × (v < R)) just
     rule-lawful before =
         field-lawful bytes (λ v. leb before v && ltb v R) _
-        (λ v small e. (leb-true before v (and-true-first (leb before v) (ltb v R) e), ltb-true v R (and-true-second (leb before v) (ltb v R) e)))
+        (λ v small e. let t = both (leb before v) (ltb v R) e in (leb-true before v (t .0), ltb-true v R (t .1)))
         (λ v g. let h = g .1 in (omega arith, rw (le-leb before v (g .0), lt-ltb v R h)))
 
     position-lawful : (before : ℕ)
@@ -110,11 +113,9 @@ module _ (bytes : List ℕ) where
     head-lawful least =
         field-lawful bytes (λ v. leb least v && (ltb v (length skips) && not (getD skips v true))) _
         (λ v small e.
-        let rest = and-true-second (leb least v) (ltb v (length skips) && not (getD skips v true)) e in (
-          leb-true least v (and-true-first (leb least v) (ltb v (length skips) && not (getD skips v true)) e),
-          ltb-true v (length skips) (and-true-first (ltb v (length skips)) (not (getD skips v true)) rest),
-          negated (getD skips v true) (and-true-second (ltb v (length skips)) (not (getD skips v true)) rest),
-        ))
+        let t = both (leb least v) (ltb v (length skips) && not (getD skips v true)) e in
+        let u = both (ltb v (length skips)) (not (getD skips v true)) (t .1) in
+        (leb-true least v (t .0), ltb-true v (length skips) (u .0), negated (getD skips v true) (u .1)))
         (λ v g. let h = g .1 in (omega arith, rw (le-leb least v (g .0), lt-ltb v (length skips) h, g .2)))
       where
         negated : (b : Bool) → not b ≡ true → b ≡ false
@@ -149,7 +150,8 @@ module _ (bytes : List ℕ) where
         (λ r. (
           λ g. let e = productions-each (ProductionInRange skips N) (r .productions) .0 (g .1 .1 .1) in
               record { production-count = g .1 .0 .1; productions-in-range = e .0; rising = e .1 },
-          λ g. (tt, ((omega arith, g .production-count), (refl, productions-each (ProductionInRange skips N) (r .productions) .1 (g .productions-in-range, g .rising)))),
+          λ g. let e = productions-each (ProductionInRange skips N) (r .productions) .1 (g .productions-in-range, g .rising) in
+              (tt, ((omega arith, g .production-count), (refl, e))),
         ))
         (λ r. refl)
 
@@ -160,48 +162,45 @@ module _ (bytes : List ℕ) where
   image-lawful =
       like-lawful bytes
       (then-lawful bytes (between-lawful 1 1 (omega arith))
-      (λ version g. then-lawful bytes (between-lawful 1 most-rules (omega arith))
-      (λ rules R. then-lawful bytes (list-lawful bytes flag-lawful rules)
-      (λ skips S. then-lawful bytes (between-lawful 1 most-positions (omega arith))
-      (λ count P. then-lawful bytes (many-lawful bytes (λ before p. p .rule) (position-lawful rules count (R .1) (P .1)) count 0)
-      (λ positions g. then-lawful bytes (below-lawful (2 ^ count) (pow-mono (P .1)))
+      (λ version g. then-lawful bytes
+      (then-lawful bytes (between-lawful 1 most-rules (omega arith)) (λ rules R. list-lawful bytes flag-lawful rules))
+      (λ r R. then-lawful bytes
+      (then-lawful bytes (between-lawful 1 most-positions (omega arith))
+      (λ count P. many-lawful bytes (λ before p. p .rule) (position-lawful (r .0) count (R .0 .1) (P .1)) count 0))
+      (λ p P. then-lawful bytes (below-lawful (2 ^ p .0) (pow-mono (P .0 .1)))
       (λ first g. then-lawful bytes (between-lawful 1 most-nonterminals (omega arith))
       (λ nonterminals N. list-lawful bytes
-      (row-lawful skips nonterminals (subst (λ (n : ℕ). n ≤ most-rules) (sym (S .0)) (R .1)) (N .1)) nonterminals))))))))
-      (λ t. record { skips = t .1 .1 .0; positions = t .1 .1 .1 .1 .0; first = t .1 .1 .1 .1 .1 .0; rows = t .1 .1 .1 .1 .1 .1 .1 })
-      (λ i. (1, (length (i .skips), (i .skips, (length (i .positions), (i .positions, (i .first, (length (i .rows), i .rows))))))))
-      (λ t g. let one : 1 ≡ t .0 = omega (arith, g .0 .0, g .0 .1) in
-      λ j. (one j, (g .1 .1 .0 .0 j, (t .1 .1 .0, (g .1 .1 .1 .1 .0 .0 j, (t .1 .1 .1 .1 .0, (t .1 .1 .1 .1 .1 .0, (g .1 .1 .1 .1 .1 .1 .1 .0 j, t .1 .1 .1 .1 .1 .1 .1))))))))
+      (row-lawful (r .1) nonterminals (subst (λ (n : ℕ). n ≤ most-rules) (sym (R .1 .0)) (R .0 .1)) (N .1)) nonterminals))))))
+      (λ t. record { skips = t .1 .0 .1; positions = t .1 .1 .0 .1; first = t .1 .1 .1 .0; rows = t .1 .1 .1 .1 .1 })
+      (λ i. (1, ((length (i .skips), i .skips), ((length (i .positions), i .positions), (i .first, (length (i .rows), i .rows))))))
+      (λ t g j. (version-is (t .0) (g .0) j, ((g .1 .0 .1 .0 j, t .1 .0 .1), ((g .1 .1 .0 .1 .0 j, t .1 .1 .0 .1), (t .1 .1 .1 .0, (g .1 .1 .1 .1 .1 .0 j, t .1 .1 .1 .1 .1))))))
       (λ i. refl)
       (λ i. (
-        λ g. let ps = positions-each (PositionInRange (length (i .skips)) (length (i .positions))) (i .positions) .0 (g .1 .1 .1 .1 .0 .1) in record {
-          some-rules = g .1 .0 .0;
-          rule-count = g .1 .0 .1;
-          some-positions = g .1 .1 .1 .0 .0;
-          position-count = g .1 .1 .1 .0 .1;
+        λ g. let ps = positions-each (PositionInRange (length (i .skips)) (length (i .positions))) (i .positions) .0 (g .1 .1 .0 .1 .1) in record {
+          some-rules = g .1 .0 .0 .0;
+          rule-count = g .1 .0 .0 .1;
+          some-positions = g .1 .1 .0 .0 .0;
+          position-count = g .1 .1 .0 .0 .1;
           positions-in-range = ps .0;
           never-falling = ps .1;
-          first-below = g .1 .1 .1 .1 .1 .0;
-          some-rows = g .1 .1 .1 .1 .1 .1 .0 .0;
-          row-count = g .1 .1 .1 .1 .1 .1 .0 .1;
-          rows-in-range = g .1 .1 .1 .1 .1 .1 .1 .1;
+          first-below = g .1 .1 .1 .0;
+          some-rows = g .1 .1 .1 .1 .0 .0;
+          row-count = g .1 .1 .1 .1 .0 .1;
+          rows-in-range = g .1 .1 .1 .1 .1 .1;
         },
         λ r. let ps = positions-each (PositionInRange (length (i .skips)) (length (i .positions))) (i .positions) .1 (r .positions-in-range, r .never-falling) in (
           (omega arith, omega arith),
           (
-            (r .some-rules, r .rule-count),
-            (
-              (refl, each-unit (i .skips)),
-              (
-                (r .some-positions, r .position-count),
-                ((refl, ps), (r .first-below, ((r .some-rows, r .row-count), (refl, r .rows-in-range)))),
-              ),
-            ),
+            ((r .some-rules, r .rule-count), (refl, each-unit (i .skips))),
+            (((r .some-positions, r .position-count), (refl, ps)), (r .first-below, ((r .some-rows, r .row-count), (refl, r .rows-in-range)))),
           ),
         ),
       ))
       (λ i. refl)
     where
+      version-is : (v : ℕ) → (1 ≤ v) × (v ≤ 1) → 1 ≡ v
+      version-is v g = omega (arith, g .0, g .1)
+
       each-unit : (l : List Bool) → All (λ b. Unit {0}) l
       each-unit [] = tt
       each-unit (b ∷ l) = (tt, each-unit l)
