@@ -1,7 +1,7 @@
 -- An image: what is written for a sheet, as values, as numbers and as bytes ("The image").
-use mathlib.Core.Bool.{Bool, true, false, cond}
+use mathlib.Core.Bool.{Bool, cond}
 use mathlib.Core.List.{List, [], _∷_, _++_, map}
-use Prim.Native.Nat.{ℕ, zero, suc}
+use Prim.Native.Nat.{ℕ}
 use lib.ListN.{length}
 use lib.Dec.{eqb}
 use Rattle.stage1_sheet.specs.Sheet.{Rule, Sheet}
@@ -41,30 +41,36 @@ image-of s = plain-image (words-first-sheet s)
 unfoldable pub flag : Bool → ℕ
 flag b = cond b 1 0
 
-unfoldable pub flag-numbers : List Bool → List ℕ
-flag-numbers bs = map flag bs
+-- The numbers of several things, one after the other.
+abbrev pub all-numbers : {A : Type 0} → (A → List ℕ) → List A → List ℕ
+all-numbers numbers [] = []
+all-numbers numbers (a ∷ l) = numbers a ++ all-numbers numbers l
 
--- "per position low, high, rule, last (0 or 1), follow set"
-unfoldable pub position-numbers : List Position → List ℕ
-position-numbers [] = []
-position-numbers (p ∷ ps) = p .low ∷ p .high ∷ p .rule ∷ flag (p .last) ∷ p .follow ∷ position-numbers ps
+abbrev pub just : ℕ → List ℕ
+just n = n ∷ []
 
--- "productions by rising rule, each as rule, tail length .., tail"
-unfoldable pub production-numbers : List Production → List ℕ
-production-numbers [] = []
-production-numbers (p ∷ ps) = p .head ∷ length (p .tail) ∷ (p .tail ++ production-numbers ps)
+abbrev pub flag-number : Bool → List ℕ
+flag-number b = flag b ∷ []
 
--- "per nonterminal its ε flag, production count and productions"
-unfoldable pub row-numbers : List Row → List ℕ
-row-numbers [] = []
-row-numbers (r ∷ rs) = flag (r .has-epsilon) ∷ length (r .productions) ∷ (production-numbers (r .productions) ++ row-numbers rs)
+-- "low, high, rule, last (0 or 1), follow set"
+abbrev pub position-numbers : Position → List ℕ
+position-numbers p = p .low ∷ p .high ∷ p .rule ∷ flag (p .last) ∷ p .follow ∷ []
+
+-- "rule, tail length .., tail"
+abbrev pub production-numbers : Production → List ℕ
+production-numbers p = p .head ∷ length (p .tail) ∷ p .tail
+
+-- "its ε flag, production count .. and productions by rising rule"
+abbrev pub row-numbers : Row → List ℕ
+row-numbers r = flag (r .has-epsilon) ∷ length (r .productions) ∷ all-numbers production-numbers (r .productions)
 
 -- "version 1; R; per rule 1 if it skips, else 0; position count P; per position ..; first set; nonterminal count; per
 -- nonterminal .."
 unfoldable pub image-numbers : Image → List ℕ
 image-numbers i =
-    1 ∷ length (i .skips) ∷ (flag-numbers (i .skips)
-    ++ (length (i .positions) ∷ (position-numbers (i .positions) ++ (i .first ∷ length (i .rows) ∷ row-numbers (i .rows)))))
+    1 ∷ length (i .skips) ∷ (all-numbers flag-number (i .skips)
+    ++ (length (i .positions) ∷ (all-numbers position-numbers (i .positions)
+    ++ (i .first ∷ length (i .rows) ∷ all-numbers row-numbers (i .rows)))))
 
 -- An image's bytes: "Numbers as above".
 unfoldable pub image-bytes : Image → List ℕ

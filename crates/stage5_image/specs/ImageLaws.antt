@@ -27,7 +27,7 @@ use Rattle.stage4_lexer.specs.PositionBounds.{ByteClass, positions-in-range}
 use Rattle.stage5_image.specs.Image.{plain-image, image-of, image-bytes, skips-rule}
 use Rattle.stage5_image.specs.ImageRanges.{PositionInRange, InRange}
 use Rattle.stage5_image.specs.ImageReading.{read-image}
-use Rattle.stage5_image.specs.ImageRoundTrip.{read-back}
+use Rattle.stage5_image.specs.ReadableImages.{read-back}
 use Rattle.stage0_laws.specs.Members.{all-member}
 use Rattle.stage5_image.specs.NumberingLaws.{TailsInside, of-tail-members}
 use Rattle.stage5_image.specs.RowRanges.{TailsShort, rows-in-range, some-image-rows, image-row-count}

@@ -29,9 +29,8 @@ use Rattle.stage4_lexer.specs.Positions.{Position, empty-match}
 use Rattle.stage0_laws.specs.DistinctMembers.{distinct-few}
 use Rattle.stage0_laws.specs.MeetingLaws.{first-met-member}
 use Rattle.stage5_image.specs.Fusion.{fused}
-use Rattle.stage5_image.specs.Image.{Image, plain-image, image-of, flag, flag-numbers, position-numbers, production-numbers, row-numbers, image-numbers, image-bytes}
+use Rattle.stage5_image.specs.Image.{Image, plain-image, image-of, flag, all-numbers, flag-number, position-numbers, production-numbers, row-numbers, image-numbers, image-bytes}
 use Rattle.stage5_image.specs.ImageLaws.{normal-form-inside, normal-form-some, plain-in-range}
-use Rattle.stage5_image.specs.ImageNumbers.{all-numbers, flag-number, one-position-numbers, one-production-numbers, one-row-numbers, flags-are, positions-are, productions-are, rows-are}
 use Rattle.stage5_image.specs.ImageRanges.{PositionInRange, ProductionInRange, RowInRange, InRange}
 use Rattle.stage0_laws.specs.Members.{all-member, of-flatMap}
 use Rattle.stage5_image.specs.Numbering.{reached}
@@ -85,7 +84,7 @@ flag-small false = omega arith
 flag-width : (b : Bool) → width (flag-number b) ≤ 1
 flag-width b = omega (arith, width-small (flag-number b) (flag-small b, tt))
 
-position-width : (rules count : ℕ) (p : Position) → rules ≤ most-rules → PositionInRange rules count p → width (one-position-numbers p) ≤ 16
+position-width : (rules count : ℕ) (p : Position) → rules ≤ most-rules → PositionInRange rules count p → width (position-numbers p) ≤ 16
 position-width rules count p few g =
     let a = g .low-high in
     let b = g .high-byte in
@@ -117,28 +116,27 @@ abbrev pub most-row-bytes : ℕ
 most-row-bytes = 2 + most-rules * most-production-bytes
 
 production-width : (skips : List Bool) (count : ℕ) (p : Production) → length skips ≤ most-rules → count ≤ most-expression-nodes
-    → ProductionInRange skips count p → width (one-production-numbers p) ≤ most-production-bytes
+    → ProductionInRange skips count p → width (production-numbers p) ≤ most-production-bytes
 production-width skips count p few-rules few g =
     let a = g .rule-below in
     let b = g .tail-length in
-    omega (arith, width-small (one-production-numbers p) (omega arith, (omega arith, small-members count (p .tail) few (g .members-below))))
+    omega (arith, width-small (production-numbers p) (omega arith, (omega arith, small-members count (p .tail) few (g .members-below))))
 
 row-width : (skips : List Bool) (count : ℕ) (row : Row) → length skips ≤ most-rules → count ≤ most-expression-nodes
     → RowInRange skips count row
-    → width (one-row-numbers row) ≤ most-row-bytes
+    → width (row-numbers row) ≤ most-row-bytes
 row-width skips count row few-rules few g =
     let a = g .production-count in
     let ps = row .productions in
-    let most = width-all one-production-numbers most-production-bytes ps (each ps (g .productions-in-range)) in
+    let most = width-all production-numbers most-production-bytes ps (each ps (g .productions-in-range)) in
     omega (
       arith,
-      width-append (flag (row .has-epsilon) ∷ length ps ∷ []) (production-numbers ps),
+      width-append (flag (row .has-epsilon) ∷ length ps ∷ []) (all-numbers production-numbers ps),
       width-small (flag (row .has-epsilon) ∷ length ps ∷ []) (flag-small (row .has-epsilon), (omega arith, tt)),
-      ap width (productions-are ps),
       most,
     )
   where
-    each : (ps : List Production) → All (ProductionInRange skips count) ps → All (λ p. width (one-production-numbers p) ≤ most-production-bytes) ps
+    each : (ps : List Production) → All (ProductionInRange skips count) ps → All (λ p. width (production-numbers p) ≤ most-production-bytes) ps
     each [] h = tt
     each (p ∷ ps) h = (production-width skips count p few-rules few (h .0), each ps (h .1))
 
@@ -152,25 +150,20 @@ image-width i g =
     let rc = g .rule-count in
     let pc = g .position-count in
     let nc = g .row-count in
-    let last = i .first ∷ N ∷ row-numbers (i .rows) in
-    let fields = P ∷ (position-numbers (i .positions) ++ last) in
-    let flags : width (flag-numbers (i .skips)) ≤ R * 1 =
-    subst (λ (l : List ℕ). width l ≤ R * 1) (flags-are (i .skips)) (width-all flag-number 1 (i .skips) (all-flags (i .skips))) in
-    let positions : width (position-numbers (i .positions)) ≤ P * 16 =
-    subst (λ (l : List ℕ). width l ≤ P * 16) (positions-are (i .positions))
-    (width-all one-position-numbers 16 (i .positions) (all-positions (i .positions) (g .positions-in-range))) in
-    let rows : width (row-numbers (i .rows)) ≤ N * most-row-bytes =
-    subst (λ (l : List ℕ). width l ≤ N * most-row-bytes) (rows-are (i .rows))
-    (width-all one-row-numbers most-row-bytes (i .rows) (all-rows (i .rows) (g .rows-in-range))) in
-    let a = width-append (1 ∷ R ∷ []) (flag-numbers (i .skips) ++ fields) in
+    let last = i .first ∷ N ∷ all-numbers row-numbers (i .rows) in
+    let fields = P ∷ (all-numbers position-numbers (i .positions) ++ last) in
+    let flags = width-all flag-number 1 (i .skips) (all-flags (i .skips)) in
+    let positions = width-all position-numbers 16 (i .positions) (all-positions (i .positions) (g .positions-in-range)) in
+    let rows = width-all row-numbers most-row-bytes (i .rows) (all-rows (i .rows) (g .rows-in-range)) in
+    let a = width-append (1 ∷ R ∷ []) (all-numbers flag-number (i .skips) ++ fields) in
     let b = width-small (1 ∷ R ∷ []) (omega arith, (omega arith, tt)) in
-    let c = width-append (flag-numbers (i .skips)) fields in
-    let d = width-cons P (position-numbers (i .positions) ++ last) in
+    let c = width-append (all-numbers flag-number (i .skips)) fields in
+    let d = width-cons P (all-numbers position-numbers (i .positions) ++ last) in
     let e = one-byte P (omega arith) in
-    let f = width-append (position-numbers (i .positions)) last in
-    let h = width-cons (i .first) (N ∷ row-numbers (i .rows)) in
+    let f = width-append (all-numbers position-numbers (i .positions)) last in
+    let h = width-cons (i .first) (N ∷ all-numbers row-numbers (i .rows)) in
     let j = encode-ten (i .first) in
-    let k = width-cons N (row-numbers (i .rows)) in
+    let k = width-cons N (all-numbers row-numbers (i .rows)) in
     let l = one-byte N (omega arith) in
     omega arith
   where
@@ -179,12 +172,12 @@ image-width i g =
     all-flags (b ∷ bs) = (flag-width b, all-flags bs)
 
     all-positions : (ps : List Position) → All (PositionInRange (length (i .skips)) (length (i .positions))) ps
-        → All (λ p. width (one-position-numbers p) ≤ 16) ps
+        → All (λ p. width (position-numbers p) ≤ 16) ps
     all-positions [] h = tt
     all-positions (p ∷ ps) h =
         (position-width (length (i .skips)) (length (i .positions)) p (g .rule-count) (h .0), all-positions ps (h .1))
 
-    all-rows : (rs : List Row) → All (RowInRange (i .skips) (length (i .rows))) rs → All (λ r. width (one-row-numbers r) ≤ most-row-bytes) rs
+    all-rows : (rs : List Row) → All (RowInRange (i .skips) (length (i .rows))) rs → All (λ r. width (row-numbers r) ≤ most-row-bytes) rs
     all-rows [] h = tt
     all-rows (r ∷ rs) h = (row-width (i .skips) (length (i .rows)) r (g .rule-count) (g .row-count) (h .0), all-rows rs (h .1))
 

@@ -12,7 +12,7 @@ use Rattle.stage3_normal_form.specs.Productions.{Production, Row, most-tail}
 use Rattle.stage4_lexer.specs.Positions.{Position}
 use Rattle.stage4_lexer.specs.PositionBounds.{NeverFalling}
 use Rattle.stage5_image.specs.Image.{Image}
-use Rattle.stage5_image.specs.ImageFields.{most-positions, most-nonterminals, most-productions}
+use Rattle.stage5_image.specs.ImageFormat.{most-positions, most-nonterminals, most-productions}
 
 -- A position, where there are so many rules and positions.
 pub record PositionInRange (rules count : ℕ) (p : Position) : Type 0 where

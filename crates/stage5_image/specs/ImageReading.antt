@@ -1,9 +1,8 @@
--- Reading an image from bytes: question 13, "at the first offending number or leftover byte". "A readable image has every value
--- in these ranges, low ≤ high, rules of positions below R and never falling, sets below 2^P, production rules below R, rising
--- and not skipping, tail members below the nonterminal count, and nothing after."
-use mathlib.Core.Bool.{Bool, true, false, not, _&&_, cond}
-use mathlib.Core.List.{List, [], _∷_, _++_, map}
-use Prim.Native.Nat.{ℕ, zero, suc, _^_}
+-- Reading an image from bytes, a part at a time, as code reads it: question 13, "at the first offending number or leftover byte". Which
+-- numbers an image has is said by its format (ImageFormat), and that this reads by it in ReadableImages (`read-image-iff`).
+use mathlib.Core.Bool.{Bool, true, not, _&&_, cond}
+use mathlib.Core.List.{List}
+use Prim.Native.Nat.{ℕ, suc, _^_}
 use lib.ListN.{length, getD}
 use lib.Dec.{eqb, ltb, leb}
 use Rattle.stage0_number.specs.Number.{decode-fewest}
@@ -12,9 +11,9 @@ use Rattle.stage1_sheet.specs.Field.{Reading, stop, got, and-then, between, rea
 use Rattle.stage3_normal_form.specs.Productions.{Production, Row, most-tail}
 use Rattle.stage4_lexer.specs.Positions.{Position}
 use Rattle.stage5_image.specs.Image.{Image}
-use Rattle.stage5_image.specs.ImageFields.{most-positions, most-nonterminals, most-productions}
+use Rattle.stage5_image.specs.ImageFormat.{most-positions, most-nonterminals, most-productions}
 
--- A number of an image, in the fewest bytes: 13 where it is not readable, padded (FieldsLaws: `padded-offends`) or not allowed.
+-- A number of an image, in the fewest bytes: 13 where it is not readable, padded (ReadableImages: `padded-offends`) or not allowed.
 unfoldable pub image-field : (ℕ → Bool) → List ℕ → ℕ → Reading ℕ
 image-field = read-field decode-fewest 13 13
 

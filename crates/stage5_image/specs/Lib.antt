@@ -4,7 +4,7 @@ pub mod Fusion
 pub mod Numbering
 pub mod Image
 pub mod ImageRanges
-pub mod ImageFields
+pub mod ImageFormat
 pub mod ImageReading
 pub mod Unfolding
 pub mod Check
@@ -16,11 +16,10 @@ pub mod FusionLaws
 pub mod NumberingLaws
 pub mod Simulation
 pub mod UnfoldingLaws
-pub mod ImageNumbers
 pub mod ImageExamples
+pub mod FormatParts
+pub mod ImageParts
 pub mod ReadableImages
-pub mod ImageRoundTrip
-pub mod FieldsLaws
 pub mod UnreadableImages
 pub mod RowRanges
 pub mod ImageLaws

@@ -1,279 +1,238 @@
--- What reading bytes as an image gives: an image in range whose numbers are those bytes, with nothing after; or 13 at a place
--- within the bytes or at their end.
-use mathlib.Core.Path.{_≡_, refl, sym, ap, subst, subst₂, _∙_}
-use mathlib.Core.Bool.{Bool, true, false, not, _&&_, cond}
+-- Which bytes are readable: those that the reader of images accepts, which are those of an image in range; where it stops is the first
+-- offence. Bytes have one answer.
+use mathlib.Core.Path.{_≡_, refl, sym, ap, subst, _∙_}
+use mathlib.Core.Bool.{Bool, true, false, not, cond}
 use mathlib.Core.List.{List, [], _∷_, _++_}
-use Prim.Native.Nat.{ℕ, zero, suc, _+_, _^_, _≤_, _<_}
+use mathlib.Core.Logic.{_↔_, ⊎-elim}
+use mathlib.Core.Option.{Option, none, some}
+use Prim.Native.Nat.{ℕ, zero, suc, _+_, _-_, _≤_, _<_}
 use native.Mathlib.Omega.{arith}
-use lib.Dec.{eqb, ltb, leb, leb→le}
-use lib.ListN.{length, getD}
-use borrow.Author.Tests.{eqb-true, ltb-true}
-use Rattle.stage0_laws.specs.Lists.{All}
-use Rattle.stage0_laws.specs.Truth.{true-holds, and-true-first, and-true-second}
-use Rattle.stage0_number.specs.Number.{decode-fewest}
-use Rattle.stage0_number.specs.Laws.{fewest-within}
+use lib.ListN.{length, getD, drop, List·getD-append}
+use lib.Seq.{getD-append-add}
+use Rattle.stage0_laws.specs.Order.{lt-or-le}
+use Rattle.stage0_number.specs.Number.{InGroups, encode, decode-fewest}
+use Rattle.stage0_number.specs.Laws.{encode-bytes, padded-apart}
 use Rattle.stage0_number.specs.declared.Number.{Number}
 use Rattle.stage0_number.specs.declared.Number.the-variants.{Read, Refused}
-use Rattle.stage1_sheet.specs.Limits.{most-rules, most-classes, most-expression-nodes, most-byte}
-use Rattle.stage1_sheet.specs.Field.{Reading, stop, got, between, field-of, read-field, read-many}
-use Rattle.stage1_sheet.specs.FieldLaws.{Bytes, Stands, stands-none, stands-append, stands-whole, Outcome, refused, accepted, then-outcome, outcome-imply, outcome-got, outcome-stop, field-outcome, true-between}
-use Rattle.stage3_normal_form.specs.Productions.{Production, most-tail}
-use Rattle.stage4_lexer.specs.Positions.{Position}
-use Rattle.stage4_lexer.specs.PositionBounds.{NeverFalling}
-use Rattle.stage5_image.specs.Image.{Image, flag, image-numbers, image-bytes}
+use Rattle.stage1_sheet.specs.Spelling.{spell}
+use Rattle.stage1_sheet.specs.Field.{Reading, stop, got, and-then, between, field-of, read-field, read-many}
+use Rattle.stage1_sheet.specs.FieldLaws.{Bytes, Stands, stands-whole, Outcome, refused, accepted, outcome-got, outcome-stop}
+use Rattle.stage1_sheet.specs.Format.{Format, done, number, Asked, made, left-over, no-number, onward}
+use Rattle.stage1_sheet.specs.FormatLaws.{judged, asked, read-part, at-end, read, then-same, then-then, answer-one, read-iff}
+use Rattle.stage5_image.specs.Image.{Image, image-numbers, image-bytes}
 use Rattle.stage5_image.specs.ImageReading.{image-field, read-flag, read-list, read-position, read-production, read-row, image-end, read-image}
-use Rattle.stage5_image.specs.ImageNumbers.{all-numbers, just, flag-number, one-position-numbers, one-production-numbers, one-row-numbers, tail-is, flags-are, positions-are, productions-are, rows-are, EachFrom}
-use Rattle.stage5_image.specs.ImageRanges.{PositionInRange, ProductionInRange, Rising, RowInRange, InRange}
+use Rattle.stage5_image.specs.ImageFormat.{field, flag-field, many-fields, counted, position-format, production-format, row-format, image-format}
+use Rattle.stage5_image.specs.ImageFormat.{FewestAt, Answered, ReadableAs, FirstOffence}
+use Rattle.stage5_image.specs.ImageRanges.{InRange}
+use Rattle.stage5_image.specs.FormatParts.{fewest-front, fewest-once, fewest-finds, Leads, unread, through}
+use Rattle.stage5_image.specs.ImageParts.{image-lawful}
 
--- Numbers were read from a place on: their end lies within the bytes, and if these are bytes, the numbers stand there.
-pub record Taken (bytes : List ℕ) (at : ℕ) (numbers : List ℕ) (end : ℕ) : Type 0 where
-  pub inside : end ≤ length bytes
-  pub stands : Bytes bytes → Stands bytes at numbers end
-
--- A refusal of an image: 13, at a place within the bytes or at their end.
-abbrev pub Refusal : List ℕ → ℕ → ℕ → Type 0
-Refusal bytes question place = (question ≡ 13) × (place ≤ length bytes)
+-- ---- the reader of images reads by the format
 
 module _ (bytes : List ℕ) where
-  -- What reading a thing from a place gives: a good one, whose numbers were read, or a refusal.
-  abbrev Gives : {A : Type 0} → (A → Type 0) → (A → List ℕ) → ℕ → Reading A → Type 0
-  Gives Good numbers at r = Outcome (Refusal bytes) (λ a end. Good a × Taken bytes at (numbers a) end) r
+  abbrev part : {A : Type 0} → Format A → ℕ → Reading A
+  part f at = read-part (decode-fewest bytes) 13 f at
 
-  taken-none : (at : ℕ) → at ≤ length bytes → Taken bytes at [] at
-  taken-none at h = record { inside = h; stands = λ b. stands-none bytes at h }
+  -- A part is read by itself, and then what follows it.
+  record InTurn {A : Type 0} (f : (X : Type 0) → (A → Format X) → Format X) (one : ℕ → Reading A) : Type 1 where
+    turn : (X : Type 0) (next : A → Format X) (at : ℕ) → part (f X next) at ≡ and-then (one at) (λ a end. part (next a) end)
 
-  taken-append : {ms ns : List ℕ} {at mid end : ℕ} → Taken bytes at ms mid → Taken bytes mid ns end → Taken bytes at (ms ++ ns) end
-  taken-append s t = record { inside = t .inside; stands = λ b. stands-append (s .stands b) (t .stands b) }
+  -- A part of a part, and then what makes the whole of it.
+  over : {A B X : Type 0} {f : (X : Type 0) → (A → Format X) → Format X} {one : ℕ → Reading A} → InTurn f one → (next : A → Format X) (at : ℕ)
+      (g : A → ℕ → Reading B) (h : B → ℕ → Reading X) → ((a : A) (end : ℕ) → part (next a) end ≡ and-then (g a end) h)
+      → part (f X next) at ≡ and-then (and-then (one at) g) h
+  over {A} {B} {X} {f} {one} t next at g h e = t .turn X next at ∙ then-same (one at) e ∙ sym (then-then (one at) g h)
 
-  taken-as : {ms ns : List ℕ} {at end : ℕ} → ms ≡ ns → Taken bytes at ms end → Taken bytes at ns end
-  taken-as {ms} {ns} {at} {end} e t = subst (λ (l : List ℕ). Taken bytes at l end) e t
-
-  field-gives : (allowed : ℕ → Bool) (at : ℕ) → at ≤ length bytes → Gives (λ v. allowed v ≡ true) just at (image-field allowed bytes at)
-  unfolding image-field read-field field-of
-  field-gives allowed at h = go (decode-fewest bytes at) refl
+  field-turn : (allowed : ℕ → Bool) → InTurn (λ X. field allowed) (image-field allowed bytes)
+  unfolding field image-field read-field field-of
+  field-turn allowed = record {
+    turn = λ X next at. ap (λ (r : Reading ℕ). and-then r (λ v end. part (next v) end)) (by-number at (decode-fewest bytes at));
+  }
     where
-      stands : (v end : ℕ) → Bytes bytes → read-field decode-fewest 13 13 allowed bytes at ≡ got v end → Stands bytes at (v ∷ []) end
-      stands v end b e =
-          outcome-got (field-outcome 13 13 allowed bytes at (λ question place. Unit {0}) b tt tt) e .stands
+      by-test : (b : Bool) (v at end : ℕ) → judged (cond b none (some 13)) v at end ≡ cond b (got v end) (stop 13 at)
+      by-test true v at end = refl
+      by-test false v at end = refl
 
-      chosen : (v used : ℕ) (p : Bool) → decode-fewest bytes at ≡ Read v used p → (c : Bool) → allowed v ≡ c
-          → Gives (λ v. allowed v ≡ true) just at (cond c (got v (at + used)) (stop 13 at))
-      chosen v used p e true a = accepted v (at + used) (
-        a,
-        record {
-          inside = fewest-within bytes at e .inside;
-          stands = λ b.
-              stands v (at + used) b (ap (field-of 13 13 allowed at) e ∙ ap (λ (c : Bool). cond c (got v (at + used)) (stop 13 at)) a);
-        },
-      )
-      chosen v used p e false a = refused 13 at (refl, h)
+      by-number : (at : ℕ) (n : Number) → asked 13 (λ v. cond (allowed v) none (some 13)) at n ≡ field-of 13 13 allowed at n
+      by-number at Refused = refl
+      by-number at (Read v used fewest) = by-test (allowed v) v at (at + used)
 
-      go : (n : Number) → decode-fewest bytes at ≡ n → Gives (λ v. allowed v ≡ true) just at (field-of 13 13 allowed at n)
-      go Refused e = refused 13 at (refl, h)
-      go (Read v used p) e = chosen v used p e (allowed v) refl
+  flag-turn : InTurn (λ X. flag-field) (read-flag bytes)
+  unfolding flag-field read-flag
+  flag-turn = record { turn = λ X next at. over (field-turn (between 0 1)) _ at _ _ (λ v end. refl) }
 
-  flag-gives : (at : ℕ) → at ≤ length bytes → Gives (λ b. Unit {0}) flag-number at (read-flag bytes at)
-  unfolding read-flag flag
-  flag-gives at h =
-      then-outcome (field-gives (between 0 1) at h)
-      (λ v mid g. accepted (eqb v 1) mid (tt, taken-as (ap just (same v (true-between 0 1 v (g .0) .1))) (g .1)))
-    where
-      same : (v : ℕ) → v ≤ 1 → v ≡ flag (eqb v 1)
-      same zero h = refl
-      same (suc zero) h = refl
-      same (suc (suc v)) h = absurd (omega arith)
+  many-turn : {S A : Type 0} {f : S → (X : Type 0) → (A → Format X) → Format X} {one : S → ℕ → Reading A} (update : S → A → S)
+      → ((s : S) → InTurn (f s) (one s)) → (n : ℕ) (s : S) → InTurn (λ X. many-fields (λ s. f s X) update s n) (read-many one update s n)
+  unfolding many-fields read-many
+  many-turn update t zero s = record { turn = λ X next at. refl }
+  many-turn update t (suc n) s = record {
+    turn = λ X next at. over (t s) _ at _ _ (λ a mid. over (many-turn update t n (update s a)) _ mid _ _ (λ l end. refl));
+  }
 
-  many-gives : {S A : Type 0} (Good : S → A → Type 0) (numbers : A → List ℕ) (one : S → ℕ → Reading A) (update : S → A → S)
-      → ((s : S) (at : ℕ) → at ≤ length bytes → Gives (Good s) numbers at (one s at))
-      → (n : ℕ) (s : S) (at : ℕ) → at ≤ length bytes
-      → Gives (λ l. (length l ≡ n) × EachFrom Good update s l) (all-numbers numbers) at (read-many one update s n at)
-  unfolding read-many
-  many-gives Good numbers one update step zero s at h = accepted [] at ((refl, tt), taken-none at h)
-  many-gives Good numbers one update step (suc n) s at h =
-      then-outcome (step s at h)
-      (λ a mid g. then-outcome (many-gives Good numbers one update step n (update s a) mid (g .1 .inside))
-      (λ l end gs. accepted (a ∷ l) end ((ap suc (gs .0 .0), (g .0, gs .0 .1)), taken-append (g .1) (gs .1))))
-
-  list-gives : {A : Type 0} (Good : A → Type 0) (numbers : A → List ℕ) (one : ℕ → Reading A)
-      → ((at : ℕ) → at ≤ length bytes → Gives Good numbers at (one at))
-      → (n at : ℕ) → at ≤ length bytes → Gives (λ l. (length l ≡ n) × All Good l) (all-numbers numbers) at (read-list one n at)
+  list-turn : {A : Type 0} {f : (X : Type 0) → (A → Format X) → Format X} {one : ℕ → Reading A} → InTurn f one
+      → (n : ℕ) → InTurn (λ X. many-fields (λ (s : Bool). f X) (λ s a. s) true n) (read-list one n)
   unfolding read-list
-  list-gives Good numbers one step n at h =
-      outcome-imply (λ l end g. ((g .0 .0, each l (g .0 .1)), g .1))
-      (many-gives (λ (s : Bool) a. Good a) numbers (λ (s : Bool) at. one at) (λ s a. s) (λ s. step) n true at h)
-    where
-      each : (l : List _) → EachFrom (λ (s : Bool) a. Good a) (λ s a. s) true l → All Good l
-      each [] g = tt
-      each (a ∷ l) g = (g .0, each l (g .1))
+  list-turn t n = many-turn (λ s a. s) (λ s. t) n true
 
-  -- ---- positions
+  position-turn : (rules count before : ℕ) → InTurn (λ X. position-format rules count before) (read-position bytes rules count before)
+  unfolding position-format read-position
+  position-turn rules count before = record {
+    turn = λ X next at.
+        over (field-turn _) _ at _ _ (λ low m₁. over (field-turn _) _ m₁ _ _ (λ high m₂. over (field-turn _) _ m₂ _ _
+        (λ rule m₃. over flag-turn _ m₃ _ _ (λ last m₄. over (field-turn _) _ m₄ _ _ (λ follow m₅. refl)))));
+  }
 
-  abbrev GoodPosition : ℕ → ℕ → ℕ → Position → Type 0
-  GoodPosition rules count before p = (before ≤ p .rule) × PositionInRange rules count p
+  production-turn : (skips : List Bool) (count least : ℕ) → InTurn (λ X. production-format skips count least) (read-production bytes skips count least)
+  unfolding production-format counted read-production
+  production-turn skips count least = record {
+    turn = λ X next at.
+        over (field-turn _) _ at _ _ (λ rule m₁. over (field-turn _) _ m₁ _ _ (λ size m₂. over (list-turn (field-turn _) size) _ m₂ _ _ (λ tail m₃. refl)));
+  }
 
-  position-gives : (rules count before at : ℕ) → at ≤ length bytes
-      → Gives (GoodPosition rules count before) one-position-numbers at (read-position bytes rules count before at)
-  unfolding read-position
-  position-gives rules count before at h =
-      then-outcome (field-gives _ at h)
-      (λ low m₁ g₁. then-outcome (field-gives _ m₁ (g₁ .1 .inside))
-      (λ high m₂ g₂. then-outcome (field-gives _ m₂ (g₂ .1 .inside))
-      (λ rule m₃ g₃. then-outcome (flag-gives m₃ (g₃ .1 .inside))
-      (λ last m₄ g₄. then-outcome (field-gives _ m₄ (g₄ .1 .inside))
-      (λ follow m₅ g₅.
-      let range = true-between low most-byte high (g₂ .0) in
-      let rising = leb→le before rule (true-holds (leb before rule) (and-true-first (leb before rule) (ltb rule rules) (g₃ .0))) in
-      accepted _ m₅ (
-        (
-          rising,
-          record {
-            low-high = range .0;
-            high-byte = range .1;
-            rule-below = ltb-true rule rules (and-true-second (leb before rule) (ltb rule rules) (g₃ .0));
-            follow-below = ltb-true follow (2 ^ count) (g₅ .0);
-          },
-        ),
-        taken-append (g₁ .1) (taken-append (g₂ .1) (taken-append (g₃ .1) (taken-append (g₄ .1) (g₅ .1)))),
-      ))))))
+  row-turn : (skips : List Bool) (count : ℕ) → InTurn (λ X. row-format skips count) (read-row bytes skips count)
+  unfolding row-format counted read-row
+  row-turn skips count = record {
+    turn = λ X next at.
+        over flag-turn _ at _ _ (λ epsilon m₁. over (field-turn _) _ m₁ _ _ (λ size m₂.
+        over (many-turn (λ least p. suc (p .head)) (production-turn skips count) size 0) _ m₂ _ _ (λ productions m₃. refl)));
+  }
 
-  -- ---- productions and rows
+  abbrev of-image : Asked
+  of-image = record { whole = length bytes; missing = 13; leftover = 13 }
 
-  abbrev GoodProduction : List Bool → ℕ → ℕ → Production → Type 0
-  GoodProduction skips count least p = (least ≤ p .head) × ProductionInRange skips count p
+  -- A part, and then what follows it up to the last byte.
+  onto : {A X : Type 0} {f : (X : Type 0) → (A → Format X) → Format X} {one : ℕ → Reading A} → InTurn f one → (next : A → Format X) (at : ℕ)
+      (g : A → ℕ → Reading X) → ((a : A) (end : ℕ) → and-then (part (next a) end) (at-end of-image) ≡ g a end)
+      → and-then (part (f X next) at) (at-end of-image) ≡ and-then (one at) g
+  onto {A} {X} {f} {one} t next at g e =
+      ap (λ (r : Reading X). and-then r (at-end of-image)) (t .turn X next at) ∙ then-then (one at) _ (at-end of-image) ∙ then-same (one at) e
 
-  production-gives : (skips : List Bool) (count least at : ℕ) → at ≤ length bytes
-      → Gives (GoodProduction skips count least) one-production-numbers at (read-production bytes skips count least at)
-  unfolding read-production
-  production-gives skips count least at h =
-      then-outcome (field-gives _ at h)
-      (λ rule m₁ g₁. then-outcome (field-gives _ m₁ (g₁ .1 .inside))
-      (λ size m₂ g₂. then-outcome (list-gives (λ n. ltb n count ≡ true) just _ (field-gives _) size m₂ (g₂ .1 .inside))
-      (λ tail m₃ g₃.
-      let inside = ltb rule (length skips) && not (getD skips rule true) in
-      let below : (ltb rule (length skips) && not (getD skips rule true)) ≡ true = and-true-second (leb least rule) inside (g₁ .0) in
-      let rising = leb→le least rule (true-holds (leb least rule) (and-true-first (leb least rule) inside (g₁ .0))) in
-      let short : size ≤ most-tail = true-between 0 most-tail size (g₂ .0) .1 in
-      let same = g₃ .0 .0 in
-      accepted _ m₃ (
-        (
-          rising,
-          record {
-            rule-below = ltb-true rule (length skips) (and-true-first (ltb rule (length skips)) (not (getD skips rule true)) below);
-            not-skipping = negated (getD skips rule true) (and-true-second (ltb rule (length skips)) (not (getD skips rule true)) below);
-            tail-length = omega arith;
-            members-below = each tail (g₃ .0 .1);
-          },
-        ),
-        taken-append (g₁ .1) (taken-append (taken-as (ap just (sym same)) (g₂ .1)) (taken-as (tail-is tail) (g₃ .1))),
-      ))))
-    where
-      negated : (b : Bool) → not b ≡ true → b ≡ false
-      negated true e = sym e
-      negated false e = refl
+  image-turn : read (decode-fewest bytes) of-image (image-format done) 0 ≡ read-image bytes
+  unfolding image-format counted read-image image-end
+  image-turn =
+      onto (field-turn _) _ 0 _ (λ version m₁. onto (field-turn _) _ m₁ _ (λ rules m₂. onto (list-turn flag-turn rules) _ m₂ _
+      (λ skips m₃. onto (field-turn _) _ m₃ _
+      (λ count m₄. onto (many-turn (λ before p. p .rule) (position-turn rules count) count 0) _ m₄ _
+      (λ ps m₅. onto (field-turn _) _ m₅ _ (λ first m₆. onto (field-turn _) _ m₆ _
+      (λ nonterminals m₇. onto (list-turn (row-turn skips nonterminals) nonterminals) _ m₇ _ (λ rows end. refl))))))))
 
-      each : (l : List ℕ) → All (λ n. ltb n count ≡ true) l → All (λ n. n < count) l
-      each [] g = tt
-      each (n ∷ l) g = (ltb-true n count (g .0), each l (g .1))
+-- ---- the answer
 
-  row-gives : (skips : List Bool) (count at : ℕ) → at ≤ length bytes
-      → Gives (RowInRange skips count) one-row-numbers at (read-row bytes skips count at)
-  unfolding read-row
-  row-gives skips count at h =
-      then-outcome (flag-gives at h)
-      (λ empty m₁ g₁. then-outcome (field-gives _ m₁ (g₁ .1 .inside))
-      (λ size m₂ g₂. then-outcome (many-gives (GoodProduction skips count) one-production-numbers _ _ (production-gives skips count) size 0 m₂ (g₂ .1 .inside))
-      (λ ps m₃ g₃.
-      let few : size ≤ most-rules = true-between 0 most-rules size (g₂ .0) .1 in
-      let same = g₃ .0 .0 in
-      accepted _ m₃ (
-        record { production-count = omega arith; productions-in-range = ranges 0 ps (g₃ .0 .1); rising = rises 0 ps (g₃ .0 .1) },
-        taken-append (g₁ .1) (taken-append (taken-as (ap just (sym same)) (g₂ .1)) (taken-as (productions-are ps) (g₃ .1))),
-      ))))
-    where
-      ranges : (least : ℕ) (ps : List Production) → EachFrom (GoodProduction skips count) (λ least p. suc (p .head)) least ps
-          → All (ProductionInRange skips count) ps
-      ranges least [] g = tt
-      ranges least (p ∷ ps) g = (g .0 .1, ranges (suc (p .head)) ps (g .1))
+-- Bytes have one answer: one image or one first offence, and not both.
+image-answer-one : (bytes : List ℕ) {x y : Reading Image} → Answered bytes (image-format done) 0 x → Answered bytes (image-format done) 0 y → x ≡ y
+image-answer-one bytes = answer-one (FewestAt bytes) (of-image bytes) (fewest-once bytes)
 
-      rises : (least : ℕ) (ps : List Production) → EachFrom (GoodProduction skips count) (λ least p. suc (p .head)) least ps → Rising least ps
-      rises least [] g = tt
-      rises least (p ∷ ps) g = (g .0 .0, rises (suc (p .head)) ps (g .1))
+-- The reader gives it.
+pub read-image-iff : (bytes : List ℕ) → Bytes bytes → (x : Reading Image) → (read-image bytes ≡ x) ↔ Answered bytes (image-format done) 0 x
+read-image-iff bytes b x =
+    let iff = read-iff (FewestAt bytes) (of-image bytes) (decode-fewest bytes) (fewest-finds bytes b) (fewest-once bytes) (image-format done) 0 (omega arith) x in
+    (λ e. iff .0 (image-turn bytes ∙ e), λ a. sym (image-turn bytes) ∙ iff .1 a)
 
-  -- ---- the image
+pub readable-one : (bytes : List ℕ) (i j : Image) → ReadableAs bytes i → ReadableAs bytes j → i ≡ j
+readable-one bytes i j r q = let e = image-answer-one bytes r q in cc
 
-  -- An image that was read to the last byte: in range, and its numbers are the bytes.
-  record WhollyRead (i : Image) (end : ℕ) : Type 0 where
-    in-range : InRange i
-    whole : end ≡ length bytes
-    taken : Taken bytes 0 (image-numbers i) end
+pub first-offence-one : (bytes : List ℕ) (p q : ℕ) → FirstOffence bytes p → FirstOffence bytes q → p ≡ q
+first-offence-one bytes p q x y = let e = image-answer-one bytes x y in cc
 
-  -- "and nothing after"
-  ended : (i : Image) (end : ℕ) → InRange i → Taken bytes 0 (image-numbers i) end → Outcome (Refusal bytes) WhollyRead (image-end bytes i end)
-  unfolding image-end
-  ended i end g t = go (eqb end (length bytes)) refl
-    where
-      go : (b : Bool) → eqb end (length bytes) ≡ b → Outcome (Refusal bytes) WhollyRead (cond b (got i end) (stop 13 end))
-      go true e = accepted i end (record { in-range = g; whole = eqb-true end (length bytes) e; taken = t })
-      go false e = refused 13 end (refl, t .inside)
+-- An answer is 13, within the bytes or at their end, or an image in range, whose bytes they are, with nothing after.
+abbrev AnswerIs : List ℕ → Reading Image → Type 0
+AnswerIs bytes x =
+    Outcome (λ question place. (question ≡ 13) × (place ≤ length bytes)) (λ i end. InRange i × (end ≡ length bytes) × (bytes ≡ image-bytes i)) x
 
-  position-ranges : (R P before : ℕ) (ps : List Position) → EachFrom (GoodPosition R P) (λ before p. p .rule) before ps
-      → All (PositionInRange R P) ps
-  position-ranges R P before [] g = tt
-  position-ranges R P before (p ∷ ps) g = (g .0 .1, position-ranges R P (p .rule) ps (g .1))
-
-  position-rules : (R P before : ℕ) (ps : List Position) → EachFrom (GoodPosition R P) (λ before p. p .rule) before ps → NeverFalling before ps
-  position-rules R P before [] g = tt
-  position-rules R P before (p ∷ ps) g = (g .0 .0, position-rules R P (p .rule) ps (g .1))
-
-  image-gives : Outcome (Refusal bytes) WhollyRead (read-image bytes)
-  unfolding read-image image-numbers
-  image-gives =
-      then-outcome (field-gives _ 0 (omega arith))
-      (λ version m₁ g₁. then-outcome (field-gives _ m₁ (g₁ .1 .inside))
-      (λ R m₂ g₂. then-outcome (list-gives (λ b. Unit {0}) flag-number _ flag-gives R m₂ (g₂ .1 .inside))
-      (λ skips m₃ g₃. then-outcome (field-gives _ m₃ (g₃ .1 .inside))
-      (λ P m₄ g₄. then-outcome (many-gives (GoodPosition R P) one-position-numbers _ _ (position-gives R P) P 0 m₄ (g₄ .1 .inside))
-      (λ ps m₅ g₅. then-outcome (field-gives _ m₅ (g₅ .1 .inside))
-      (λ first m₆ g₆. then-outcome (field-gives _ m₆ (g₆ .1 .inside))
-      (λ N m₇ g₇. then-outcome (list-gives (RowInRange skips N) one-row-numbers _ (row-gives skips N) N m₇ (g₇ .1 .inside))
-      (λ rows m₈ g₈.
-      let one = true-between 1 1 version (g₁ .0) in
-      let rules = true-between 1 most-rules R (g₂ .0) in
-      let positions = true-between 1 most-classes P (g₄ .0) in
-      let nonterminals = true-between 1 most-expression-nodes N (g₇ .0) in
-      let same-R : R ≡ length skips = sym (g₃ .0 .0) in
-      let same-P : P ≡ length ps = sym (g₅ .0 .0) in
-      let same-N : N ≡ length rows = sym (g₈ .0 .0) in
-      let first-small = ltb-true first (2 ^ P) (g₆ .0) in
-      ended (record { skips = skips; positions = ps; first = first; rows = rows }) m₈
-      (record {
-        some-rules = omega arith;
-        rule-count = omega arith;
-        some-positions = omega arith;
-        position-count = omega arith;
-        positions-in-range = subst₂ (λ (r p : ℕ). All (PositionInRange r p) ps) same-R same-P (position-ranges R P 0 ps (g₅ .0 .1));
-        never-falling = position-rules R P 0 ps (g₅ .0 .1);
-        first-below = subst (λ (p : ℕ). first < 2 ^ p) same-P first-small;
-        some-rows = omega arith;
-        row-count = omega arith;
-        rows-in-range = subst (λ (n : ℕ). All (RowInRange skips n) rows) same-N (g₈ .0 .1);
-      })
-      (taken-append (taken-as (ap just (let z : version ≡ 1 = omega arith in z)) (g₁ .1)) (taken-append (taken-as (ap just same-R) (g₂ .1))
-      (taken-append (taken-as (flags-are skips) (g₃ .1)) (taken-append (taken-as (ap just same-P) (g₄ .1))
-      (taken-append (taken-as (positions-are ps) (g₅ .1)) (taken-append (g₆ .1)
-      (taken-append (taken-as (ap just same-N) (g₇ .1)) (taken-as (rows-are rows) (g₈ .1)))))))))))))))))
-
--- Whatever is read as an image is in range, and reading ends at the last byte.
-pub read-in-range : (bytes : List ℕ) (i : Image) (end : ℕ) → read-image bytes ≡ got i end → InRange i × (end ≡ length bytes)
-read-in-range bytes i end e = let r = outcome-got (image-gives bytes) e in (r .in-range, r .whole)
-
--- A refusal is 13, at a place within the bytes or at their end.
-pub read-refusal : (bytes : List ℕ) (question place : ℕ) → read-image bytes ≡ stop question place → (question ≡ 13) × (place ≤ length bytes)
-read-refusal bytes question place e = outcome-stop (image-gives bytes) e
-
--- Whatever bytes are read as an image are that image's bytes.
-pub read-exact : (bytes : List ℕ) → Bytes bytes → (i : Image) (end : ℕ) → read-image bytes ≡ got i end → bytes ≡ image-bytes i
+answer-is : (bytes : List ℕ) {x : Reading Image} → Answered bytes (image-format done) 0 x → AnswerIs bytes x
 unfolding image-bytes
-read-exact bytes b i end e =
-    let r = outcome-got (image-gives bytes) e in
-    stands-whole bytes (image-numbers i) .0 (subst (Stands bytes 0 (image-numbers i)) (r .whole) (r .taken .stands b))
+answer-is bytes a = by-lead ((image-lawful bytes) .reads Image done (omega arith) a)
+  where
+    ended : {i : Image} {mid : ℕ} {x : Reading Image} → InRange i → Stands bytes 0 (image-numbers i) mid → Answered bytes (done i) mid x
+        → AnswerIs bytes x
+    ended {i} {mid} g s (made e) =
+        accepted i mid (g, e, stands-whole bytes (image-numbers i) .0 (subst (Stands bytes 0 (image-numbers i)) e s))
+    ended {mid = mid} g s (left-over l) = refused 13 mid (refl, s .inside)
+
+    by-lead : {x : Reading Image} → Leads bytes InRange image-numbers done 0 x → AnswerIs bytes x
+    by-lead (unread {place = place} l) = refused 13 place (refl, l)
+    by-lead (through i g s r) = ended g s r
+
+-- Readable bytes are those of an image in range.
+pub readable-ranges : (bytes : List ℕ) (i : Image) → ReadableAs bytes i ↔ (InRange i × (bytes ≡ image-bytes i))
+unfolding image-bytes
+readable-ranges bytes i = (
+  λ r. let a = outcome-got (answer-is bytes r) refl in (a .0, a .2),
+  λ g. (image-lawful bytes) .writes Image done i (g .0) (stands-whole bytes (image-numbers i) .1 (g .1)) (made refl),
+)
+
+-- So an image has one spelling.
+pub readable-written : (bytes : List ℕ) (i : Image) → ReadableAs bytes i → bytes ≡ image-bytes i
+readable-written bytes i r = readable-ranges bytes i .0 r .1
+
+-- An image in range is readable from its bytes.
+pub image-readable : (i : Image) → InRange i → ReadableAs (image-bytes i) i
+image-readable i g = readable-ranges (image-bytes i) i .1 (g, refl)
+
+-- ---- the reader's answer
+
+module _ (bytes : List ℕ) (b : Bytes bytes) where
+  answer-read : {x : Reading Image} → read-image bytes ≡ x → AnswerIs bytes x
+  answer-read {x} e = answer-is bytes (read-image-iff bytes b x .0 e)
+
+  -- Whatever is read as an image is in range, and reading ends at the last byte.
+  pub read-in-range : (i : Image) (end : ℕ) → read-image bytes ≡ got i end → InRange i × (end ≡ length bytes)
+  read-in-range i end e = let a = outcome-got (answer-read e) refl in (a .0, a .1)
+
+  -- A refusal is 13, at a place within the bytes or at their end.
+  pub read-refusal : (question place : ℕ) → read-image bytes ≡ stop question place → (question ≡ 13) × (place ≤ length bytes)
+  read-refusal question place e = outcome-stop (answer-read e) refl
+
+  -- Where the reader stops is the first offence.
+  pub stop-offends : (question place : ℕ) → read-image bytes ≡ stop question place → FirstOffence bytes place
+  stop-offends question place e =
+      read-image-iff bytes b (stop 13 place) .0 (e ∙ ap (λ (q : ℕ). stop q place) (read-refusal question place e .0))
+
+  -- What it reads is readable as that.
+  pub read-readable : (i : Image) (end : ℕ) → read-image bytes ≡ got i end → ReadableAs bytes i
+  read-readable i end e = read-image-iff bytes b (got i (length bytes)) .0 (e ∙ ap (got i) (read-in-range i end e .1))
+
+  -- It reads what is readable.
+  pub readable-read : (i : Image) → ReadableAs bytes i → read-image bytes ≡ got i (length bytes)
+  readable-read i r = read-image-iff bytes b (got i (length bytes)) .1 r
+
+-- An image's bytes are bytes.
+spell-bytes : (ns : List ℕ) → Bytes (spell ns)
+unfolding spell
+spell-bytes [] i = omega arith
+spell-bytes (n ∷ ns) i =
+    ⊎-elim
+    (λ l. subst (λ (v : ℕ). v < 256) (sym (List·getD-append (encode n) (spell ns) 0 i l)) (encode-bytes n i))
+    (λ l. let k = i - length (encode n) in
+    let e : length (encode n) + k ≡ i = omega arith in
+    let f = getD-append-add (encode n) (spell ns) k 0 in
+    subst (λ (j : ℕ). getD (encode n ++ spell ns) j 0 < 256) e (subst (λ (v : ℕ). v < 256) (sym f) (spell-bytes ns k)))
+    (lt-or-le i (length (encode n)))
+
+pub image-are-bytes : (i : Image) → Bytes (image-bytes i)
+unfolding image-bytes
+image-are-bytes i = spell-bytes (image-numbers i)
+
+-- An image in range, written as bytes, is read back as it was, and nothing is left over.
+pub read-back : (i : Image) → InRange i → read-image (image-bytes i) ≡ got i (length (image-bytes i))
+read-back i g = readable-read (image-bytes i) (image-are-bytes i) i (image-readable i g)
+
+-- ---- padded numbers
+
+-- The numbers from a place on are allowed in a format, up to another place, where the rest of it is due.
+pub data Reaches (bytes : List ℕ) {A : Type 0} : Format A → ℕ → Format A → ℕ → Type 0 where
+  there : {f : Format A} {at : ℕ} → Reaches bytes f at f at
+  past : {ask : ℕ → Option ℕ} {next : ℕ → ℕ → Format A} {rest : Format A} {at v mid end : ℕ} → FewestAt bytes at v mid → ask v ≡ none
+      → Reaches bytes (next v at) mid rest end → Reaches bytes (number ask next) at rest end
+
+reaches-answer : {bytes : List ℕ} {A : Type 0} {f rest : Format A} {at end : ℕ} {x : Reading A} → Reaches bytes f at rest end → Answered bytes rest end x
+    → Answered bytes f at x
+reaches-answer there a = a
+reaches-answer (past s e r) a = onward s e (reaches-answer r a)
+
+-- "still 13 in an image": where the numbers before it are allowed, a padded number offends, at its first byte, whatever its value.
+pub padded-offends : {bytes : List ℕ} {at : ℕ} {ask : ℕ → Option ℕ} {next : ℕ → ℕ → Format Image} → Reaches bytes (image-format done) 0 (number ask next) at
+    → {n : ℕ} {padded : List ℕ} → InGroups n padded → length (encode n) < length padded → (more : List ℕ) → drop at bytes ≡ padded ++ more
+    → FirstOffence bytes at
+padded-offends {bytes} {at} r g l more e =
+    reaches-answer r (no-number (λ v mid s. padded-apart g l v more (drop mid bytes) (s .below) (sym e ∙ fewest-front s)))

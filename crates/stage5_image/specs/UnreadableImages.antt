@@ -7,8 +7,8 @@ use Rattle.stage0_laws.specs.Lists.{All}
 use Rattle.stage0_laws.specs.Members.{_&_}
 use Rattle.stage1_sheet.specs.Field.{stop}
 use Rattle.stage1_sheet.specs.FieldLaws.{all-bytes, tested-bytes}
-use Rattle.stage5_image.specs.ImageFields.{FirstOffence}
-use Rattle.stage5_image.specs.FieldsLaws.{stop-offends}
+use Rattle.stage5_image.specs.ImageFormat.{FirstOffence}
+use Rattle.stage5_image.specs.ReadableImages.{stop-offends}
 use Rattle.stage5_image.specs.ImageReading.{read-image}
 use Rattle.stage5_image.specs.Computing.{computing-image}
 

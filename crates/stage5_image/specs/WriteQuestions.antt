@@ -13,8 +13,8 @@ use Rattle.stage1_sheet.specs.Sheet.{Sheet}
 use Rattle.stage1_sheet.specs.Spelling.{Bytes}
 use Rattle.stage4_lexer.specs.EmptyWord.{none-empty}
 use Rattle.stage5_image.specs.Image.{image-of, image-bytes}
-use Rattle.stage5_image.specs.ImageFields.{ReadableAs}
-use Rattle.stage5_image.specs.FieldsLaws.{readable-written, image-readable}
+use Rattle.stage5_image.specs.ImageFormat.{ReadableAs}
+use Rattle.stage5_image.specs.ReadableImages.{readable-written, image-readable}
 use Rattle.stage5_image.specs.ImageLaws.{image-in-range}
 use Rattle.stage5_image.specs.ImageLength.{most-image-bytes, image-fits}
 use Rattle.stage5_image.specs.Check.{work-bytes, Verdict, failed, passed, check}

@@ -5,7 +5,7 @@ use Prim.Native.Nat.{ℕ, _≤_, _<_}
 use lib.ListN.{length}
 use Rattle.stage1_sheet.specs.Sheet.{Sheet}
 use Rattle.stage5_image.specs.Image.{image-of}
-use Rattle.stage5_image.specs.ImageFields.{ReadableAs}
+use Rattle.stage5_image.specs.ImageFormat.{ReadableAs}
 use Rattle.stage5_image.specs.Check.{failed, passed}
 use Rattle.stage5_image.specs.Checks.{Passable, Checks}
 use Rattle.stage5_image.specs.Write.{Written, refused, too-long, written}

@@ -6,7 +6,7 @@ use Prim.Native.Nat.{ℕ, zero, suc, _≤_, _<_}
 use native.Mathlib.Omega.{arith}
 use lib.ListN.{getD, length, take}
 use lib.Seq.{take-suc, take-length}
-use Rattle.stage5_image.specs.ImageNumbers.{all-numbers}
+use Rattle.stage5_image.specs.Image.{all-numbers}
 
 unfoldable pub concat-below : (ℕ → List ℕ) → ℕ → List ℕ
 concat-below f zero = []

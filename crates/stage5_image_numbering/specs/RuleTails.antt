@@ -11,7 +11,7 @@ use Rattle.stage1_sheet.specs.Regex.{empty}
 use Rattle.stage1_sheet.specs.Sheet.{Rule}
 use Rattle.stage3_normal_form.specs.Productions.{Production, production-of}
 use Rattle.stage5_image.specs.Fusion.{by-rule, fused-from}
-use Rattle.stage5_image.specs.ImageNumbers.{all-numbers}
+use Rattle.stage5_image.specs.Image.{all-numbers}
 use Rattle.stage5_image.specs.Numbering.{tail-members}
 use Rattle.stage0_laws.specs.Members.{getD-map-inside}
 use Rattle.stage5_image.specs.Simulation.{tail-of}

@@ -19,8 +19,7 @@ use Rattle.stage3_normal_form.specs.NullExact.{null-is-epsilon}
 use Rattle.stage3_normal_form_walk.specs.Columns.{tail-held}
 use Rattle.stage3_normal_form_walk.specs.declared.Tail.{Tail}
 use Rattle.stage5_image.specs.Fusion.{fused-from, fused-row, fused}
-use Rattle.stage5_image.specs.Image.{flag, production-numbers}
-use Rattle.stage5_image.specs.ImageNumbers.{all-numbers, one-production-numbers, productions-are}
+use Rattle.stage5_image.specs.Image.{flag, all-numbers, production-numbers}
 use Rattle.stage5_image.specs.Numbering.{reached, renumbered}
 use Rattle.stage5_image_numbering.specs.Below.{concat-below}
 use Rattle.stage5_image_numbering.specs.Grammar.{GrammarOf}
@@ -81,16 +80,16 @@ counted-all g rules e h node r count a b so-far =
 
 -- The numbers of a rule's production in a node's row.
 abbrev pub rule-numbers : List ℕ → List Rule → Expression → ℕ → ℕ → List ℕ
-rule-numbers all rules e node r = rule-part (λ p. one-production-numbers (renumbered all p)) r (rule-tail rules (productions-of e node) r)
+rule-numbers all rules e node r = rule-part (λ p. production-numbers (renumbered all p)) r (rule-tail rules (productions-of e node) r)
 
 pub production-more : {a b c : List ℕ} {at n m : ℕ} (all : List ℕ) (rules : List Rule) (e : Expression) (node r : ℕ) (t : Tail)
     → tail-held t ≡ rule-tail rules (productions-of e node) r → Emitted a b at n (concat-below (rule-numbers all rules e node) r)
     → Emitted b c n m (production-part all r t) → Emitted a c at m (concat-below (rule-numbers all rules e node) (r + 1))
 production-more all rules e node r t found so-far one =
-    one-more (rule-numbers all rules e node) r so-far (emitted-same (same ∙ ap (rule-part (λ p. one-production-numbers
+    one-more (rule-numbers all rules e node) r so-far (emitted-same (same ∙ ap (rule-part (λ p. production-numbers
     (renumbered all p)) r) found) one)
   where
-    same : production-part all r t ≡ rule-part (λ p. one-production-numbers (renumbered all p)) r (tail-held t)
+    same : production-part all r t ≡ rule-part (λ p. production-numbers (renumbered all p)) r (tail-held t)
     same = unfold production-part in refl
 
 pub productions-emitted : {a b : List ℕ} {at n : ℕ} (g : Grammar) (all : List ℕ) (rules : List Rule) (e : Expression) → GrammarOf g rules e
@@ -100,7 +99,7 @@ unfolding productions-part
 productions-emitted g all rules e h node r l m x =
     let same : r ≡ length rules = omega (arith, h .rule-count) in
     emitted-same (ap (concat-below (rule-numbers all rules e node)) same
-    ∙ fused-parts (λ p. one-production-numbers (renumbered all p)) (productions-of e node) rules) x
+    ∙ fused-parts (λ p. production-numbers (renumbered all p)) (productions-of e node) rules) x
 
 -- ---- the row
 
@@ -129,10 +128,10 @@ row-emitted {a} {b} {c} {d} {f} {at} {v} {n} {m} {l} g all rules e h node inside
     ∙ null-empty g rules e h node inside) in
     let counts : count ≡ length (map (renumbered all) ps) = is-count ∙ sym (length-map ps (renumbered all)) in
     let width : length (encode 0) ≡ length (encode count) = one-byte 0 (omega arith) ∙ sym (one-byte count (omega arith)) in
-    let numbers : all-numbers (λ p. one-production-numbers (renumbered all p)) ps ≡ production-numbers (map (renumbered all) ps) =
-    sym (map-numbers one-production-numbers (renumbered all) ps) ∙ productions-are (map (renumbered all) ps) in
+    let numbers : all-numbers (λ p. production-numbers (renumbered all p)) ps ≡ all-numbers production-numbers (map (renumbered all) ps) =
+    sym (map-numbers production-numbers (renumbered all) ps) in
     emitted-append (emitted-same flags x)
-    (emitted-same (ap (λ (k : ℕ). k ∷ production-numbers (map (renumbered all) ps)) counts)
+    (emitted-same (ap (λ (k : ℕ). k ∷ all-numbers production-numbers (map (renumbered all) ps)) counts)
     (emitted-over width y (emitted-same numbers z) w))
 
 -- ---- all rows

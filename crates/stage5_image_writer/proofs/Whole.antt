@@ -18,8 +18,7 @@ use Rattle.stage4_lexer.specs.Positions.{Position, positions}
 use Rattle.stage4_lexer_columns.specs.Held.{held-position, held-from, held-positions}
 use Rattle.stage4_lexer_columns.specs.declared.PositionColumns.{PositionColumns}
 use Rattle.stage5_image.specs.Fusion.{fused-row, fused}
-use Rattle.stage5_image.specs.Image.{Image, skips-rule, plain-image, image-bytes, flag, flag-numbers, position-numbers, row-numbers, image-numbers}
-use Rattle.stage5_image.specs.ImageNumbers.{flag-number, one-position-numbers, one-row-numbers, flags-are, positions-are, rows-are}
+use Rattle.stage5_image.specs.Image.{Image, skips-rule, plain-image, image-bytes, flag, all-numbers, flag-number, position-numbers, row-numbers, image-numbers}
 use Rattle.stage5_image.specs.Numbering.{reached, renumbered-row, numbered}
 use Rattle.stage0_laws.specs.Members.{getD-map-inside}
 use Rattle.stage5_image.specs.NumberingLaws.{numbered-count, numbered-row}
@@ -36,12 +35,11 @@ module _ (g : Grammar) (rules : List Rule) (e : Expression) (h : GrammarOf g rul
   rules-count : g .rules ≡ length (map skips-rule rules)
   rules-count = h .rule-count ∙ sym (length-map rules skips-rule)
 
-  skips-are : concat-below (skip-number g) (g .rules) ≡ flag-numbers (map skips-rule rules)
+  skips-are : concat-below (skip-number g) (g .rules) ≡ all-numbers flag-number (map skips-rule rules)
   skips-are =
       ap (concat-below (skip-number g)) rules-count
       ∙ concat-below-list (skip-number g) flag-number (map skips-rule rules) false
       (λ k l. one k (let z : k < length rules = omega (arith, length-map rules skips-rule) in z))
-      ∙ flags-are (map skips-rule rules)
     where
       other : Rule
       other = record { action = 0; regex = empty }
@@ -74,19 +72,18 @@ module _ (p : PositionColumns) (ps : List Position) (h : held-positions p ≡ ps
   unfolding held-positions
   positions-count = sym (held-length (p .low) (p .high) (p .rule) (p .follow) (p .last) 0 (p .count)) ∙ ap length h
 
-  places-are : concat-below (position-part p) (p .count) ≡ position-numbers ps
+  places-are : concat-below (position-part p) (p .count) ≡ all-numbers position-numbers ps
   places-are =
       ap (concat-below (position-part p)) positions-count
-      ∙ concat-below-list (position-part p) one-position-numbers ps other
+      ∙ concat-below-list (position-part p) position-numbers ps other
       (λ k l. one k (let c = positions-count in let z : k < p .count = omega arith in z))
-      ∙ positions-are ps
     where
       other : Position
       other = record { low = 0; high = 0; rule = 0; last = false; follow = 0 }
 
-      one : (k : ℕ) → k < p .count → position-part p k ≡ one-position-numbers (getD ps k other)
+      one : (k : ℕ) → k < p .count → position-part p k ≡ position-numbers (getD ps k other)
       one k l = unfold position-part held-positions in
-          ap one-position-numbers
+          ap position-numbers
           (sym (held-at (p .low) (p .high) (p .rule) (p .follow) (p .last) 0 (p .count) k other l
           ∙ ap (held-position (p .low) (p .high) (p .rule) (p .follow) (p .last)) (zero-add k))
           ∙ ap (λ (m : List Position). getD m k other) h)
@@ -108,17 +105,16 @@ module _ (rules : List Rule) (e : Expression) where
   rows-count = sym (numbered-count rows)
 
   rows-numbers : concat-below (numbered-row-part (reached (fused rules (normal-form e))) rules e) (length (reached (fused rules (normal-form e))))
-      ≡ row-numbers (numbered (fused rules (normal-form e)))
+      ≡ all-numbers row-numbers (numbered (fused rules (normal-form e)))
   rows-numbers =
       ap (concat-below (numbered-row-part met rules e)) rows-count
-      ∙ concat-below-list (numbered-row-part met rules e) one-row-numbers (numbered rows) no-productions
+      ∙ concat-below-list (numbered-row-part met rules e) row-numbers (numbered rows) no-productions
       (λ k l. one k (let a = numbered-count rows in let z : k < length met = omega arith in z))
-      ∙ rows-are (numbered rows)
     where
       one : (k : ℕ) → k < length (reached (fused rules (normal-form e)))
           → row-part (reached (fused rules (normal-form e))) rules e (getD (reached (fused rules (normal-form e))) k 0)
-          ≡ one-row-numbers (row-of (numbered (fused rules (normal-form e))) k)
-      one k l = unfold row-part in ap one-row-numbers (row-same (getD met k 0) ∙ sym (numbered-row rows k l))
+          ≡ row-numbers (row-of (numbered (fused rules (normal-form e))) k)
+      one k l = unfold row-part in ap row-numbers (row-same (getD met k 0) ∙ sym (numbered-row rows k l))
 
 -- ---- the image
 

@@ -16,8 +16,8 @@ use Rattle.stage3_normal_form_walk.specs.Columns.{tail-held}
 use Rattle.stage3_normal_form_walk.specs.declared.Tail.{Tail}
 use Rattle.stage4_lexer_columns.specs.Held.{held-position}
 use Rattle.stage4_lexer_columns.specs.declared.PositionColumns.{PositionColumns}
-use Rattle.stage5_image.specs.Image.{flag}
-use Rattle.stage5_image.specs.ImageNumbers.{just, tail-is}
+use Rattle.stage5_image.specs.Image.{flag, just}
+use Rattle.stage5_image.specs.FormatParts.{tail-is}
 use Rattle.stage5_image.specs.Numbering.{renumbered}
 use Rattle.stage0_laws.specs.Members.{getD-map-inside}
 use Rattle.stage5_image_numbering.specs.Below.{concat-below, concat-below-list}

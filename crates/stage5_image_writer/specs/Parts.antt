@@ -14,8 +14,7 @@ use Rattle.stage4_lexer.specs.Positions.{positions, first-positions}
 use Rattle.stage4_lexer_columns.specs.Held.{held-position, held-positions}
 use Rattle.stage4_lexer_columns.specs.declared.PositionColumns.{PositionColumns}
 use Rattle.stage5_image.specs.Fusion.{fused-from, fused-row, fused}
-use Rattle.stage5_image.specs.Image.{flag}
-use Rattle.stage5_image.specs.ImageNumbers.{all-numbers, one-position-numbers, one-production-numbers, one-row-numbers}
+use Rattle.stage5_image.specs.Image.{flag, all-numbers, position-numbers, production-numbers, row-numbers}
 use Rattle.stage5_image.specs.Numbering.{tail-members, reached, renumbered}
 use Rattle.stage5_image_numbering.specs.Below.{concat-below}
 use Rattle.stage5_image_numbering.specs.Grammar.{GrammarOf}
@@ -31,7 +30,7 @@ unfoldable pub rules-part : Grammar → List ℕ
 rules-part g = 1 ∷ g .rules ∷ concat-below (skip-number g) (g .rules)
 
 unfoldable pub position-part : PositionColumns → ℕ → List ℕ
-position-part p i = one-position-numbers (held-position (p .low) (p .high) (p .rule) (p .follow) (p .last) i)
+position-part p i = position-numbers (held-position (p .low) (p .high) (p .rule) (p .follow) (p .last) i)
 
 -- "position count P; per position ..; first set"
 unfoldable pub positions-part : PositionColumns → List ℕ
@@ -43,12 +42,12 @@ mapped-row all row = record { has-epsilon = row .has-epsilon; productions = map 
 
 -- A rule's production, if it has one.
 unfoldable pub production-part : List ℕ → ℕ → Tail → List ℕ
-production-part all r tail = rule-part (λ p. one-production-numbers (renumbered all p)) r (tail-held tail)
+production-part all r tail = rule-part (λ p. production-numbers (renumbered all p)) r (tail-held tail)
 
 -- All productions of a node's row.
 unfoldable pub productions-part : List ℕ → List Rule → Expression → ℕ → List ℕ
 productions-part all rules e n =
-    all-numbers (λ p. one-production-numbers (renumbered all p)) (fused-from rules 0 ((row-of (normal-form e) n) .productions))
+    all-numbers (λ p. production-numbers (renumbered all p)) (fused-from rules 0 ((row-of (normal-form e) n) .productions))
 
 -- The nodes in the tails of a node's row.
 abbrev pub row-nodes : List Rule → Expression → ℕ → List ℕ
@@ -56,7 +55,7 @@ row-nodes rules e n = tail-members (fused-from rules 0 ((row-of (normal-form e) 
 
 -- A node's row.
 unfoldable pub row-part : List ℕ → List Rule → Expression → ℕ → List ℕ
-row-part all rules e n = one-row-numbers (mapped-row all (fused-row rules (row-of (normal-form e) n)))
+row-part all rules e n = row-numbers (mapped-row all (fused-row rules (row-of (normal-form e) n)))
 
 -- The row with number i, of the nodes reached.
 abbrev pub numbered-row-part : List ℕ → List Rule → Expression → ℕ → List ℕ

@@ -12,7 +12,7 @@ use Rattle.stage3_normal_form.specs.Productions.{Taking}
 use Rattle.stage4_lexer.specs.Match.{no-match, matched}
 use Rattle.stage4_lexer.specs.Table.{most-rows}
 use Rattle.stage5_image.specs.Image.{Image}
-use Rattle.stage5_image.specs.ImageFields.{ReadableAs, Readable, FirstOffence}
+use Rattle.stage5_image.specs.ImageFormat.{ReadableAs, Readable, FirstOffence}
 use Rattle.stage6_machine.specs.Trace.{match-at, taking, all-nullable, take-of, State, state, start-state, Ended, ended}
 use Rattle.stage6_machine.specs.Lent.{most-text-bytes, lent-entries, Scanner, Lent, Ran, rows-of, turned-away, finished}
 

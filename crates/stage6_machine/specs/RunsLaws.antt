@@ -14,10 +14,9 @@ use Rattle.stage1_sheet.specs.Field.{Reading, stop, got}
 use Rattle.stage1_sheet.specs.FieldLaws.{Bytes}
 use Rattle.stage4_lexer.specs.Table.{most-rows}
 use Rattle.stage5_image.specs.Image.{Image}
-use Rattle.stage5_image.specs.ImageFields.{ReadableAs, Readable}
+use Rattle.stage5_image.specs.ImageFormat.{ReadableAs, Readable}
 use Rattle.stage5_image.specs.ImageReading.{read-image}
-use Rattle.stage5_image.specs.ReadableImages.{read-refusal}
-use Rattle.stage5_image.specs.FieldsLaws.{first-offence-one, stop-offends, read-readable, readable-read}
+use Rattle.stage5_image.specs.ReadableImages.{read-refusal, first-offence-one, stop-offends, read-readable, readable-read}
 use Rattle.stage6_machine.specs.Trace.{start-state, Ended, ended}
 use Rattle.stage6_machine.specs.Lent.{most-text-bytes, lent-entries, Scanner, Lent, stack-alone, Ran, rows-of, turned-away, finished}
 use Rattle.stage6_machine.specs.Runs.{Traces, Short, ManyRows, Begins, Runs, short, long-text, unreadable, many-rows, no-entry, started}
@@ -120,7 +119,7 @@ module _ (bytes text : List ℕ) (lent : Lent) (b : Bytes bytes) where
 
   reading-runs : (Short (lent .scanner) → ⊥) → length text ≤ most-text-bytes → (r : Reading Image) → read-image bytes ≡ r → Here (run bytes text lent)
   reading-runs h l (stop question place) e =
-      let q = read-refusal bytes question place e .0 in
+      let q = read-refusal bytes b question place e .0 in
       let f : read-image bytes ≡ stop 13 place = e ∙ ap (λ (k : ℕ). stop k place) q in
       rw (run-stop bytes text lent h l 13 place f)
       (unreadable place h l (λ x. let g = sym f ∙ readable-read bytes b (x .0) (x .1) in let z : _≡_ {A = ℕ} 0 1 = cc in omega arith)
@@ -155,7 +154,7 @@ module _ (bytes text : List ℕ) (lent : Lent) (b : Bytes bytes) where
     where
       by-reading : (r : Reading Image) → read-image bytes ≡ r → run bytes text lent ≡ turned-away 13 p lent
       by-reading (stop question place) e =
-          let q = read-refusal bytes question place e .0 in
+          let q = read-refusal bytes b question place e .0 in
           let same = first-offence-one bytes place p (stop-offends bytes b question place e) o in
           run-stop bytes text lent h l question place e ∙ ap₂ (λ (k j : ℕ). turned-away k j lent) q same
       by-reading (got i end) e = absurd (n (i, read-readable bytes b i end e))

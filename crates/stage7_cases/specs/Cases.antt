@@ -9,7 +9,7 @@ use Rattle.stage1_sheet.specs.WellFormed.{Spells}
 use Rattle.stage1_sheet.specs.SheetD.{with-expression, bytes-of-D}
 use Rattle.stage2_types.specs.Denotation.{Denotes}
 use Rattle.stage5_image.specs.Image.{Image}
-use Rattle.stage5_image.specs.ImageFields.{ReadableAs}
+use Rattle.stage5_image.specs.ImageFormat.{ReadableAs}
 use Rattle.stage5_image.specs.Check.{work-bytes, CheckAnswer, check, check-answer}
 use Rattle.stage5_image.specs.Write.{Written, refused, written, write, written-part}
 use Rattle.stage6_machine.specs.Answer.{Answer, answer}

@@ -29,7 +29,7 @@ use Rattle.stage2_types.specs.Denotation.{Denotes, denotation, iterate}
 use Rattle.stage4_lexer.specs.EmptyWord.{none-empty}
 use Rattle.stage5_image.specs.Image.{Image, plain-image}
 use Rattle.stage5_image.specs.ImageReading.{read-image}
-use Rattle.stage5_image.specs.FieldsLaws.{read-readable}
+use Rattle.stage5_image.specs.ReadableImages.{read-readable}
 use Rattle.stage5_image.specs.Check.{work-bytes, check, check-answer}
 use Rattle.stage5_image.specs.Checks.{Passable}
 use Rattle.stage5_image.specs.Write.{Written, written, write, written-part}

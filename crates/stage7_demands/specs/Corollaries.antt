@@ -24,9 +24,9 @@ use Rattle.stage4_lexer.specs.EmptyWord.{none-empty}
 use Rattle.stage4_lexer.specs.Words.{NoEmptyRule}
 use Rattle.stage4_lexer.specs.RuleOrder.{WordsAbove}
 use Rattle.stage5_image.specs.Image.{Image, plain-image, image-of, image-bytes}
-use Rattle.stage5_image.specs.ImageFields.{ReadableAs}
+use Rattle.stage5_image.specs.ImageFormat.{ReadableAs}
 use Rattle.stage5_image.specs.ImageLength.{image-fits}
-use Rattle.stage5_image.specs.FieldsLaws.{readable-written}
+use Rattle.stage5_image.specs.ReadableImages.{readable-written}
 use Rattle.stage5_image.specs.Unfolding.{StartUnfolds, DenotedRules}
 use Rattle.stage5_image.specs.Check.{work-bytes, passed}
 use Rattle.stage5_image.specs.Checks.{Passable, Checks}

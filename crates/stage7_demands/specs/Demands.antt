@@ -18,7 +18,7 @@ use Rattle.stage1_sheet.specs.Twins.{Twins, SamePlace}
 use Rattle.stage4_lexer.specs.RuleOrder.{by-number, by-kind, WordsAbove}
 use Rattle.stage4_lexer.specs.LongestMatch.{LongestMatch, NonWordAbove}
 use Rattle.stage5_image.specs.Image.{Image, plain-image, image-of}
-use Rattle.stage5_image.specs.ImageFields.{ReadableAs}
+use Rattle.stage5_image.specs.ImageFormat.{ReadableAs}
 use Rattle.stage5_image.specs.Unfolding.{StartUnfolds, DenotedRules}
 use Rattle.stage5_image.specs.Check.{work-bytes, Verdict, failed, passed, CheckAnswer}
 use Rattle.stage5_image.specs.Checks.{Passable, Checks}

@@ -16,9 +16,8 @@ use Rattle.stage4_lexer.specs.OrderedMatches.{ordered-empty-match, ordered-limi
 use Rattle.stage4_lexer.specs.Positions.{empty-match}
 use Rattle.stage4_lexer.specs.EmptyWord.{none-empty}
 use Rattle.stage5_image.specs.Image.{Image, plain-image, image-of, image-bytes}
-use Rattle.stage5_image.specs.ImageFields.{ReadableAs}
-use Rattle.stage5_image.specs.ImageRoundTrip.{image-are-bytes}
-use Rattle.stage5_image.specs.FieldsLaws.{readable-one}
+use Rattle.stage5_image.specs.ImageFormat.{ReadableAs}
+use Rattle.stage5_image.specs.ReadableImages.{readable-one, image-are-bytes}
 use Rattle.stage5_image.specs.Unfolding.{StartUnfolds, DenotedRules}
 use Rattle.stage5_image.specs.ImageLaws.{image-denotes, numbering-kept}
 use Rattle.stage5_image.specs.Check.{work-bytes, passed, check, check-answer, work-after}

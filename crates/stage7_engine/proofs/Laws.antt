@@ -16,7 +16,7 @@ use Rattle.stage5_image.specs.Writes.{Acceptable}
 use Rattle.stage5_image.specs.WriteQuestions.{acceptable-written}
 use Rattle.stage5_image.specs.BufferLaws.{image-written}
 use Rattle.stage5_image.specs.Image.{image-of}
-use Rattle.stage5_image.specs.FieldsLaws.{readable-written}
+use Rattle.stage5_image.specs.ReadableImages.{readable-written}
 use Rattle.stage5_image.specs.ImageLength.{image-fits}
 use Rattle.stage4_lexer.specs.EmptyWord.{none-empty}
 use Rattle.stage5_image_compiler.specs.Answer.{case-of}

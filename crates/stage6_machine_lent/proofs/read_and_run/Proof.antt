@@ -2,6 +2,7 @@
 use borrow.Author.Needs.{needs}
 use mathlib.Core.Path.{refl, sym, ap, _∙_}
 use denote.Ref.{now}
+use Rattle.stage1_sheet.specs.FieldLaws.{Bytes}
 use Rattle.stage5_image.specs.ReadableImages.{read-in-range}
 use Rattle.stage4_lexer_tables.specs.HoldingLaws.{holding-none}
 use Rattle.stage5_image_reader.proofs.Whole.{room-whole}
@@ -15,6 +16,10 @@ use Rattle.stage6_machine_lent.proofs.read_and_run.Tie as tie
 -- The start, from where the image was read.
 abbrev start-of : tie.After-read-image → tie.Start
 start-of c = c .before .before .before .before .before .before .before .before
+
+-- The image's bytes are bytes.
+bytes-of : (c : tie.After-read-image) → Bytes (now (start-of c .args .image))
+bytes-of c i = c .before .before .before .before .before .before .before .shared-slice-known .given i .fits
 
 read-image-requires : tie.Need-read-image-requires
 read-image-requires c κs = (refl, holding-none, room-whole)
@@ -46,7 +51,7 @@ build-and-run-requires c κs =
     let told = c .before .before .before .before .before in
     let read = told .before .before in
     let readable = read .read-image .ensures .readable (told .enum-told .given .1) in
-    (start-of read .pre .0, (readable .0, readable .2, read-in-range _ _ _ (readable .1) .0))
+    (start-of read .pre .0, (readable .0, readable .2, read-in-range _ (bytes-of read) _ _ (readable .1) .0))
 
 same-length : tie.Need-same-length
 same-length c = search needs
@@ -66,7 +71,7 @@ returns-2 c =
     let a = start .args in
     let readable = read .read-image .ensures .readable (told .enum-told .given .1) in
     let lent = lent-by (a .by-rows) (now (a .stack)) (now (a .table)) (now (a .winners)) in
-    let x = ran .build-and-run .ensures (readable .0) (readable .2) (read-in-range _ _ _ (readable .1) .0) in
+    let x = ran .build-and-run .ensures (readable .0) (readable .2) (read-in-range _ (bytes-of read) _ _ (readable .1) .0) in
     (x .0 ∙ sym (run-got _ _ lent (start .pre .0) (start .pre .1) (readable .0) _ (readable .1)), x .1)
 
 pub read-and-run-spec : {M : Type 1} → statement M
