@@ -8,6 +8,7 @@ pub mod Spelling
 pub mod NodePlaces
 pub mod WellFormed
 pub mod SheetQuestions
+pub mod SheetFormat
 pub mod Twins
 pub mod Field
 pub mod Items
@@ -20,6 +21,7 @@ pub mod FieldLaws
 pub mod Format
 pub mod FormatLaws
 pub mod NumberLaws
+pub mod SheetAgreement
 pub mod RefusalLaws
 pub mod TwinLaws
 pub mod RegexItems
