@@ -1,5 +1,5 @@
 -- Reading a sheet from bytes, as the code does it: from the left, one number after the other, with the items of its trees and their
--- places. What questions 3 to 6 ask is said in SheetQuestions, and that this is what they ask in ReadingLaws.
+-- places. What questions 3 to 6 ask is said in SheetFormat, and that this is what they ask in SheetAgreement.
 use mathlib.Core.Bool.{Bool, cond}
 use mathlib.Core.List.{List, [], _∷_, _++_, map}
 use Prim.Native.Nat.{ℕ, zero, suc, _+_, _-_}

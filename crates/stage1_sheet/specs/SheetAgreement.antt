@@ -20,12 +20,12 @@ use Rattle.stage1_sheet.specs.Expression.{Expression, epsilon, bottom, t
 use Rattle.stage1_sheet.specs.Sheet.{Rule}
 use Rattle.stage1_sheet.specs.Field.{Reading, stop, got, and-then, between, field-of, read-field, read-many}
 use Rattle.stage1_sheet.specs.FieldLaws.{true-between}
-use Rattle.stage1_sheet.specs.Items.{RegexItem, empty-item, class-item, concat-item, union-item, star-item, regex-parts, item-classes, regex-before, regexes}
-use Rattle.stage1_sheet.specs.Items.{ExpressionItem, epsilon-item, bottom-item, token-item, sequence-item, alternative-item, fixed-point-item, variable-item}
+use Rattle.stage1_sheet.specs.Items.{RegexItem, concat-item, union-item, star-item, regex-parts, item-classes, regex-before, regexes}
+use Rattle.stage1_sheet.specs.Items.{ExpressionItem, token-item, sequence-item, alternative-item, fixed-point-item, variable-item}
 use Rattle.stage1_sheet.specs.Items.{repetition-item, part-depths, expression-before, expressions}
-use Rattle.stage1_sheet.specs.Reading.{sheet-field, class-after, regex-item, regex-items, ReadRule, Allowance, less-rule, read-rule, ReadNode, expression-item, expression-nodes}
+use Rattle.stage1_sheet.specs.Reading.{sheet-field, class-after, regex-item, regex-items, ReadRule, Allowance, less-rule, read-rule, expression-item, expression-nodes}
 use Rattle.stage1_sheet.specs.Reading.{Contents, contents, at-end, read-sheet}
-use Rattle.stage1_sheet.specs.Format.{Format, done, number}
+use Rattle.stage1_sheet.specs.Format.{Format, done}
 use Rattle.stage1_sheet.specs.FormatLaws.{judged, asked, read-part, read, then-same, then-then}
 use Rattle.stage1_sheet.specs.FormatLaws as whole-reading
 use Rattle.stage1_sheet.specs.SheetFormat.{judge, value, Before, with-tag, regex-limits, after-regex-tag, regex-format, rules-format, after-expression-tag, expression-format, sheet-format, sheet-asked}

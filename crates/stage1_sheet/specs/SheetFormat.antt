@@ -12,7 +12,7 @@ use Rattle.stage1_sheet.specs.Limits.{most-regex-tag, most-expression-ta
 use Rattle.stage1_sheet.specs.Regex.{Regex, empty, class, concat, union, star}
 use Rattle.stage1_sheet.specs.Expression.{Expression, epsilon, bottom, token, sequence, alternative, fixed-point, variable, repetition}
 use Rattle.stage1_sheet.specs.Sheet.{Rule, Sheet}
-use Rattle.stage1_sheet.specs.Field.{Reading, stop, got, between}
+use Rattle.stage1_sheet.specs.Field.{Reading, got, between}
 use Rattle.stage1_sheet.specs.Spelling.{NumberAt}
 use Rattle.stage1_sheet.specs.Format.{Format, done, number, Asked, Answer}
 
@@ -104,3 +104,11 @@ sheet-asked bytes = record { whole = length bytes; missing = 3; leftover = 6 }
 -- What bytes are as a sheet: its contents, or the question from 3 to 6 that fails first, and its place.
 abbrev pub SheetAnswer : List ℕ → Reading Contents → Type 0
 SheetAnswer bytes x = Answer (NumberAt bytes) (sheet-asked bytes) sheet-format 0 x
+
+-- The bytes spell a sheet, with its places: they are at most "4,096 bytes", and they answer so.
+pub record SpellsContents (bytes : List ℕ) (c : Contents) : Type 0 where
+  pub bytes-most : length bytes ≤ most-sheet-bytes
+  pub answered : SheetAnswer bytes (got c (length bytes))
+
+abbrev pub Spells : List ℕ → Sheet → Type 0
+Spells bytes s = (c : Contents) × SpellsContents bytes c × (c .sheet ≡ s)
