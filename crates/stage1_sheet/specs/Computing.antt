@@ -1,7 +1,7 @@
 -- One name that opens every definition of this stage and of the stages below it, for theorems that compute.
 use Rattle.stage1_sheet.specs.Expression.{size}
 use Rattle.stage1_sheet.specs.Regex.{regex-nodes, class-count}
-use Rattle.stage1_sheet.specs.Spelling.{spell, regex-numbers, rule-numbers, expression-numbers, sheet-numbers}
+use Rattle.stage1_sheet.specs.Spelling.{spell}
 use Rattle.stage1_sheet.specs.Field.{between, field-of, read-field, read-many}
 use Rattle.stage1_sheet.specs.Items.{regex-parts, item-classes, regex-before, regexes, part-depths, expression-before, expressions}
 use Rattle.stage1_sheet.specs.Reading.{sheet-field, class-after, regex-item, regex-items, less-rule, read-rule, expression-item, expression-nodes, contents, at-end, read-sheet}
@@ -9,5 +9,5 @@ use Rattle.stage0_number.specs.Computing.{computing-number}
 use Rattle.stage0_laws.specs.Computing.{computing-laws}
 
 unfoldable pub computing-sheet : Unit {0}
-unfolding size regex-nodes class-count spell regex-numbers rule-numbers expression-numbers sheet-numbers between field-of read-field read-many regex-parts item-classes regex-before regexes part-depths expression-before expressions sheet-field class-after regex-item regex-items less-rule read-rule expression-item expression-nodes contents at-end read-sheet computing-number computing-laws
+unfolding size regex-nodes class-count spell between field-of read-field read-many regex-parts item-classes regex-before regexes part-depths expression-before expressions sheet-field class-after regex-item regex-items less-rule read-rule expression-item expression-nodes contents at-end read-sheet computing-number computing-laws
 computing-sheet = tt

@@ -1,17 +1,20 @@
 -- Worked readings: document 01's sheet D, and for each question of reading a sheet that it refuses, with each limit from both
 -- sides. One table and one theorem on all its rows, by computing.
 use mathlib.Core.Path.{_≡_, refl}
+use mathlib.Core.Bool.{Bool, true, _&&_}
 use mathlib.Core.List.{List, [], _∷_, _++_, map}
 use Prim.Native.Nat.{ℕ, zero, suc}
-use lib.Dec.{lit≤}
+use lib.Dec.{T, lit≤}
 use lib.ListN.{replicate}
-use Rattle.stage1_sheet.specs.WellFormed.{Spells}
+use Rattle.stage0_laws.specs.Lists.{All}
+use Rattle.stage0_laws.specs.Truth.{and-first, and-second}
+use Rattle.stage1_sheet.specs.SheetFormat.{SheetAnswer, Spells}
 use Rattle.stage1_sheet.specs.Field.{Reading, stop, got}
 use Rattle.stage1_sheet.specs.Reading.{Contents, read-sheet}
 use Rattle.stage1_sheet.specs.SheetD.{sheet-D, head-of-D, bytes-of-D}
 use Rattle.stage1_sheet.specs.Computing.{computing-sheet}
-use Rattle.stage1_sheet.specs.FieldLaws.{tested-bytes}
-use Rattle.stage1_sheet.specs.ReadingLaws.{read-accepted}
+use Rattle.stage1_sheet.specs.FieldLaws.{all-bytes, tested-bytes}
+use Rattle.stage1_sheet.specs.ReadingLaws.{sheet-read-iff, read-accepted}
 
 -- What a row says: the number of the refusal, 0 for a sheet that is read, and its place or the sheet's length.
 abbrev pub answer : Reading Contents → ℕ × ℕ
@@ -126,6 +129,29 @@ pub examples-read : map (λ e. answer (read-sheet (e .bytes))) examples ≡ map 
 unfolding computing-sheet
 examples-read = refl
 
+-- What a row says of its bytes.
+abbrev pub Answers : Example → Type 0
+Answers e = (x : Reading Contents) × SheetAnswer (e .bytes) x × (answer x ≡ (e .question, e .place))
+
+abbrev all-rows : List Example → Bool
+all-rows [] = true
+all-rows (e ∷ es) = all-bytes (e .bytes) && all-rows es
+
+read-answer : (es : List Example) → T (all-rows es)
+    → map (λ e. answer (read-sheet (e .bytes))) es ≡ map (λ e. (e .question, e .place)) es → All Answers es
+read-answer [] t h = tt
+read-answer (e ∷ es) t h =
+    let first : answer (read-sheet (e .bytes)) ≡ (e .question, e .place) = cc in
+    let rest : map (λ e. answer (read-sheet (e .bytes))) es ≡ map (λ e. (e .question, e .place)) es = cc in
+    let bytes = tested-bytes (e .bytes) (and-first (all-bytes (e .bytes)) (all-rows es) t) in (
+      (read-sheet (e .bytes), sheet-read-iff (e .bytes) bytes _ .0 refl, first),
+      read-answer es (and-second (all-bytes (e .bytes)) (all-rows es) t) rest,
+    )
+
+-- Each row is the answer that its bytes have.
+pub examples-answer : All Answers examples
+examples-answer = read-answer examples tt examples-read
+
 -- D is read as the sheet D, with these places.
 pub d-read : read-sheet bytes-of-D ≡ got (record {
   sheet = sheet-D;
@@ -137,4 +163,4 @@ d-read = refl
 
 -- So D's bytes spell D.
 pub d-spelled : Spells bytes-of-D sheet-D
-d-spelled = read-accepted bytes-of-D (tested-bytes bytes-of-D tt) (lit≤ tt) d-read .spells
+d-spelled = (_, read-accepted bytes-of-D (tested-bytes bytes-of-D tt) (lit≤ tt) d-read, refl)

@@ -6,7 +6,7 @@ use mathlib.Core.List.{List, [], _∷_, _++_}
 use mathlib.Core.Logic.{_↔_}
 use Prim.Native.Nat.{ℕ, _+_, _-_, _^_, _≤_, _<_}
 use native.Mathlib.Omega.{arith}
-use lib.ListN.{length, take, drop, length-take}
+use lib.ListN.{length, drop, length-take}
 use Rattle.stage0_number.specs.Number.{encode, decode}
 use Rattle.stage0_number.specs.Laws.{encode-there, encode-ten, encode-groups, encode-fewest, groups-once, any-width}
 use Rattle.stage0_number.specs.Laws.{length-part, decode-within, decode-groups, groups-decode}
@@ -91,11 +91,6 @@ module _ {bytes : List ℕ} where
       → NumbersAt bytes at (ms ++ ns) end
   numbers-append no-more t = t
   numbers-append (one-more n rest) t = one-more n (numbers-append rest t)
-
-  pub numbers-split : (ms ns : List ℕ) {at end : ℕ} → NumbersAt bytes at (ms ++ ns) end
-      → (mid : ℕ) × NumbersAt bytes at ms mid × NumbersAt bytes mid ns end
-  numbers-split [] ns {at} s = (at, no-more, s)
-  numbers-split (m ∷ ms) ns (one-more n rest) = let r = numbers-split ms ns rest in (r .0, one-more n (r .1), r .2)
 
   -- Numbers from a place on have one end.
   pub numbers-once : {at x y : ℕ} {ns : List ℕ} → NumbersAt bytes at ns x → NumbersAt bytes at ns y → x ≡ y

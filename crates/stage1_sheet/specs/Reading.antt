@@ -1,5 +1,5 @@
 -- Reading a sheet from bytes, as the code does it: from the left, one number after the other, with the items of its trees and their
--- places. What questions 3 to 6 ask is said in SheetQuestions, and that this is what they ask in ReadingLaws.
+-- places. What questions 3 to 6 ask is said in SheetFormat, and that this is what they ask in SheetAgreement.
 use mathlib.Core.Bool.{Bool, cond}
 use mathlib.Core.List.{List, [], _∷_, _++_, map}
 use Prim.Native.Nat.{ℕ, zero, suc, _+_, _-_}
@@ -11,7 +11,7 @@ use Rattle.stage1_sheet.specs.Limits.{most-tokens, most-rules, most-clas
 use Rattle.stage1_sheet.specs.Limits.{most-regex-tag, most-expression-tag}
 use Rattle.stage1_sheet.specs.Regex.{empty}
 use Rattle.stage1_sheet.specs.Expression.{bottom}
-use Rattle.stage1_sheet.specs.Sheet.{Sheet}
+pub use Rattle.stage1_sheet.specs.SheetFormat.{Contents}
 use Rattle.stage1_sheet.specs.Field.{Reading, stop, got, and-then, between, read-field, read-many}
 use Rattle.stage1_sheet.specs.Items.{RegexItem, empty-item, class-item, concat-item, union-item, star-item}
 use Rattle.stage1_sheet.specs.Items.{regex-parts, item-classes, regexes, part-depths, expressions}
@@ -98,12 +98,6 @@ expression-nodes bytes tokens (suc left) (opened ∷ due) at =
     (λ tag next. and-then (expression-item bytes tokens opened at tag next)
     (λ item after. and-then (expression-nodes bytes tokens left (part-depths item opened ++ due) after)
     (λ nodes end. got (record { place = at; item = item } ∷ nodes) end)))
-
--- What reading gives: the sheet, the place of each rule's action, and the place of each expression node's tag.
-pub record Contents : Type 0 where
-  pub sheet : Sheet
-  pub action-places : List ℕ
-  pub node-places : List ℕ
 
 -- The sheet that was read: its trees made of the items.
 unfoldable pub contents : ℕ → List ReadRule → List ReadNode → Contents

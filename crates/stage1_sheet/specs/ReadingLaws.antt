@@ -1,78 +1,111 @@
--- The laws of reading a sheet: a sheet that bytes spell is read from them, whatever is read is spelled, and reading refuses exactly as
--- questions 3 to 6 do. So bytes are well formed exactly where reading accepts, and they spell one sheet only.
-use mathlib.Core.Path.{_≡_, refl, sym, ap, ap₂, subst, _∙_}
+-- The laws of reading a sheet: what the code reads is the one answer that the sheet's format gives the bytes. So bytes spell one sheet at most,
+-- which keeps the page's ranges and limits; and reading refuses exactly as questions 3 to 6 do.
+use mathlib.Core.Path.{_≡_, refl, sym, ap, subst, _∙_}
 use mathlib.Core.List.{List}
 use mathlib.Core.Logic.{_↔_}
-use Prim.Native.Nat.{ℕ, _≤_}
+use Prim.Native.Nat.{ℕ, _+_, _-_, _≤_}
+use native.Mathlib.Omega.{arith}
 use lib.ListN.{length}
+use borrow.Author.Tests.{eq-eqb}
+use Rattle.stage0_number.specs.Number.{decode}
+use Rattle.stage0_number.specs.declared.Number.the-variants.{Read, Refused}
 use Rattle.stage1_sheet.specs.Limits.{most-sheet-bytes}
 use Rattle.stage1_sheet.specs.Sheet.{Sheet}
-use Rattle.stage1_sheet.specs.Spelling.{Bytes, NumbersAt, sheet-numbers}
-use Rattle.stage1_sheet.specs.WellFormed.{Spells, WellFormed}
+use Rattle.stage1_sheet.specs.Spelling.{Bytes, NumberAt}
+use Rattle.stage1_sheet.specs.WellFormed.{WithinLimits}
 use Rattle.stage1_sheet.specs.Field.{Reading, stop, got}
-use Rattle.stage1_sheet.specs.Reading.{Contents, read-sheet}
-use Rattle.stage1_sheet.specs.FieldLaws.{outcome-got, outcome-stop}
-use Rattle.stage1_sheet.specs.SheetQuestions.{nothing-due, sheet-due, all-left, Reaches, SheetRefused}
-use Rattle.stage1_sheet.specs.RefusalLaws.{refused-once, ended-not-refused}
-use Rattle.stage1_sheet.specs.Places.{ContentsOf}
-use Rattle.stage1_sheet.specs.SheetReading.{sheet-outcome, sheet-got}
+use Rattle.stage1_sheet.specs.NumberLaws.{number-read, read-number, number-once}
+use Rattle.stage1_sheet.specs.Format.{Format, Asked, Answer, made, left-over, no-number, not-allowed, onward}
+use Rattle.stage1_sheet.specs.FormatLaws.{read, Finds, answer-one, read-iff}
+use Rattle.stage1_sheet.specs.SheetFormat.{Contents, sheet-format, sheet-asked, SheetAnswer, SpellsContents, Spells}
+use Rattle.stage1_sheet.specs.SheetRanges.{Alike, both-made, both-ask, sheet-alike}
+use Rattle.stage1_sheet.specs.SheetAgreement.{sheet-agrees}
+use Rattle.stage1_sheet.specs.Reading.{read-sheet}
 
--- ---- what is asked
+-- ---- any format
 
--- Of a sheet that was read: its end is the bytes' end, it is the sheet that they spell, and its places are where its numbers stand.
-pub record SheetAccepted (bytes : List ℕ) (c : Contents) (end : ℕ) : Type 0 where
-  pub ends : end ≡ length bytes
-  pub spells : Spells bytes (c .sheet)
-  pub places : ContentsOf bytes (c .sheet) c
+module _ {At : ℕ → ℕ → ℕ → Type 0} {q : Asked} {A : Type 0} where
+  -- What is made is made up to the last byte.
+  answer-end : {f : Format A} {at : ℕ} {a : A} {end : ℕ} → Answer At q f at (got a end) → end ≡ q .whole
+  answer-end (made e) = e
+  answer-end (onward h e r) = answer-end r
 
--- ---- the laws
+  module _ {S : ℕ → ℕ → Type 0} {R : A → A → Type 0} (same : (p : ℕ) → S p p) where
+    -- It is so as all that the format makes.
+    made-so : {f g : Format A} {at : ℕ} {a : A} {end : ℕ} → Answer At q f at (got a end) → Alike S R f g → (b : A) × R a b
+    made-so (made e) (both-made {b = b} r) = (b, r)
+    made-so (onward {at = at} {v = v} h e x) (both-ask a k n) = made-so x (n v at at e (same at))
 
--- A sheet that bytes spell is read from them to their end, with the places at which its numbers stand.
-pub spelled-read : (bytes : List ℕ) (s : Sheet) → Spells bytes s
-    → (c : Contents) × (read-sheet bytes ≡ got c (length bytes)) × ContentsOf bytes s c
-spelled-read = sheet-got
+    -- A question that fails is 4 or 5, or that of a number that is missing or of bytes left over.
+    stopped-so : (P : ℕ → Type 0) → P (q .missing) → P (q .leftover) → ((k : ℕ) → 4 ≤ k → k ≤ 5 → P k)
+        → {f g : Format A} {at question place : ℕ} → Answer At q f at (stop question place) → Alike S R f g → P question
+    stopped-so P m l k (left-over i) a = l
+    stopped-so P m l k (no-number i) a = m
+    stopped-so P m l k (not-allowed {v = v} {question = question} h e) (both-ask s j n) = let r = j v question e in k question (r .0) (r .1)
+    stopped-so P m l k (onward {at = at} {v = v} h e x) (both-ask s j n) = stopped-so P m l k x (n v at at e (same at))
 
-same-got : {A : Type 0} {r : Reading A} {a c : A} {p q : ℕ} → r ≡ got a p → r ≡ got c q → a ≡ c
-same-got e f = cc
+-- ---- the sheet
 
--- Bytes spell one sheet only.
-pub spelled-once : (bytes : List ℕ) (s t : Sheet) → Spells bytes s → Spells bytes t → s ≡ t
-spelled-once bytes s t h k =
-    let a = spelled-read bytes s h in
-    let b = spelled-read bytes t k in
-    sym (a .2 .same-sheet) ∙ ap (λ (c : Contents). c .sheet) (same-got (a .1) (b .1)) ∙ b .2 .same-sheet
+module _ (bytes : List ℕ) where
+  -- A sheet that bytes spell is read from them.
+  made-read : {A : Type 0} {q : Asked} {f : Format A} {at : ℕ} {a : A} {end : ℕ} → Answer (NumberAt bytes) q f at (got a end)
+      → read (decode bytes) q f at ≡ got a end
+  made-read {q = q} {at = at} (made e) = rw (eq-eqb at (q .whole) e)
+  made-read {q = q} {a = a} {end = end} (onward {next = next} {at = at} {v = v} {mid = mid} h e x) =
+      let n = number-read h in
+      let width : at + (mid - at) ≡ mid = omega (arith, n .2) in
+      rw (n .1, e, width) (made-read x)
 
-module _ (bytes : List ℕ) (b : Bytes bytes) where
-  -- A reading that accepts gives the sheet that the bytes spell, with the places of its numbers.
-  pub read-accepted : length bytes ≤ most-sheet-bytes → {c : Contents} {end : ℕ} → read-sheet bytes ≡ got c end → SheetAccepted bytes c end
-  read-accepted m {c} {end} e =
-      let r = outcome-got (sheet-outcome bytes b) e in
-      let whole = subst (NumbersAt bytes 0 (sheet-numbers (c .sheet))) (r .ends) (r .spelled) in
-      let s : Spells bytes (c .sheet) = record { spelled = whole; limits = r .limits; bytes-most = m } in
-      let again = spelled-read bytes (c .sheet) s in
-      record { ends = r .ends; spells = s; places = subst (ContentsOf bytes (c .sheet)) (same-got (again .1) e) (again .2) }
+  pub spelled-read : (c : Contents) → SpellsContents bytes c → read-sheet bytes ≡ got c (length bytes)
+  spelled-read c h = sym (sheet-agrees bytes) ∙ made-read (h .answered)
 
-  -- What reading refuses is refused, with this question at this place.
-  pub read-refused : {question place : ℕ} → read-sheet bytes ≡ stop question place → SheetRefused bytes question place
-  read-refused e = outcome-stop (sheet-outcome bytes b) e
+  -- Bytes answer once, and so spell one sheet only.
+  pub answered-once : {x y : Reading Contents} → SheetAnswer bytes x → SheetAnswer bytes y → x ≡ y
+  answered-once = answer-one (NumberAt bytes) (sheet-asked bytes) (λ at m n x y. number-once)
 
-  -- And nothing that reading accepts.
-  pub accepted-not-refused : {c : Contents} {end question place : ℕ} → read-sheet bytes ≡ got c end → SheetRefused bytes question place → ⊥
-  accepted-not-refused {c} e r =
-      let s = outcome-got (sheet-outcome bytes b) e in
-      ended-not-refused (subst (λ (p : ℕ). Reaches bytes nothing-due (s .left) p sheet-due all-left 0) (s .ends) (s .reached)) r
+  pub contents-once : {c d : Contents} → SpellsContents bytes c → SpellsContents bytes d → c ≡ d
+  contents-once h k = let e = answered-once (h .answered) (k .answered) in cc
 
-  -- So reading refuses whatever is refused.
-  pub refused-read : {question place : ℕ} → SheetRefused bytes question place → read-sheet bytes ≡ stop question place
-  refused-read {question} {place} r = go (read-sheet bytes) refl
-    where
-      go : (m : Reading Contents) → read-sheet bytes ≡ m → m ≡ stop question place
-      go (stop q p) e = let same = refused-once (read-refused e) r in ap₂ (λ (i j : ℕ). stop i j) (same .0) (same .1)
-      go (got c end) e = absurd (accepted-not-refused e r)
+  pub spelled-once : (s t : Sheet) → Spells bytes s → Spells bytes t → s ≡ t
+  spelled-once s t h k = sym (h .2) ∙ ap (λ (c : Contents). c .sheet) (contents-once (h .1) (k .1)) ∙ k .2
 
-  -- Bytes are a well-formed sheet exactly where reading accepts.
-  pub well-formed-iff : length bytes ≤ most-sheet-bytes → WellFormed bytes ↔ ((c : Contents) × (end : ℕ) × (read-sheet bytes ≡ got c end))
-  well-formed-iff m = (
-    λ w. let r = spelled-read bytes (w .0) (w .1) in (r .0, length bytes, r .1),
-    λ r. (r .0 .sheet, read-accepted m (r .2) .spells),
-  )
+  -- It keeps the ranges and limits.
+  pub contents-limits : (c : Contents) → SpellsContents bytes c → WithinLimits (c .sheet)
+  contents-limits c h = made-so (λ p. tt) (h .answered) (sheet-alike (λ p q. Unit)) .1 .limits
+
+  pub spelled-limits : (s : Sheet) → Spells bytes s → WithinLimits s
+  spelled-limits s h = subst WithinLimits (h .2) (contents-limits (h .0) (h .1))
+
+  -- A question that fails is one from 3 to 6.
+  pub refused-number : (question place : ℕ) → SheetAnswer bytes (stop question place) → (3 ≤ question) × (question ≤ 6)
+  refused-number question place h =
+      stopped-so (λ p. tt) (λ k. (3 ≤ k) × (k ≤ 6)) (omega arith, omega arith) (omega arith, omega arith) (λ k l m. (omega arith, omega arith)) h
+      (sheet-alike (λ p q. Unit))
+
+  module _ (b : Bytes bytes) where
+    sheet-finds : Finds (NumberAt bytes) (length bytes) (decode bytes)
+    sheet-finds = record {
+      none-there = λ at e v mid h. let n = number-read h in let z : Refused ≡ Read v (mid - at) (n .0) = sym e ∙ n .1 in
+          let y : _≡_ {A = ℕ} 0 1 = cc in omega arith;
+      there = λ at v used fewest e. read-number bytes at b e;
+      inside = λ at v used fewest e. read-number bytes at b e .inside;
+    }
+
+    -- What is read is the answer, and nothing else is.
+    pub sheet-read-iff : (x : Reading Contents) → (read-sheet bytes ≡ x) ↔ SheetAnswer bytes x
+    sheet-read-iff x =
+        let r = read-iff (NumberAt bytes) (sheet-asked bytes) (decode bytes) sheet-finds (λ at m n x y. number-once) sheet-format 0 (omega arith) x in
+        (λ e. r .0 (sheet-agrees bytes ∙ e), λ h. sym (sheet-agrees bytes) ∙ r .1 h)
+
+    pub read-accepted : length bytes ≤ most-sheet-bytes → {c : Contents} {end : ℕ} → read-sheet bytes ≡ got c end → SpellsContents bytes c
+    read-accepted m {c} {end} e =
+        let a = sheet-read-iff (got c end) .0 e in
+        record { bytes-most = m; answered = subst (λ (p : ℕ). SheetAnswer bytes (got c p)) (answer-end a) a }
+
+    -- Bytes are a well-formed sheet exactly where reading accepts.
+    pub well-formed-iff : length bytes ≤ most-sheet-bytes
+        → ((s : Sheet) × Spells bytes s) ↔ ((c : Contents) × (end : ℕ) × (read-sheet bytes ≡ got c end))
+    well-formed-iff m = (
+      λ w. let h = w .1 in (h .0, length bytes, spelled-read (h .0) (h .1)),
+      λ r. (r .0 .sheet, (r .0, read-accepted m (r .2), refl)),
+    )

@@ -1,4 +1,4 @@
--- A grammar sheet: its token count, its rules and its expression. How it is written in bytes is said in Spelling.
+-- A grammar sheet: its token count, its rules and its expression. How it is written in bytes is said in SheetFormat.
 use mathlib.Core.List.{List}
 use Prim.Native.Nat.{ℕ}
 use Rattle.stage1_sheet.specs.Regex.{Regex}

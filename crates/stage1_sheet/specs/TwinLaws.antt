@@ -1,24 +1,31 @@
 -- Twins are read alike: they spell the same sheet, or reading refuses both with the same question at the same number. Bytes that are the
 -- same numbers to their ends are twins.
 use mathlib.Core.Path.{_≡_, refl, sym, ap, subst, _∙_}
+use mathlib.Core.Bool.{Bool, true, false, _&&_, true≢false}
 use mathlib.Core.List.{List, [], _∷_, _++_, append-nil}
 use mathlib.Core.Logic.{⊎-elim}
 use Prim.Native.Nat.{ℕ, _+_, _-_, _^_, _≤_, _<_}
 use native.Mathlib.Omega.{arith}
+use lib.Dec.{eqb}
 use lib.ListN.{length, take, drop, length-append, length-drop}
 use lib.Seq.{drop-drop, drop-length, take-append-seam}
+use borrow.Author.Tests.{eqb-true}
 use Rattle.stage0_laws.specs.Order.{lt-or-le}
-use Rattle.stage0_number.specs.Number.{encode}
+use Rattle.stage0_laws.specs.Truth.{and-true-first, and-true-second}
+use Rattle.stage0_number.specs.Number.{encode, decode}
+use Rattle.stage0_number.specs.declared.Number.{Number}
+use Rattle.stage0_number.specs.declared.Number.the-variants.{Read, Refused}
 use Rattle.stage1_sheet.specs.Limits.{most-sheet-bytes}
 use Rattle.stage1_sheet.specs.Sheet.{Sheet}
-use Rattle.stage1_sheet.specs.Spelling.{NumberBytes, NumberAt, NumbersAt, no-more, one-more, spell, sheet-numbers}
-use Rattle.stage1_sheet.specs.WellFormed.{Spells}
+use Rattle.stage1_sheet.specs.Spelling.{Bytes, NumberBytes, NumberAt, NumbersAt, no-more, one-more, spell}
 use Rattle.stage1_sheet.specs.Twins.{SameNumbers, same-rest, same-number, Twins, SamePlace}
 use Rattle.stage1_sheet.specs.FieldLaws.{Stands, stands-first, stands-rest, stands-whole}
-use Rattle.stage1_sheet.specs.NumberLaws.{encode-written, number-fewest, number-read, number-once}
-use Rattle.stage1_sheet.specs.NumberLaws.{none-stand, first-stands, numbers-inside, numbers-once, numbers-between}
-use Rattle.stage1_sheet.specs.SheetQuestions.{Due, LimitsLeft, Reaches, arrived, onward}
-use Rattle.stage1_sheet.specs.SheetQuestions.{QuestionFails, no-number, not-allowed, not-kept, left-over, SheetRefused}
+use Rattle.stage1_sheet.specs.NumberLaws.{encode-written, number-fewest, number-read, read-number, number-once}
+use Rattle.stage1_sheet.specs.NumberLaws.{none-stand, first-stands, numbers-inside, numbers-append, numbers-once, numbers-between}
+use Rattle.stage1_sheet.specs.Field.{Reading, stop, got}
+use Rattle.stage1_sheet.specs.Format.{Format, Asked, Answer, made, left-over, no-number, not-allowed, onward}
+use Rattle.stage1_sheet.specs.SheetFormat.{Contents, sheet-asked, SheetAnswer, SpellsContents, Spells}
+use Rattle.stage1_sheet.specs.SheetRanges.{Alike, both-made, both-ask, SameContents, sheet-alike}
 
 -- ---- one number
 
@@ -54,15 +61,6 @@ module _ {a b : List ℕ} where
         subst (λ (p : ℕ). SameNumbers a b p y) (same .1) r,
       )
 
-  -- So do several.
-  pub twin-numbers : {i j end : ℕ} {ns : List ℕ} → SameNumbers a b i j → NumbersAt a i ns end
-      → (other : ℕ) × NumbersAt b j ns other × SameNumbers a b end other
-  twin-numbers {i} {j} t no-more = (j, no-more, t)
-  twin-numbers t (one-more h rest) =
-      let s = twin-number t h in
-      let r = twin-numbers (s .2) rest in
-      (r .0, one-more (s .1) (r .1), r .2)
-
   pub twins-back : {i j : ℕ} → SameNumbers a b i j → SameNumbers b a j i
   twins-back (same-rest e) = same-rest (sym e)
   twins-back (same-number h k r) = same-number k h (twins-back r)
@@ -82,19 +80,89 @@ module _ {a b : List ℕ} where
 pub numbers-twins : {a b ns : List ℕ} → NumbersAt a 0 ns (length a) → NumbersAt b 0 ns (length b) → Twins a b
 numbers-twins {a} {b} s t = numbers-same s t (drop-length a ∙ sym (drop-length b))
 
--- ---- a whole sheet
+-- ---- twins that are written out
 
--- Twins within the limit spell the same sheet.
-pub twin-spells : {a b : List ℕ} {s : Sheet} → Twins a b → length b ≤ most-sheet-bytes → Spells a s → Spells b s
-twin-spells {a} {b} {s} t l h =
-    let r = twin-numbers t (h .spelled) in
-    let inside = numbers-inside (omega arith) (r .1) in
-    let end : r .0 ≡ length b = omega (arith, twin-end (r .2) (omega arith)) in
-    record { spelled = rw (← end) (r .1); limits = h .limits; bytes-most = l }
+abbrev taken : ℕ → (ℕ → Bool) → Number → Bool
+taken n rest Refused = false
+taken n rest (Read v used fewest) = eqb v n && rest used
 
--- Bytes that spell the same sheet are twins.
-pub spelled-twins : {a b : List ℕ} {s : Sheet} → Spells a s → Spells b s → Twins a b
-spelled-twins h k = numbers-twins (h .spelled) (k .spelled)
+-- Whether from a place on these numbers are read, one after the other, to the end.
+abbrev pub reads-as : List ℕ → List ℕ → ℕ → Bool
+reads-as bytes [] at = eqb at (length bytes)
+reads-as bytes (n ∷ ns) at = taken n (λ used. reads-as bytes ns (at + used)) (decode bytes at)
+
+pub read-as : (bytes : List ℕ) → Bytes bytes → (ns : List ℕ) (at : ℕ) → reads-as bytes ns at ≡ true → NumbersAt bytes at ns (length bytes)
+read-as bytes b [] at e = subst (NumbersAt bytes at []) (eqb-true at (length bytes) e) no-more
+read-as bytes b (n ∷ ns) at e = go (λ p. read-as bytes b ns p) (decode bytes at) refl e
+  where
+    go : ((p : ℕ) → reads-as bytes ns p ≡ true → NumbersAt bytes p ns (length bytes)) → (m : Number) → decode bytes at ≡ m
+        → taken n (λ used. reads-as bytes ns (at + used)) m ≡ true → NumbersAt bytes at (n ∷ ns) (length bytes)
+    go later Refused d t = absurd (true≢false (sym t))
+    go later (Read v used fewest) d t =
+        let same = eqb-true v n (and-true-first (eqb v n) (reads-as bytes ns (at + used)) t) in
+        one-more (subst (λ (k : ℕ). NumberAt bytes at k (at + used)) same (read-number bytes at b d))
+        (later (at + used) (and-true-second (eqb v n) (reads-as bytes ns (at + used)) t))
+
+-- ---- answers
+
+-- A place of the one has one such place of the other.
+pub same-place-once : (a b : List ℕ) {p q r : ℕ} → SamePlace a b p q → SamePlace a b p r → q ≡ r
+same-place-once a b {q = q} {r = r} s t = numbers-once (s .2) (subst (λ (ns : List ℕ). NumbersAt b 0 ns r) (numbers-between (t .1) (s .1)) (t .2))
+
+-- The same question fails at a place that corresponds; or what is made of both is so related.
+abbrev BothAnswer : List ℕ → List ℕ → {A : Type 0} → (A → A → Type 0) → Reading A → Reading A → Type 0
+BothAnswer a b R (stop question p) (stop other q) = (question ≡ other) × SamePlace a b p q
+BothAnswer a b R (stop question p) (got d end) = ⊥
+BothAnswer a b R (got c end) (stop other q) = ⊥
+BothAnswer a b R (got c end) (got d other) = R c d × (other ≡ length b)
+
+module _ {a b : List ℕ} where
+  twin-answers : {A : Type 0} {R : A → A → Type 0} {f g : Format A} {i j : ℕ} {x : Reading A} → SameNumbers a b i j → SamePlace a b i j
+      → Alike (SamePlace a b) R f g → Answer (NumberAt a) (sheet-asked a) f i x
+      → (y : Reading A) × Answer (NumberAt b) (sheet-asked b) g j y × BothAnswer a b R x y
+  twin-answers {j = j} t s (both-made {b = d} r) (made e) =
+      let end : j ≡ length b = omega (arith, numbers-inside (omega arith) (s .2), twin-end t (omega arith)) in
+      (got d j, made end, (r, end))
+  twin-answers {i = i} {j = j} t s (both-made r) (left-over l) =
+      let inside : j < length b = ⊎-elim (λ k. k) (λ k. absurd (omega (arith, twin-end (twins-back t) k))) (lt-or-le j (length b)) in
+      (stop 6 j, left-over inside, (refl, s))
+  twin-answers {j = j} t s (both-ask e k h) (no-number n) =
+      (stop 3 j, no-number (λ v mid m. let z = twin-number (twins-back t) m in n v (z .0) (z .1)), (refl, s))
+  twin-answers {j = j} t s (both-ask e k h) (not-allowed {v = v} {question = question} n f) =
+      let z = twin-number t n in (stop question j, not-allowed (z .1) (sym (e v) ∙ f), (refl, s))
+  twin-answers {i = i} {j = j} t s (both-ask e k h) (onward {v = v} n f r) =
+      let z = twin-number t n in
+      let after : SamePlace a b _ (z .0) = (s .0 ++ (v ∷ []), numbers-append (s .1) (one-more n no-more), numbers-append (s .2) (one-more (z .1) no-more)) in
+      let y = twin-answers (z .2) after (h v i j f s) r in
+      (y .0, onward (z .1) (sym (e v) ∙ f) (y .1), y .2)
+
+  module _ (t : Twins a b) where
+    -- Twins answer alike.
+    sheets-answer : {x : Reading Contents} → SheetAnswer a x
+        → (y : Reading Contents) × SheetAnswer b y × BothAnswer a b (SameContents (SamePlace a b)) x y
+    sheets-answer h = twin-answers t ([], no-more, no-more) (sheet-alike (SamePlace a b)) h
+
+    -- Twins within the limit spell the same sheet, at places that correspond.
+    pub twin-contents : (c : Contents) → length b ≤ most-sheet-bytes → SpellsContents a c
+        → (d : Contents) × SpellsContents b d × SameContents (SamePlace a b) c d
+    twin-contents c l h = let r = sheets-answer (h .answered) in by-reading (r .0) (r .1) (r .2)
+      where
+        by-reading : (y : Reading Contents) → SheetAnswer b y → BothAnswer a b (SameContents (SamePlace a b)) (got c (length a)) y
+            → (d : Contents) × SpellsContents b d × SameContents (SamePlace a b) c d
+        by-reading (got d end) k r =
+            (d, record { bytes-most = l; answered = subst (λ (p : ℕ). SheetAnswer b (got d p)) (r .1) k }, r .0)
+
+    pub twin-spells : {s : Sheet} → length b ≤ most-sheet-bytes → Spells a s → Spells b s
+    twin-spells l h = let r = twin-contents (h .0) l (h .1) in (r .0, r .1, sym (r .2 .same-sheet) ∙ h .2)
+
+    -- Twins are refused alike: with the same question, at the same number.
+    pub twin-refused : {question place : ℕ} → SheetAnswer a (stop question place)
+        → (other : ℕ) × SheetAnswer b (stop question other) × SamePlace a b place other
+    twin-refused {question} {place} h = let r = sheets-answer h in by-reading (r .0) (r .1) (r .2)
+      where
+        by-reading : (y : Reading Contents) → SheetAnswer b y → BothAnswer a b (SameContents (SamePlace a b)) (stop question place) y
+            → (other : ℕ) × SheetAnswer b (stop question other) × SamePlace a b place other
+        by-reading (stop other q) k r = (q, subst (λ (n : ℕ). SheetAnswer b (stop n q)) (sym (r .0)) k, r .1)
 
 -- ---- the twin in the fewest bytes
 
@@ -123,50 +191,18 @@ module _ {bytes : List ℕ} where
   fewest-no-longer (one-more {n = n} {ns = ns} h r) =
       omega (arith, number-fewest h, length-append (encode n) (spell ns), fewest-no-longer r)
 
+  -- The numbers of bytes that answer to their end.
+  answer-numbers : {A : Type 0} {q : Asked} {f : Format A} {at : ℕ} {c : A} {end : ℕ} → Answer (NumberAt bytes) q f at (got c end)
+      → (ns : List ℕ) × NumbersAt bytes at ns end
+  answer-numbers (made e) = ([], no-more)
+  answer-numbers (onward {v = v} n e r) = let s = answer-numbers r in (v ∷ s .0, one-more n (s .1))
+
 -- A well-formed sheet has a twin in the fewest bytes, which spells the same sheet.
 pub fewest-twin : (bytes : List ℕ) (s : Sheet) → Spells bytes s
-    → Twins bytes (spell (sheet-numbers s)) × Spells (spell (sheet-numbers s)) s × (length (spell (sheet-numbers s)) ≤ length bytes)
+    → (ns : List ℕ) × Twins bytes (spell ns) × Spells (spell ns) s × (length (spell ns) ≤ length bytes)
 fewest-twin bytes s h =
-    let other : List ℕ = spell (sheet-numbers s) in
-    let shorter : length other ≤ length bytes = omega (arith, fewest-no-longer (h .spelled)) in
-    let stands = fewest-stand (h .spelled) (stands-whole other (sheet-numbers s) .1 refl) in
-    let twins = numbers-twins (h .spelled) stands in
-    (twins, twin-spells twins (omega (arith, h .bytes-most)) h, shorter)
-
--- ---- refusals
-
-module _ {a b : List ℕ} {to : Due} {to-left : LimitsLeft} {place : ℕ} where
-  -- Reading reaches a place of the one: the same numbers lead to a place of the other, with the same due there.
-  pub twin-reaches : {from : Due} {left : LimitsLeft} {i j : ℕ} → SameNumbers a b i j → Reaches a to to-left place from left i
-      → (other : ℕ) × Reaches b to to-left other from left j × SameNumbers a b place other
-      × ((ns : List ℕ) × NumbersAt a i ns place × NumbersAt b j ns other)
-  twin-reaches {j = j} t arrived = (j, arrived, t, ([], no-more, no-more))
-  twin-reaches t (onward {v = v} h allowed kept r) =
-      let s = twin-number t h in
-      let more = twin-reaches (s .2) r in
-      let numbers = more .3 in (
-        more .0,
-        onward (s .1) allowed kept (more .1),
-        more .2,
-        (v ∷ numbers .0, one-more h (numbers .1), one-more (s .1) (numbers .2)),
-      )
-
--- What fails there fails here.
-pub twin-fails : {a b : List ℕ} {due : Due} {left : LimitsLeft} {p q question : ℕ} → SameNumbers a b p q → QuestionFails a due left p question
-    → QuestionFails b due left q question
-twin-fails t (no-number d h) = no-number d (λ v next n. let s = twin-number (twins-back t) n in h v (s .0) (s .1))
-twin-fails t (not-allowed v next d n h) = let s = twin-number t n in not-allowed v (s .0) d (s .1) h
-twin-fails t (not-kept v next n allowed h) = let s = twin-number t n in not-kept v (s .0) (s .1) allowed h
-twin-fails {a} {b} {p = p} {q = q} t (left-over d l) =
-    left-over d (⊎-elim (λ s. s) (λ g. absurd (omega (arith, twin-end (twins-back t) g))) (lt-or-le q (length b)))
-
--- Twins are refused alike: with the same question, at the same number.
-pub twin-refused : {a b : List ℕ} {question place : ℕ} → Twins a b → SheetRefused a question place
-    → (other : ℕ) × SheetRefused b question other × SamePlace a b place other
-twin-refused t r =
-    let s = twin-reaches t (r .reached) in
-    (s .0, record { due = r .due; left = r .left; reached = s .1; fails = twin-fails (s .2) (r .fails) }, s .3)
-
--- A place of the one has one such place of the other.
-pub same-place-once : (a b : List ℕ) {p q r : ℕ} → SamePlace a b p q → SamePlace a b p r → q ≡ r
-same-place-once a b {q = q} {r = r} s t = numbers-once (s .2) (subst (λ (ns : List ℕ). NumbersAt b 0 ns r) (numbers-between (t .1) (s .1)) (t .2))
+    let n = answer-numbers (h .1 .answered) in
+    let other : List ℕ = spell (n .0) in
+    let shorter : length other ≤ length bytes = omega (arith, fewest-no-longer (n .1)) in
+    let twins = numbers-twins (n .1) (fewest-stand (n .1) (stands-whole other (n .0) .1 refl)) in
+    (n .0, twins, twin-spells twins (omega (arith, h .1 .bytes-most)) h, shorter)

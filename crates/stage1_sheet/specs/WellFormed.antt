@@ -1,13 +1,12 @@
--- When bytes are a well-formed sheet: they spell a sheet that keeps the page's ranges and limits. No reader is named here.
-use mathlib.Core.List.{List}
+-- What holds of every well-formed sheet: it keeps the page's ranges and limits. Facts for the laws: which bytes are a sheet is said by its
+-- format (SheetFormat), and that such a sheet is so in ReadingLaws.
 use Prim.Native.Nat.{ℕ, suc, _≤_, _<_}
 use lib.ListN.{length}
 use Rattle.stage0_laws.specs.Lists.{All, sum}
-use Rattle.stage1_sheet.specs.Limits.{most-tokens, most-rules, most-classes, most-regex-nodes, most-expression-nodes, most-sheet-bytes, most-byte}
+use Rattle.stage1_sheet.specs.Limits.{most-tokens, most-rules, most-classes, most-regex-nodes, most-expression-nodes, most-byte}
 use Rattle.stage1_sheet.specs.Regex.{Regex, empty, class, concat, union, star, regex-nodes, class-count}
 use Rattle.stage1_sheet.specs.Expression.{Expression, epsilon, bottom, token, sequence, alternative, fixed-point, variable, repetition, size}
 use Rattle.stage1_sheet.specs.Sheet.{Rule, Sheet}
-use Rattle.stage1_sheet.specs.Spelling.{NumbersAt, sheet-numbers}
 
 -- "its low byte (0 to 255) and high byte (low to 255)"
 abbrev pub BytesInRange : Regex → Type 0
@@ -47,13 +46,3 @@ pub record WithinLimits (s : Sheet) : Type 0 where
   pub classes-most : sum (λ r. class-count (r .regex)) (s .rules) ≤ most-classes
   pub closed : Closed (s .tokens) 0 (s .expression)
   pub nodes-most : size (s .expression) ≤ most-expression-nodes
-
--- The bytes spell the numbers of the sheet s, which keeps the limits, "4,096 bytes" among them.
-pub record Spells (bytes : List ℕ) (s : Sheet) : Type 0 where
-  pub spelled : NumbersAt bytes 0 (sheet-numbers s) (length bytes)
-  pub limits : WithinLimits s
-  pub bytes-most : length bytes ≤ most-sheet-bytes
-
--- Bytes are a well-formed sheet when they spell some sheet.
-abbrev pub WellFormed : List ℕ → Type 0
-WellFormed bytes = (s : Sheet) × Spells bytes s

@@ -2,7 +2,7 @@
 use mathlib.Core.Path.{_≡_, refl, ap, ap₂, subst, _∙_}
 use mathlib.Core.Bool.{Bool, true, false, cond}
 use mathlib.Core.List.{List, [], _∷_, _++_, map, flatMap}
-use Prim.Native.Nat.{ℕ, suc, _≤_}
+use Prim.Native.Nat.{ℕ, _≤_}
 use native.Mathlib.Omega.{arith}
 use lib.Dec.{eqb}
 use lib.ListN.{length, getD}
@@ -12,14 +12,12 @@ use Rattle.stage1_sheet.specs.Regex.{empty}
 use Rattle.stage1_sheet.specs.Expression.{bottom}
 use Rattle.stage1_sheet.specs.Sheet.{Rule}
 use Rattle.stage1_sheet.specs.Field.{Reading, stop, got, and-then, between, read-many}
-use Rattle.stage1_sheet.specs.Spelling.{Bytes}
 use Rattle.stage1_sheet.specs.FieldLaws.{Outcome, refused, accepted, then-outcome, outcome-got, true-between, OneAfterOther, many-outcome}
-use Rattle.stage1_sheet.specs.Items.{RegexItem, regexes, expressions}
-use Rattle.stage1_sheet.specs.RegexItems.{regex-items-of, MakesRegexes, one-regex}
-use Rattle.stage1_sheet.specs.ExpressionItems.{expression-items-of, one-expression}
+use Rattle.stage1_sheet.specs.Items.{RegexItem, regexes, ExpressionItem, expressions}
+use Rattle.stage1_sheet.specs.RegexItems.{regex-items-of, one-regex}
+use Rattle.stage1_sheet.specs.ExpressionItems.{one-expression}
 use Rattle.stage1_sheet.specs.Reading.{sheet-field, regex-items, ReadRule, ReadNode, Allowance, less-rule, read-rule, expression-nodes, Contents, contents, at-end, read-sheet}
-use Rattle.stage1_sheet.specs.RegexReading.{regexes-read}
-use Rattle.stage1_sheet.specs.ExpressionReading.{nodes-read}
+use Rattle.stage1_sheet.specs.ItemsRead.{regexes-read, nodes-read}
 use Rattle.stage1_sheet_columns.specs.Holds.{items-of-rules, RulesOf, NodesOf}
 use Rattle.stage1_sheet_columns.specs.declared.RuleColumns.{RuleColumns}
 use Rattle.stage1_sheet_reader.specs.Put.{with-all, with-rule, with-read-node, no-rules, no-nodes}
@@ -77,7 +75,7 @@ pub record HeadRead (bytes : List ℕ) (tokens count next : ℕ) : Type 0 where
   pub rules-most : count ≤ 32
   pub inside : next ≤ length bytes
 
-module _ (bytes : List ℕ) (b : Bytes bytes) where
+module _ (bytes : List ℕ) where
   head-outcome : Outcome Any (HeadKept bytes) (header bytes)
   unfolding header
   head-outcome =
@@ -200,15 +198,11 @@ rule-of r = record { action = r .action; regex = getD (regexes (r .items)) 0 emp
 abbrev SameItems : ReadRule → Type 0
 SameItems r = regex-items-of (rule-of r .regex) ≡ r .items
 
-same-regex : (items : List RegexItem) → MakesRegexes 1 items → regex-items-of (getD (regexes items) 0 empty) ≡ items
-same-regex items h = let one = one-regex items h in
-    ap (λ l. regex-items-of (getD l 0 empty)) (one .1 .made) ∙ one .1 .same-items
-
 same-actions : (rules : List ReadRule) → map (λ r. r .action) (map rule-of rules) ≡ map (λ r. r .action) rules
 same-actions [] = refl
 same-actions (r ∷ rules) = ap (λ (l : List ℕ). r .action ∷ l) (same-actions rules)
 
-module _ (bytes : List ℕ) (b : Bytes bytes) (tokens : ℕ) where
+module _ (bytes : List ℕ) (tokens : ℕ) where
   rule-items : (allowed : Allowance) (at : ℕ) → Outcome Any (λ r end. SameItems r × Unit) (read-rule bytes tokens allowed at)
   unfolding read-rule
   rule-items allowed at =
@@ -220,7 +214,7 @@ module _ (bytes : List ℕ) (b : Bytes bytes) (tokens : ℕ) where
           (and-then m (λ items end. got (record { place = at; action = action; items = items }) end))
       go action next (stop q p) e = refused q p tt
       go action next (got items end) e =
-          accepted _ end (same-regex items (regexes-read bytes b (allowed .nodes) (allowed .classes) 1 next e .makes), tt)
+          accepted _ end (one-regex items (regexes items) (regexes-read bytes (allowed .nodes) (allowed .classes) 1 next e), tt)
 
   row-items : (rules : List ReadRule) (allowed : Allowance) (at end : ℕ)
       → OneAfterOther (λ s from r next. SameItems r) less-rule allowed at rules end
@@ -241,15 +235,9 @@ module _ (bytes : List ℕ) (b : Bytes bytes) (tokens : ℕ) where
       → expression-nodes bytes tokens most-expression-nodes (0 ∷ []) at ≡ got nodes end
       → NodesOf (with-all with-read-node no-nodes nodes) (getD (expressions (map (λ n. n .item) nodes)) 0 bottom) (map (λ n. n .place) nodes)
   nodes-of-sheet at {nodes} {end} e =
-      let o = nodes-read bytes b tokens most-expression-nodes (0 ∷ []) at e in
-      let one = one-expression tokens 0 (map (λ n. n .item) nodes) (o .makes) in
-      let same : expression-items-of (getD (expressions (map (λ n. n .item) nodes)) 0 bottom) ≡ map (λ n. n .item) nodes =
-      ap (λ l. expression-items-of (getD l 0 bottom)) (one .1 .made) ∙ one .1 .same-items in
-      rw same (all-nodes-held nodes (omega (arith, o .nodes-kept, many nodes)))
-    where
-      many : (l : List ReadNode) → length (map (λ n. n .item) l) ≡ length l
-      many [] = refl
-      many (n ∷ l) = ap suc (many l)
+      let o = nodes-read bytes tokens most-expression-nodes (0 ∷ []) at e in
+      let items : List ExpressionItem = map (λ n. n .item) nodes in
+      rw (one-expression items (expressions items) (o .made)) (all-nodes-held nodes (omega (arith, o .nodes-most)))
 
 -- ---- the ways through a sheet
 
@@ -263,12 +251,12 @@ module _ (bytes : List ℕ) (r : SheetColumns) where
         → r ≡ refused-columns question place → Reads (read-sheet bytes) r
     sheet-rules f h = rw (sheet-parts bytes, e, f) h
 
-    pub sheet-rest : {rules : List ReadRule} {next : ℕ} {d : RuleColumns} → Bytes bytes
+    pub sheet-rest : {rules : List ReadRule} {next : ℕ} {d : RuleColumns}
         → rules-part bytes (record { tokens = tokens; rules = count }) at ≡ got rules next → d ≡ with-all with-rule no-rules rules
         → RulesFit d
         → Finished (nodes-to-end bytes tokens next) tokens d r → Reads (read-sheet bytes) r
     unfolding contents
-    sheet-rest {rules} {next} {d} b f w fit h =
+    sheet-rest {rules} {next} {d} f w fit h =
         rw (sheet-parts bytes, e, f) (go (nodes-to-end bytes tokens next) refl h)
       where
         fits : RulesFit (with-all with-rule no-rules rules)
@@ -280,6 +268,6 @@ module _ (bytes : List ℕ) (r : SheetColumns) where
         go (got nodes end) k h = record {
           done = h .0;
           tokens-held = h .1;
-          rules-held = rw (h .2, w) (rules-of-sheet bytes b tokens (allowance no-rules) count at f fits);
-          nodes-held = rw (h .3) (nodes-of-sheet bytes b tokens next (ended bytes tokens next k));
+          rules-held = rw (h .2, w) (rules-of-sheet bytes tokens (allowance no-rules) count at f fits);
+          nodes-held = rw (h .3) (nodes-of-sheet bytes tokens next (ended bytes tokens next k));
         }

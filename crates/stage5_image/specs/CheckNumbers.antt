@@ -4,7 +4,7 @@ use mathlib.Core.List.{List}
 use Prim.Native.Nat.{ℕ, _≤_}
 use native.Mathlib.Omega.{arith}
 use Rattle.stage1_sheet.specs.Spelling.{Bytes}
-use Rattle.stage1_sheet.specs.RefusalLaws.{refused-number}
+use Rattle.stage1_sheet.specs.ReadingLaws.{refused-number}
 use Rattle.stage2_types.specs.Types.{LanguageType}
 use Rattle.stage2_types.specs.Nodes.{Node}
 use Rattle.stage2_types.specs.TypeFaults.{Fails, not-guarded, not-separable, not-apart, not-self-separable}
@@ -25,9 +25,9 @@ Numbered (passed s) = Unit
 numbered : {bytes : List ℕ} {work : ℕ} {v : Verdict} → Checks bytes work v → Numbered v
 numbered (short-work l) = (omega arith, omega arith)
 numbered (long-sheet l m) = (omega arith, omega arith)
-numbered (not-a-sheet question place l m r) = let a = refused-number (r .fails) in (omega arith, omega arith)
-numbered (empty-rule s k p l m w q) = (omega arith, omega arith)
-numbered (untyped s node q p l m n x o) = let z = fault-number (x .fails) in (omega arith, omega arith)
+numbered {bytes} (not-a-sheet question place l m r) = let a = refused-number bytes question place r in (omega arith, omega arith)
+numbered (empty-rule c k l m w) = (omega arith, omega arith)
+numbered (untyped c node q l m n x) = let z = fault-number (x .fails) in (omega arith, omega arith)
 numbered (passes s l a) = tt
 
 pub check-numbered : (sheet : List ℕ) → Bytes sheet → (work : ℕ) → Numbered (check sheet work)

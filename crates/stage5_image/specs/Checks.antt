@@ -2,13 +2,11 @@
 -- and place, and that the sheet passes. There is one such verdict for all that is handed over (CheckQuestions); no function is named here.
 use mathlib.Core.List.{List}
 use Prim.Native.Nat.{ℕ, _≤_, _<_}
-use lib.ListN.{length}
+use lib.ListN.{length, getD}
 use Rattle.stage1_sheet.specs.Limits.{most-sheet-bytes}
 use Rattle.stage1_sheet.specs.Sheet.{Sheet}
-use Rattle.stage1_sheet.specs.Spelling.{NumbersAt}
-use Rattle.stage1_sheet.specs.WellFormed.{Spells}
-use Rattle.stage1_sheet.specs.Places.{numbers-before-rule, numbers-before-node}
-use Rattle.stage1_sheet.specs.SheetQuestions.{SheetRefused}
+use Rattle.stage1_sheet.specs.Field.{stop}
+use Rattle.stage1_sheet.specs.SheetFormat.{Contents, SheetAnswer, SpellsContents, Spells}
 use Rattle.stage2_types.specs.Types.{HasType}
 use Rattle.stage2_types.specs.TypeFaults.{TypeFault}
 use Rattle.stage4_lexer.specs.Words.{FirstEmptyRule, NoEmptyRule}
@@ -26,13 +24,12 @@ pub data Checks (bytes : List ℕ) (work : ℕ) : Verdict → Type 0 where
   short-work : work < work-bytes → Checks bytes work (failed 1 0)
   long-sheet : work-bytes ≤ work → most-sheet-bytes < length bytes → Checks bytes work (failed 2 0)
   -- 3 to 6
-  not-a-sheet : (question place : ℕ) → work-bytes ≤ work → length bytes ≤ most-sheet-bytes → SheetRefused bytes question place
+  not-a-sheet : (question place : ℕ) → work-bytes ≤ work → length bytes ≤ most-sheet-bytes → SheetAnswer bytes (stop question place)
       → Checks bytes work (failed question place)
   -- 7: the first rule that matches the empty word, at its action
-  empty-rule : (s : Sheet) (k place : ℕ) → work-bytes ≤ work → Spells bytes s → FirstEmptyRule (s .rules) k
-      → NumbersAt bytes 0 (numbers-before-rule s k) place → Checks bytes work (failed 7 place)
+  empty-rule : (c : Contents) (k : ℕ) → work-bytes ≤ work → SpellsContents bytes c → FirstEmptyRule (c .sheet .rules) k
+      → Checks bytes work (failed 7 (getD (c .action-places) k 0))
   -- 8 to 10: the first node that fails, at its tag
-  untyped : (s : Sheet) (node question place : ℕ) → work-bytes ≤ work → Spells bytes s → NoEmptyRule (s .rules)
-      → TypeFault (s .expression) node question → NumbersAt bytes 0 (numbers-before-node s node) place
-      → Checks bytes work (failed question place)
+  untyped : (c : Contents) (node question : ℕ) → work-bytes ≤ work → SpellsContents bytes c → NoEmptyRule (c .sheet .rules)
+      → TypeFault (c .sheet .expression) node question → Checks bytes work (failed question (getD (c .node-places) node 0))
   passes : (s : Sheet) → work-bytes ≤ work → Passable bytes s → Checks bytes work (passed s)

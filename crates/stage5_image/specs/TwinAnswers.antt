@@ -4,12 +4,15 @@ use mathlib.Core.Path.{_≡_, sym, ap, subst, _∙_}
 use mathlib.Core.List.{List, []}
 use Prim.Native.Nat.{ℕ, _≤_}
 use native.Mathlib.Omega.{arith}
-use lib.ListN.{length}
+use lib.ListN.{length, getD}
 use Rattle.stage1_sheet.specs.Limits.{most-sheet-bytes}
 use Rattle.stage1_sheet.specs.Sheet.{Sheet}
-use Rattle.stage1_sheet.specs.Spelling.{Bytes, NumbersAt, no-more}
+use Rattle.stage1_sheet.specs.Spelling.{Bytes, no-more}
+use Rattle.stage1_sheet.specs.SheetRanges.{Pairs, pairs-at}
 use Rattle.stage1_sheet.specs.Twins.{Twins, SamePlace}
-use Rattle.stage1_sheet.specs.TwinLaws.{twin-numbers, twin-spells, twin-refused}
+use Rattle.stage1_sheet.specs.TwinLaws.{twin-contents, twin-spells, twin-refused}
+use Rattle.stage2_types.specs.TypeFaults.{TypeFault}
+use Rattle.stage4_lexer.specs.Words.{FirstEmptyRule, NoEmptyRule}
 use Rattle.stage5_image.specs.Check.{Verdict, failed, passed, check}
 use Rattle.stage5_image.specs.Checks.{Checks, short-work, long-sheet, not-a-sheet, empty-rule, untyped, passes}
 use Rattle.stage5_image.specs.CheckQuestions.{check-answers, checks-only, passable-passes, passed-passable}
@@ -17,9 +20,9 @@ use Rattle.stage5_image.specs.Write.{after-checking, write}
 
 module _ (a b : List ℕ) (bytes : Bytes a) (other-bytes : Bytes b) (twins : Twins a b) (short : length a ≤ most-sheet-bytes)
     (other-short : length b ≤ most-sheet-bytes) where
-  -- The place of a number of the one, in the other.
-  moved-place : {ns : List ℕ} {place : ℕ} → NumbersAt a 0 ns place → (other : ℕ) × NumbersAt b 0 ns other × SamePlace a b place other
-  moved-place {ns} s = let r = twin-numbers twins s in (r .0, r .1, (ns, s, r .1))
+  -- Places at the same index of places that correspond.
+  place-of : (l m : List ℕ) (k : ℕ) → Pairs (SamePlace a b) l m → SamePlace a b (getD l k 0) (getD m k 0)
+  place-of = pairs-at (SamePlace a b) ([], no-more, no-more)
 
   -- A question of the other, at a place where the same numbers stand before.
   abbrev FailsAlike : ℕ → ℕ → ℕ → Type 0
@@ -40,10 +43,17 @@ module _ (a b : List ℕ) (bytes : Bytes a) (other-bytes : Bytes b) (twins : Twi
   other-fails (long-sheet w h) e = absurd (omega (arith, h, short))
   other-fails (not-a-sheet q p w l h) e =
       let r = twin-refused twins h in fails-as e (r .0, not-a-sheet q (r .0) w other-short (r .1), r .2)
-  other-fails (empty-rule s k p w h x n) e =
-      let r = moved-place n in fails-as e (r .0, empty-rule s k (r .0) w (twin-spells twins other-short h) x (r .1), r .2)
-  other-fails (untyped s node q p w h m x n) e =
-      let r = moved-place n in fails-as e (r .0, untyped s node q (r .0) w (twin-spells twins other-short h) m x (r .1), r .2)
+  other-fails {work} (empty-rule c k w h x) e =
+      let r = twin-contents twins c other-short h in
+      let d = r .0 in
+      let first = subst (λ (s : Sheet). FirstEmptyRule (s .rules) k) (r .2 .same-sheet) x in
+      fails-as e (_, empty-rule d k w (r .1) first, place-of (c .action-places) (d .action-places) k (r .2 .actions))
+  other-fails {work} (untyped c node q w h m x) e =
+      let r = twin-contents twins c other-short h in
+      let d = r .0 in
+      let none-empty = subst (λ (s : Sheet). NoEmptyRule (s .rules)) (r .2 .same-sheet) m in
+      let fault = subst (λ (s : Sheet). TypeFault (s .expression) node q) (r .2 .same-sheet) x in
+      fails-as e (_, untyped d node q w (r .1) none-empty fault, place-of (c .node-places) (d .node-places) node (r .2 .nodes))
   other-fails (passes s w p) e = let z : _≡_ {A = ℕ} 0 1 = cc in absurd (omega arith)
 
   module _ (work : ℕ) where

@@ -11,6 +11,7 @@ use borrow.Author.Tests.{lt-leb}
 use Rattle.stage0_laws.specs.Truth.{true-holds}
 use Rattle.stage1_sheet.specs.Sheet.{Sheet}
 use Rattle.stage1_sheet.specs.Spelling.{Bytes}
+use Rattle.stage1_sheet.specs.ReadingLaws.{spelled-limits}
 use Rattle.stage4_lexer.specs.EmptyWord.{none-empty}
 use Rattle.stage5_image.specs.Image.{image-of, image-bytes}
 use Rattle.stage5_image.specs.ImageFormat.{ReadableAs}
@@ -28,7 +29,7 @@ use Rattle.stage5_image.specs.WriteLaws.{fitting, passed-written, writte
 -- The bytes that are written for a sheet's image are readable as that image.
 pub passable-readable : {bytes : List ℕ} {s : Sheet} → Passable bytes s → ReadableAs (image-bytes (image-of s)) (image-of s)
 passable-readable {bytes} {s} a =
-    image-readable (image-of s) (image-in-range s ((a .well-formed) .limits) (none-empty (s .rules) .1 (a .no-empty-text)) ((a .has-type) .1))
+    image-readable (image-of s) (image-in-range s (spelled-limits bytes s (a .well-formed)) (none-empty (s .rules) .1 (a .no-empty-text)) ((a .has-type) .1))
 
 module _ (bytes : List ℕ) (work room : ℕ) (b : Bytes bytes) where
   room-question : (s : Sheet) → Checks bytes work (passed s) → Writes bytes work room (fitted room (image-bytes (image-of s)))
@@ -110,7 +111,7 @@ too-long-from {bytes} b {work} (no-room s image h r l) n e =
     let same : length image ≡ n = cc in
     let image-written = ap length (readable-written image (image-of s) r) in
     let a = passed-passable bytes b work s (checks-only b h) .1 in
-    let fits = image-fits s ((a .well-formed) .limits) (none-empty (s .rules) .1 (a .no-empty-text)) ((a .has-type) .1) in
+    let fits = image-fits s (spelled-limits bytes s (a .well-formed)) (none-empty (s .rules) .1 (a .no-empty-text)) ((a .has-type) .1) in
     (omega arith, omega arith)
 too-long-from b (success s image h r l) n e = let z : _≡_ {A = ℕ} 0 1 = cc in absurd (omega arith)
 

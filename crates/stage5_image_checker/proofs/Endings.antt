@@ -13,7 +13,7 @@ use Rattle.stage1_sheet.specs.Limits.{most-sheet-bytes}
 use Rattle.stage1_sheet.specs.Field.{got}
 use Rattle.stage1_sheet.specs.Spelling.{Bytes}
 use Rattle.stage1_sheet.specs.Reading.{Contents, read-sheet}
-use Rattle.stage1_sheet.specs.ReadingLaws.{read-accepted}
+use Rattle.stage1_sheet.specs.ReadingLaws.{contents-limits, read-accepted}
 use Rattle.stage1_sheet_columns.specs.declared.RuleColumns.{RuleColumns}
 use Rattle.stage1_sheet_columns.specs.declared.NodeColumns.{NodeColumns}
 use Rattle.stage1_sheet_reader.specs.Reads.{Reads}
@@ -156,7 +156,7 @@ module _ (sheet : List ℕ) where
           held = record {
             rules-held = w .holds .rules-held;
             nodes-held = w .holds .nodes-held;
-            limits = read-accepted sheet bytes short (w .read) .spells .limits;
+            limits = contents-limits sheet (w .what) (read-accepted sheet bytes short (w .read));
           };
         }
 

@@ -5,7 +5,7 @@ use mathlib.Core.List.{List, [], _∷_, _++_}
 use Prim.Native.Nat.{ℕ}
 use lib.ListN.{length, replicate}
 use Rattle.stage1_sheet.specs.Sheet.{Sheet}
-use Rattle.stage1_sheet.specs.WellFormed.{Spells}
+use Rattle.stage1_sheet.specs.SheetFormat.{Spells}
 use Rattle.stage1_sheet.specs.SheetD.{with-expression, bytes-of-D}
 use Rattle.stage2_types.specs.Denotation.{Denotes}
 use Rattle.stage5_image.specs.Image.{Image}

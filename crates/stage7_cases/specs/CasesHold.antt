@@ -1,12 +1,12 @@
 -- Every row of the six tables of worked cases holds: what is computed of a row, and, by the demands, what follows for the sheet that
 -- its bytes spell. The rows themselves stand in `Cases`, `RepetitionCases`, `CheckCases`, `PaddingCases`, `WordCases` and `TableCases`.
 use mathlib.Core.Path.{_≡_, refl, sym, ap, subst, _∙_}
-use mathlib.Core.Bool.{not}
+use mathlib.Core.Bool.{true, not}
 use mathlib.Core.List.{List, [], _∷_, _++_}
 use mathlib.Core.Logic.{_⊎_, ⊎-elim}
 use Prim.Native.Nat.{ℕ, zero, suc, _+_, _*_, _≤_}
 use native.Mathlib.Omega.{arith}
-use lib.Dec.{T, eqb, leb, leb→le, lit≤}
+use lib.Dec.{T, eqb, leb, leb→le}
 use lib.ListN.{length}
 use borrow.Author.Tests.{eq-eqb}
 use Rattle.stage0_laws.specs.Lists.{All}
@@ -14,17 +14,16 @@ use Rattle.stage0_laws.specs.Members.{_&_}
 use Rattle.stage0_laws.specs.Truth.{not-holds, true-holds}
 use Rattle.stage1_sheet.specs.Limits.{most-sheet-bytes}
 use Rattle.stage1_sheet.specs.Sheet.{Sheet}
-use Rattle.stage1_sheet.specs.WellFormed.{Spells}
+use Rattle.stage1_sheet.specs.SheetFormat.{Spells}
 use Rattle.stage1_sheet.specs.FieldLaws.{Bytes, all-bytes, tested-bytes}
 use Rattle.stage1_sheet.specs.Field.{Reading, got}
 use Rattle.stage1_sheet.specs.Reading.{Contents, read-sheet}
-use Rattle.stage1_sheet.specs.ReadingLaws.{read-accepted, spelled-once}
+use Rattle.stage1_sheet.specs.ReadingLaws.{read-accepted, spelled-once, spelled-limits}
 use Rattle.stage1_sheet.specs.Regex.{class, concat, star}
 use Rattle.stage1_sheet.specs.Expression.{token, sequence, fixed-point, variable}
 use Rattle.stage1_sheet.specs.SheetD.{sheet-D, bytes-of-D}
 use Rattle.stage1_sheet.specs.Twins.{Twins}
-use Rattle.stage1_sheet.specs.TwinLaws.{spelled-twins}
-use Rattle.stage1_sheet.specs.Examples.{d-spelled}
+use Rattle.stage1_sheet.specs.TwinLaws.{numbers-twins, reads-as, read-as}
 use Rattle.stage2_types.specs.Denotation.{Denotes, denotation, iterate}
 use Rattle.stage4_lexer.specs.EmptyWord.{none-empty}
 use Rattle.stage5_image.specs.Image.{Image, plain-image}
@@ -93,7 +92,7 @@ changes-hold sheet bytes text a image e s spells f differ short =
     old : OwnAnswerByNumber s text a
     old =
         subst (OwnAnswerByNumber s text) f
-        (answered-by-number s (spells .limits) ((passable .has-type) .1) (none-empty (s .rules) .1 (passable .no-empty-text)) text)
+        (answered-by-number s (spelled-limits sheet s spells) ((passable .has-type) .1) (none-empty (s .rules) .1 (passable .no-empty-text)) text)
 
     change : (b : Answer) × OwnAnswerByNumber s text b × ((b ≡ run image text (stack-for text) .answer) ⊎ ReadingChanges s text)
     change =
@@ -123,7 +122,7 @@ holds (reads sheet text a) h =
 holds (changes sheet text a) h =
     let bytes = tested-bytes sheet (h .6) in
     let read = read-accepted sheet bytes (leb→le (length sheet) most-sheet-bytes (h .7)) (h .3) in
-    changes-hold sheet bytes text a (h .0) (h .2) (h .1 .sheet) (read .spells) (h .4) (h .5) (leb→le (length text) most-text-bytes (h .8))
+    changes-hold sheet bytes text a (h .0) (h .2) (h .1 .sheet) (h .1, read, refl) (h .4) (h .5) (leb→le (length text) most-text-bytes (h .8))
 holds (runs image text a) h =
     (h .0, demand-1 .running image text (tested-bytes image (h .1)) (stack-for text) _ .0 refl)
 holds (tables image rows winners) h = (h .0, read-readable image (tested-bytes image (h .4)) (h .0) (length image) (h .1), h .2, h .3)
@@ -131,7 +130,7 @@ holds (runs-table image text table winners entries a) h =
     (h .0, demand-1 .running image text (tested-bytes image (h .1)) (buffers table winners entries) _ .0 refl)
 holds (denotes-nothing sheet) h =
     let read = read-accepted sheet (tested-bytes sheet (h .2)) (leb→le (length sheet) most-sheet-bytes (h .3)) (h .1) in
-    (h .0 .sheet, read .spells, h .4)
+    (h .0 .sheet, (h .0, read, refl), h .4)
 
 all-hold : (cs : List Case) → All Computes cs → All Holds cs
 all-hold [] h = tt
@@ -301,15 +300,13 @@ table-cases-hold = all-hold table-cases table-computed
 
 -- ---- sheet D and a twin
 
--- D with every number in ten bytes is read as D, with places ten times as far.
-ten-read : read-sheet (in-ten bytes-of-D) ≡ got (record {
-  sheet = sheet-D;
-  action-places = 30 ∷ 120 ∷ 160 ∷ [];
-  node-places = 200 ∷ 210 ∷ 230 ∷ 240 ∷ 250 ∷ 260 ∷ 270 ∷ 290 ∷ 300 ∷ 320 ∷ [];
-}) 340
+-- D's numbers are its bytes; they are read from D with every number in ten bytes, too.
+D-numbers : (reads-as bytes-of-D bytes-of-D 0 ≡ true) × (reads-as (in-ten bytes-of-D) bytes-of-D 0 ≡ true)
 unfolding computing-machine
-ten-read = refl
+D-numbers = (refl, refl)
 
--- So it is D's twin.
+-- So that is D's twin.
 pub D-twins : Twins bytes-of-D (in-ten bytes-of-D)
-D-twins = spelled-twins d-spelled (read-accepted (in-ten bytes-of-D) (tested-bytes (in-ten bytes-of-D) tt) (lit≤ tt) ten-read .spells)
+D-twins =
+    numbers-twins (read-as bytes-of-D (tested-bytes bytes-of-D tt) bytes-of-D 0 (D-numbers .0))
+    (read-as (in-ten bytes-of-D) (tested-bytes (in-ten bytes-of-D) tt) bytes-of-D 0 (D-numbers .1))

@@ -11,7 +11,8 @@ use native.Mathlib.Omega.{arith}
 use lib.ListN.{length, replicate, length-replicate}
 use Rattle.stage1_sheet.specs.Limits.{most-sheet-bytes}
 use Rattle.stage1_sheet.specs.Sheet.{Sheet}
-use Rattle.stage1_sheet.specs.WellFormed.{Spells}
+use Rattle.stage1_sheet.specs.SheetFormat.{Spells}
+use Rattle.stage1_sheet.specs.ReadingLaws.{spelled-limits}
 use Rattle.stage1_sheet.specs.FieldLaws.{Bytes}
 use Rattle.stage1_sheet.specs.Twins.{Twins}
 use Rattle.stage1_sheet.specs.TwinLaws.{twins-back}
@@ -135,7 +136,7 @@ pub text-changes-only : (sheet : List ℕ) (s : Sheet) → Passable sheet s → 
     → (a : Answer) × OwnAnswerByNumber s text a × ((a ≡ b) ⊎ ReadingChanges s text)
 text-changes-only sheet s p text b own =
     let no-empty = none-empty (s .rules) .1 (p .no-empty-text) in
-    let old = answered-by-number s ((p .well-formed) .limits) ((p .has-type) .1) no-empty text in
+    let old = answered-by-number s (spelled-limits sheet s (p .well-formed)) ((p .has-type) .1) no-empty text in
     (_, old, answer-changes-only s text no-empty _ b old own)
 
 -- Of any functions that meet demand 2: where no other rule stands above a word rule, the image is byte for byte the one with the rules numbered
@@ -156,7 +157,7 @@ module _ (f : Functions) (first : Demand1 f) (second : Demand2 f) (sheet : List 
   written-in-65536 room enough =
       let w = second .some-buffer sheet work .0 (s, passes) in
       let readable = second .normal-form sheet bytes work (w .0) (w .1) (w .2) s (passable .well-formed) in
-      let few = image-fits s ((passable .well-formed) .limits) (none-empty (s .rules) .1 (passable .no-empty-text)) ((passable .has-type) .1) in
+      let few = image-fits s (spelled-limits sheet s (passable .well-formed)) (none-empty (s .rules) .1 (passable .no-empty-text)) ((passable .has-type) .1) in
       let short : length (w .1) ≤ room = omega (arith, few, ap length (readable-written (w .1) (image-of s) readable), enough) in
       (w .1, second .long-buffers sheet work (w .0) (w .1) (w .2) room .1 short)
 

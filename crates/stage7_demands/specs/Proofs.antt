@@ -8,9 +8,10 @@ use Prim.Native.Nat.{ℕ, _≤_}
 use native.Mathlib.Omega.{arith}
 use lib.ListN.{length, drop, length-append, length-drop}
 use Rattle.stage1_sheet.specs.Sheet.{Sheet}
-use Rattle.stage1_sheet.specs.WellFormed.{WithinLimits, Spells}
+use Rattle.stage1_sheet.specs.WellFormed.{WithinLimits}
+use Rattle.stage1_sheet.specs.SheetFormat.{Spells}
 use Rattle.stage1_sheet.specs.Spelling.{Bytes}
-use Rattle.stage1_sheet.specs.ReadingLaws.{spelled-once}
+use Rattle.stage1_sheet.specs.ReadingLaws.{spelled-once, spelled-limits}
 use Rattle.stage4_lexer.specs.RuleOrder.{words-first-sheet, WordsAbove}
 use Rattle.stage4_lexer.specs.OrderedMatches.{ordered-empty-match, ordered-limits, match-changes-only}
 use Rattle.stage4_lexer.specs.Positions.{empty-match}
@@ -117,7 +118,7 @@ unfolds-exactly : (sheet : List ℕ) → Bytes sheet → (work room : ℕ) (imag
     → (s : Sheet) → Spells sheet s → (rules : List ℕ) → StartUnfolds ((image-of s) .rows) rules ↔ DenotedRules s rules
 unfolds-exactly sheet bytes work room image e s spells =
     let a = accepted-sheet sheet bytes work room image e s spells in
-    image-denotes s ((spells .limits) .closed) (((a .0) .passable .has-type) .1)
+    image-denotes s (spelled-limits sheet s spells .closed) (((a .0) .passable .has-type) .1)
 
 same-numbering : (sheet : List ℕ) → Bytes sheet → (work room : ℕ) (image : List ℕ) → write sheet work room ≡ written image
     → (s : Sheet) → Spells sheet s → WordsAbove (s .rules) → ReadableAs image (plain-image s)
@@ -152,7 +153,7 @@ runs-own sheet bytes work room image e s spells text lent within long r runs = b
 
     -- The image is that of the sheet with its rules in the image's order.
     limits : WithinLimits (words-first-sheet s)
-    limits = ordered-limits s (spells .limits)
+    limits = ordered-limits s (spelled-limits sheet s spells)
 
     by-question : {q : Ran} → Runs image text lent q → (q .answer .number ≡ 18 → ⊥) → (q .answer .number ≡ 19 → ⊥) → OwnAnswer s text (q .answer)
     by-question (short h) m n = absurd (m refl)

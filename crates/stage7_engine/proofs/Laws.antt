@@ -9,6 +9,7 @@ use lib.ListN.{length, take, drop, replicate, length-replicate}
 use borrow.Author.Tests.{lt-ltb, le-ltb, eq-eqb, ne-eqb}
 use Rattle.stage1_sheet.specs.Sheet.{Sheet}
 use Rattle.stage1_sheet.specs.FieldLaws.{Bytes}
+use Rattle.stage1_sheet.specs.ReadingLaws.{spelled-limits}
 use Rattle.stage5_image.specs.Check.{work-bytes}
 use Rattle.stage5_image.specs.Write.{refused, too-long, written, write, image-after}
 use Rattle.stage5_image.specs.Write as page
@@ -115,7 +116,7 @@ pub own-line : (sheet text : List ℕ) (t : Told) → OwnReading most-program-te
 own-line sheet text t o = record {
   own-answer = λ s room a short.
       let p = a .passable in
-      let few = image-fits s ((p .well-formed) .limits) (none-empty (s .rules) .1 (p .no-empty-text)) ((p .has-type) .1) in
+      let few = image-fits s (spelled-limits sheet s (p .well-formed)) (none-empty (s .rules) .1 (p .no-empty-text)) ((p .has-type) .1) in
       let fitting : Acceptable sheet program-room s = record {
         passable = p;
         fits = ((a .fits) .0, (a .fits) .1, omega (arith, few, ap length (readable-written ((a .fits) .0) (image-of s) ((a .fits) .1))));

@@ -2,19 +2,15 @@
 use borrow.Author.Needs.{needs}
 use mathlib.Core.Path.{sym, _∙_}
 use denote.Ref.{now}
-use Rattle.stage1_sheet.specs.FieldLaws.{Bytes}
 use Rattle.stage1_sheet_reader.proofs.Leading.{was-read, was-stopped}
 use Rattle.stage1_sheet_reader.proofs.Whole.{HeadRead, head-wrong, head-read, sheet-head, sheet-rules, sheet-rest}
 use Rattle.stage1_sheet_reader.proofs.read_sheet.Statement.{statement}
 use Rattle.stage1_sheet_reader.proofs.read_sheet.Tie as tie
 
 -- At the place where the head is known.
-bytes-told : (told : tie.After-tokens) → Bytes (now (told .before .before .before .before .args .sheet))
-bytes-told told i = told .before .before .before .shared-slice-known .given i .fits
-
 head-told : (told : tie.After-tokens) → let k = told .tokens .given .0 in
     HeadRead (now (told .before .before .before .before .args .sheet)) (k .0) (k .1 .0) (k .1 .1 .0)
-head-told told = head-read _ (bytes-told told) (sym (told .before .before .read-header .ensures) ∙ told .tokens .given .1)
+head-told told = head-read _ (sym (told .before .before .read-header .ensures) ∙ told .tokens .given .1)
 
 read-header-requires : tie.Need-read-header-requires
 read-header-requires c κs = search needs
@@ -79,7 +75,7 @@ returns-3 c =
     let h = head-told told in
     let x = called .read-rules .ensures in
     let w = was-read (x .answers) (stepped .step2 .given .1) in
-    sheet-rest (now (z .args .sheet)) _ (h .read) (bytes-told told) (w .read) (w .columns) (x .fits) (c .read-rest .ensures)
+    sheet-rest (now (z .args .sheet)) _ (h .read) (w .read) (w .columns) (x .fits) (c .read-rest .ensures)
 
 pub read-sheet-spec : {M : Type 1} → statement M
 read-sheet-spec =
