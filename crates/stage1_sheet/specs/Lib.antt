@@ -18,8 +18,8 @@ pub mod FieldLaws
 pub mod NumberLaws
 pub mod FormatLaws
 pub mod WellFormed
-pub mod SheetRanges
 pub mod SheetAgreement
+pub mod SheetRanges
 pub mod ReadingLaws
 pub mod TwinLaws
 pub mod RegexItems

@@ -23,12 +23,14 @@ use Rattle.stage1_sheet.specs.FieldLaws.{true-between}
 use Rattle.stage1_sheet.specs.Items.{RegexItem, concat-item, union-item, star-item, regex-parts, item-classes, regex-before, regexes}
 use Rattle.stage1_sheet.specs.Items.{ExpressionItem, token-item, sequence-item, alternative-item, fixed-point-item, variable-item}
 use Rattle.stage1_sheet.specs.Items.{repetition-item, part-depths, expression-before, expressions}
-use Rattle.stage1_sheet.specs.Reading.{sheet-field, class-after, regex-item, regex-items, ReadRule, Allowance, less-rule, read-rule, expression-item, expression-nodes}
+use Rattle.stage1_sheet.specs.Reading.{sheet-field, class-after, regex-item, regex-items, ReadRule, Allowance, less-rule, read-rule}
+use Rattle.stage1_sheet.specs.Reading.{expression-item, expression-nodes}
 use Rattle.stage1_sheet.specs.Reading.{Contents, contents, at-end, read-sheet}
 use Rattle.stage1_sheet.specs.Format.{Format, done}
 use Rattle.stage1_sheet.specs.FormatLaws.{judged, asked, read-part, read, then-same, then-then}
 use Rattle.stage1_sheet.specs.FormatLaws as whole-reading
-use Rattle.stage1_sheet.specs.SheetFormat.{judge, value, Before, with-tag, regex-limits, after-regex-tag, regex-format, rules-format, after-expression-tag, expression-format, sheet-format, sheet-asked}
+use Rattle.stage1_sheet.specs.SheetFormat.{judge, value, Before, with-tag, regex-limits, after-regex-tag, regex-format, rules-format}
+use Rattle.stage1_sheet.specs.SheetFormat.{after-expression-tag, expression-format, sheet-format, sheet-asked}
 
 module _ (bytes : List ℕ) where
   abbrev part : {X : Type 0} → Format X → ℕ → Reading X
@@ -130,7 +132,8 @@ module _ (bytes : List ℕ) where
           rec (suc due) (with-item b item) _ _ _ mid _ (λ rs. go (regex-before item rs)) (omega arith) (omega arith, omega arith) (omega arith)
           (λ r c l k many p e x m. rec due c l k many p _ (λ rs. go (regex-before item (r ∷ rs))) (omega arith) x m
           (λ s d i j n q f y o. on (make r s) d i j n q (omega arith) y o
-          ∙ then-same (regex-items bytes i j n q) (λ items end. ap (λ (l : List Regex). go l (after-items d items) end) (sym (before r s (regexes items))))))
+          ∙ then-same (regex-items bytes i j n q) (λ items end.
+          ap (λ (l : List Regex). go l (after-items d items) end) (sym (before r s (regexes items))))))
 
     class-agrees : (mid : ℕ) → regex-limits b 1 ≡ true
         → part (value (between 0 most-byte) (λ low. value (between low most-byte) (λ high. next (class low high) (with-tag b 1)))) mid
@@ -142,7 +145,8 @@ module _ (bytes : List ℕ) where
         rw (ne-eqb classes 0 (λ e. omega arith))
         (value-same (between 0 most-byte) mid (λ low m a. value-same (between low most-byte) m (λ high end e.
         on (class low high) (with-tag b 1) _ _ _ end (omega arith) (omega arith, omega arith) (omega arith))
-        ∙ sym (then-then (sheet-field (between low most-byte) bytes m) _ then-items)) ∙ sym (then-then (sheet-field (between 0 most-byte) bytes mid) _ then-items))
+        ∙ sym (then-then (sheet-field (between low most-byte) bytes m) _ then-items))
+        ∙ sym (then-then (sheet-field (between 0 most-byte) bytes mid) _ then-items))
 
     item-agrees : (tag mid : ℕ) → between 0 most-regex-tag tag ≡ true → regex-limits b tag ≡ true
         → part (after-regex-tag (regex-format depth) (with-tag b tag) next tag) mid ≡ and-then (regex-item bytes classes at tag mid) then-items
@@ -184,7 +188,8 @@ module _ (bytes : List ℕ) where
       (λ v. ap (λ (t : Bool). t && (not (eqb v 1) || ltb (b .classes) most-classes)) (le-ltb (b .nodes) most-regex-nodes (omega arith)))
   one-deeper depth rec due b (suc left) classes (suc many) at next go d h m on =
       number-same (between 0 most-regex-tag) (regex-limits b) at
-      (item-agrees depth rec many b left classes at next go d h after) (λ v end a. item-stops depth rec many b left classes at next go d h after v end)
+      (item-agrees depth rec many b left classes at next go d h after)
+      (λ v end a. item-stops depth rec many b left classes at next go d h after v end)
       ∙ sym (items-step left classes many b at go)
     where
       after : GoesOn b many next go
@@ -200,7 +205,8 @@ module _ (bytes : List ℕ) (tokens : ℕ) where
   -- Reading expressions by their nodes, one for each number of open fixed points, and going on with the expressions and the places of tags.
   abbrev by-nodes : {X : Type 0} → ℕ → List ℕ → List ℕ → ℕ → (List Expression → List ℕ → ℕ → Reading X) → Reading X
   by-nodes left places due at go =
-      and-then (expression-nodes bytes tokens left due at) (λ nodes end. go (expressions (map (λ n. n .item) nodes)) (places ++ map (λ n. n .place) nodes) end)
+      and-then (expression-nodes bytes tokens left due at) (λ nodes end.
+      go (expressions (map (λ n. n .item) nodes)) (places ++ map (λ n. n .place) nodes) end)
 
   nodes-none : {X : Type 0} (left : ℕ) (places : List ℕ) (at : ℕ) (go : List Expression → List ℕ → ℕ → Reading X)
       → go [] places at ≡ by-nodes left places [] at go
@@ -225,7 +231,8 @@ module _ (bytes : List ℕ) (tokens : ℕ) where
 
   -- After an expression the format goes on as the nodes of the expressions due do.
   abbrev ThenNodes : {X : Type 0} → List ℕ → List ℕ → (Expression → List ℕ → Format X) → (List Expression → List ℕ → ℕ → Reading X) → Type 0
-  ThenNodes places due next go = (g : Expression) (tags : List ℕ) (left at : ℕ) → length places ≤ length tags → left ≡ most-expression-nodes - length tags
+  ThenNodes places due next go = (g : Expression) (tags : List ℕ) (left at : ℕ) → length places ≤ length tags
+      → left ≡ most-expression-nodes - length tags
       → part bytes (next g tags) at ≡ by-nodes left tags due at (λ gs. go (g ∷ gs))
 
   abbrev ExpressionAgrees : Type 0 → ℕ → Type 0
@@ -256,12 +263,14 @@ module _ (bytes : List ℕ) (tokens : ℕ) where
         → part bytes (value (λ k. ltb k bound) (λ k. next (make k) tags)) mid
         ≡ and-then (and-then (sheet-field (λ k. ltb k bound) bytes mid) (λ k end. got (item k) end)) then-nodes
     numbered bound make item mid e =
-        value-same bytes (λ k. ltb k bound) mid (λ k end a. leaf (make k) end ∙ sym (e k end)) ∙ sym (then-then (sheet-field (λ k. ltb k bound) bytes mid) _ then-nodes)
+        value-same bytes (λ k. ltb k bound) mid (λ k end a. leaf (make k) end ∙ sym (e k end))
+        ∙ sym (then-then (sheet-field (λ k. ltb k bound) bytes mid) _ then-nodes)
 
     -- A tag with two parts.
     module _ (item : ExpressionItem) (make : Expression → Expression → Expression) (parts : part-depths item opened ≡ opened ∷ opened ∷ [])
         (before : (f g : Expression) (gs : List Expression) → expression-before item (f ∷ g ∷ gs) ≡ make f g ∷ gs) where
-      pair : (mid : ℕ) → part bytes (expression-format depth tokens opened tags (λ g p. expression-format depth tokens opened p (λ h q. next (make g h) q))) mid
+      pair : (mid : ℕ)
+          → part bytes (expression-format depth tokens opened tags (λ g p. expression-format depth tokens opened p (λ h q. next (make g h) q))) mid
           ≡ then-nodes item mid
       pair mid =
           rw parts (rec opened (opened ∷ due) tags left mid _ (λ gs. go (expression-before item gs)) (omega (arith, more)) (omega (arith, more))
@@ -386,11 +395,13 @@ module _ (bytes : List ℕ) where
   unfolding sheet-format read-sheet at-end
   sheet-agrees =
       ap (λ (r : Reading Contents). and-then r (whole-reading.at-end (sheet-asked bytes)))
-      (value-same bytes (between 1 1) 0 (λ version p a. value-same bytes (between 1 most-tokens) p (λ tokens q b. value-same bytes (between 1 most-rules) q
+      (value-same bytes (between 1 1) 0 (λ version p a. value-same bytes (between 1 most-tokens) p (λ tokens q b.
+      value-same bytes (between 1 most-rules) q
       (λ count r c. rules-agree tokens count (record { nodes = 0; classes = 0 }) most-regex-nodes most-classes r _ (refl, refl)
       ∙ then-same (read-many (read-rule bytes tokens) less-rule _ count r) (λ rules e. expression-part tokens rules e)))))
       ∙ then-then (sheet-field (between 1 1) bytes 0) _ _ ∙ then-same (sheet-field (between 1 1) bytes 0)
       (λ version p. then-then (sheet-field (between 1 most-tokens) bytes p) _ _ ∙ then-same (sheet-field (between 1 most-tokens) bytes p)
       (λ tokens q. then-then (sheet-field (between 1 most-rules) bytes q) _ _ ∙ then-same (sheet-field (between 1 most-rules) bytes q)
-      (λ count r. then-then (read-many (read-rule bytes tokens) less-rule _ count r) _ _ ∙ then-same (read-many (read-rule bytes tokens) less-rule _ count r)
+      (λ count r. then-then (read-many (read-rule bytes tokens) less-rule _ count r) _ _
+      ∙ then-same (read-many (read-rule bytes tokens) less-rule _ count r)
       (λ rules e. then-then (expression-nodes bytes tokens most-expression-nodes (0 ∷ []) e) _ _))))

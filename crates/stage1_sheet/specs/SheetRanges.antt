@@ -156,7 +156,8 @@ module _ (S : ℕ → ℕ → Type 0) {A : Type 0} (R : A → A → Type 0) wher
   rules-alike tokens zero b next then k h =
       h [] [] [] (record { many = refl; allowed = tt; nodes-most = omega (arith, k .0); classes-most = omega (arith, k .1); places = tt })
   rules-alike tokens (suc count) b next then k h =
-      alike-number (between 0 tokens) (λ v. true) (λ v. true) (λ v. refl) (λ action i j a e s. regex-alike most-regex-nodes b _ _ k (λ r c x y. rules-alike tokens count c _ _ (y .2) (λ rs p q m.
+      alike-number (between 0 tokens) (λ v. true) (λ v. true) (λ v. refl) (λ action i j a e s.
+      regex-alike most-regex-nodes b _ _ k (λ r c x y. rules-alike tokens count c _ _ (y .2) (λ rs p q m.
       h (record { action = action; regex = r } ∷ rs) (i ∷ p) (j ∷ q) (record {
         many = ap suc (m .many);
         allowed = (
@@ -178,15 +179,17 @@ module _ (S : ℕ → ℕ → Type 0) {A : Type 0} (R : A → A → Type 0) wher
     places : Pairs S p q
 
   abbrev ThenExpression : ℕ → ℕ → List ℕ → (Expression → List ℕ → Format A) → (Expression → List ℕ → Format A) → Type 0
-  ThenExpression tokens opened before next then = (g : Expression) (p q : List ℕ) → ExpressionMade tokens opened before g p q → Alike S R (next g p) (then g q)
+  ThenExpression tokens opened before next then = (g : Expression) (p q : List ℕ) → ExpressionMade tokens opened before g p q
+      → Alike S R (next g p) (then g q)
 
   abbrev ExpressionAlike : ℕ → ℕ → Type 0
-  ExpressionAlike tokens depth = (opened : ℕ) (p q : List ℕ) (next then : Expression → List ℕ → Format A) → length p ≤ most-expression-nodes → Pairs S p q
-      → ThenExpression tokens opened p next then
+  ExpressionAlike tokens depth = (opened : ℕ) (p q : List ℕ) (next then : Expression → List ℕ → Format A) → length p ≤ most-expression-nodes
+      → Pairs S p q → ThenExpression tokens opened p next then
       → Alike S R (expression-format depth tokens opened p next) (expression-format depth tokens opened q then)
 
   module _ (tokens depth : ℕ) (rec : ExpressionAlike tokens depth) (opened : ℕ) (before p q : List ℕ) (next then : Expression → List ℕ → Format A)
-      (l : length p ≡ suc (length before)) (m : length p ≤ most-expression-nodes) (s : Pairs S p q) (h : ThenExpression tokens opened before next then) where
+      (l : length p ≡ suc (length before)) (m : length p ≤ most-expression-nodes) (s : Pairs S p q)
+      (h : ThenExpression tokens opened before next then) where
     leaf-alike : (g : Expression) → Closed tokens opened g → size g ≡ 1 → Alike S R (next g p) (then g q)
     leaf-alike g c n = h g p q (record { closed = c; many = omega arith; most = m; places = s })
 
@@ -205,7 +208,8 @@ module _ (S : ℕ → ℕ → Type 0) {A : Type 0} (R : A → A → Type 0) wher
 
     single-alike : (inside : ℕ) (make : Expression → Expression) → ((g : Expression) → Closed tokens inside g → Closed tokens opened (make g))
         → ((g : Expression) → size (make g) ≡ 1 + size g)
-        → Alike S R (expression-format depth tokens inside p (λ g i. next (make g) i)) (expression-format depth tokens inside q (λ g i. then (make g) i))
+        → Alike S R (expression-format depth tokens inside p (λ g i. next (make g) i))
+        (expression-format depth tokens inside q (λ g i. then (make g) i))
     single-alike inside make closed sizes =
         rec inside p q _ _ m s (λ g i j a. h (make g) i j (record {
           closed = closed g (a .closed);
@@ -224,7 +228,8 @@ module _ (S : ℕ → ℕ → Type 0) {A : Type 0} (R : A → A → Type 0) wher
     node-alike (suc (suc (suc zero))) a = pair-alike sequence (λ f g x y. (x, y)) (λ f g. refl)
     node-alike (suc (suc (suc (suc zero)))) a = pair-alike alternative (λ f g x y. (x, y)) (λ f g. refl)
     node-alike (suc (suc (suc (suc (suc zero))))) a = single-alike (suc opened) fixed-point (λ g c. c) (λ g. refl)
-    node-alike (suc (suc (suc (suc (suc (suc zero)))))) a = alike-value (λ n. ltb n opened) (λ n e. leaf-alike (variable n) (ltb-true n opened e) refl)
+    node-alike (suc (suc (suc (suc (suc (suc zero)))))) a =
+        alike-value (λ n. ltb n opened) (λ n e. leaf-alike (variable n) (ltb-true n opened e) refl)
     node-alike (suc (suc (suc (suc (suc (suc (suc zero))))))) a = single-alike opened repetition (λ g c. c) (λ g. refl)
     node-alike (suc (suc (suc (suc (suc (suc (suc (suc tag)))))))) a =
         absurd (omega (arith, true-between 0 most-expression-tag (suc (suc (suc (suc (suc (suc (suc (suc tag)))))))) a .1))
@@ -251,7 +256,8 @@ pub record SameContents (S : ℕ → ℕ → Type 0) (c d : Contents) : Type 0 w
 pub sheet-alike : (S : ℕ → ℕ → Type 0) → Alike S (SameContents S) sheet-format sheet-format
 unfolding sheet-format
 sheet-alike S =
-    alike-value S _ (between 1 1) (λ version v. alike-value S _ (between 1 most-tokens) (λ tokens t. alike-value S _ (between 1 most-rules) (λ count c.
+    alike-value S _ (between 1 1) (λ version v. alike-value S _ (between 1 most-tokens) (λ tokens t.
+    alike-value S _ (between 1 most-rules) (λ count c.
     rules-alike S _ tokens count (record { nodes = 0; classes = 0 }) _ _ (omega arith, omega arith) (λ rs i j r.
     expression-alike S _ tokens most-expression-nodes 0 [] [] _ _ (omega arith) tt (λ g p q x. both-made (record {
       same-sheet = refl;

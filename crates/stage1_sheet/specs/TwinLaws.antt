@@ -132,7 +132,8 @@ module _ {a b : List ℕ} where
       let z = twin-number t n in (stop question j, not-allowed (z .1) (sym (e v) ∙ f), (refl, s))
   twin-answers {i = i} {j = j} t s (both-ask e k h) (onward {v = v} n f r) =
       let z = twin-number t n in
-      let after : SamePlace a b _ (z .0) = (s .0 ++ (v ∷ []), numbers-append (s .1) (one-more n no-more), numbers-append (s .2) (one-more (z .1) no-more)) in
+      let after : SamePlace a b _ (z .0) =
+      (s .0 ++ (v ∷ []), numbers-append (s .1) (one-more n no-more), numbers-append (s .2) (one-more (z .1) no-more)) in
       let y = twin-answers (z .2) after (h v i j f s) r in
       (y .0, onward (z .1) (sym (e v) ∙ f) (y .1), y .2)
 

@@ -105,7 +105,8 @@ pub checks-only : {bytes : List ℕ} → Bytes bytes → {work : ℕ} {v : Verdi
 unfolding check after-work after-reading after-rules after-types
 checks-only b {work} (short-work h) = rw (lt-ltb work work-bytes h)
 checks-only {bytes} b {work} (long-sheet w h) = rw (le-ltb work work-bytes w, lt-ltb most-sheet-bytes (length bytes) h)
-checks-only {bytes} b {work} (not-a-sheet question place w l h) = after-questions bytes work w l ∙ ap after-reading (sheet-read-iff bytes b (stop question place) .1 h)
+checks-only {bytes} b {work} (not-a-sheet question place w l h) =
+    after-questions bytes work w l ∙ ap after-reading (sheet-read-iff bytes b (stop question place) .1 h)
 checks-only {bytes} b {work} (empty-rule c k w h x) = from-rules bytes work w c h ∙ rw (first-empty-iff (c .sheet .rules) k .1 x)
 checks-only {bytes} b {work} (untyped c node question w h m x) =
     from-types bytes work w c h m ∙ rw (fault-is (c .sheet) (contents-limits bytes c h) (record { number = question; node = node }) .1 x)

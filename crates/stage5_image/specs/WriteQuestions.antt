@@ -29,7 +29,8 @@ use Rattle.stage5_image.specs.WriteLaws.{fitting, passed-written, writte
 -- The bytes that are written for a sheet's image are readable as that image.
 pub passable-readable : {bytes : List ℕ} {s : Sheet} → Passable bytes s → ReadableAs (image-bytes (image-of s)) (image-of s)
 passable-readable {bytes} {s} a =
-    image-readable (image-of s) (image-in-range s (spelled-limits bytes s (a .well-formed)) (none-empty (s .rules) .1 (a .no-empty-text)) ((a .has-type) .1))
+    image-readable (image-of s) (image-in-range s (spelled-limits bytes s (a .well-formed)) (none-empty (s .rules) .1 (a .no-empty-text))
+    ((a .has-type) .1))
 
 module _ (bytes : List ℕ) (work room : ℕ) (b : Bytes bytes) where
   room-question : (s : Sheet) → Checks bytes work (passed s) → Writes bytes work room (fitted room (image-bytes (image-of s)))

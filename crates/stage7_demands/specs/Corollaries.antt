@@ -157,7 +157,8 @@ module _ (f : Functions) (first : Demand1 f) (second : Demand2 f) (sheet : List 
   written-in-65536 room enough =
       let w = second .some-buffer sheet work .0 (s, passes) in
       let readable = second .normal-form sheet bytes work (w .0) (w .1) (w .2) s (passable .well-formed) in
-      let few = image-fits s (spelled-limits sheet s (passable .well-formed)) (none-empty (s .rules) .1 (passable .no-empty-text)) ((passable .has-type) .1) in
+      let few = image-fits s (spelled-limits sheet s (passable .well-formed)) (none-empty (s .rules) .1 (passable .no-empty-text))
+      ((passable .has-type) .1) in
       let short : length (w .1) ≤ room = omega (arith, few, ap length (readable-written (w .1) (image-of s) readable), enough) in
       (w .1, second .long-buffers sheet work (w .0) (w .1) (w .2) room .1 short)
 
