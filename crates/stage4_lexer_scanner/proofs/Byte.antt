@@ -16,7 +16,7 @@ use Rattle.stage0_laws.specs.BitLaws.{bit-or, bit-and, bit-one-if, bit-zero, bi
 use Rattle.stage4_lexer.specs.Positions.{Position}
 use Rattle.stage4_lexer.specs.Walk.{has-byte, keep, follows, ended}
 use Rattle.stage4_lexer.specs.SetWalk.{members, members-from, set-walk}
-use Rattle.stage4_lexer.specs.SetWalkLaws.{members-shorter}
+use Rattle.stage4_lexer.specs.SetWalkLaws.{members-shorter, walk-meets-members}
 use Rattle.stage4_lexer.specs.LowestPosition.{first-ended, ended-first}
 use Rattle.stage4_lexer_classes.specs.ClassTable.{having}
 use Rattle.stage4_lexer_classes.specs.ClassTableLaws.{having-first}
@@ -126,10 +126,10 @@ module _ (tables : List ℕ) (last : ℕ) where
     -- What a byte leads to, by the follow sets and the lowest rule of the positions that it keeps.
     pub leads-to : (held b next : ℕ) (e : Ended) → b < 256
         → let kept = bitAnd held (getD tables b 0) in
-        (next ≡ joined follow-sets (set-walk kept)) × (set-walk kept ≡ members kept) → rule-of e ≡ first-entry rules (members (bitAnd kept last))
+        kept < 2 ^ 64 → next ≡ joined follow-sets (set-walk kept) → rule-of e ≡ first-entry rules (members (bitAnd kept last))
         → LeadsTo ps held b (record { held = next; ended = e })
-    leads-to held b next e h f g =
+    leads-to held b next e h small f g =
         let kept = kept-is held b h in record {
-          next-held = f .0 ∙ ap (joined follow-sets) (f .1) ∙ follows-kept held b _ kept ∙ ap (follows ps 0) kept;
+          next-held = f ∙ ap (joined follow-sets) (walk-meets-members _ small) ∙ follows-kept held b _ kept ∙ ap (follows ps 0) kept;
           rule-ended = g ∙ ended-kept held b _ kept ∙ ap (ended ps 0) kept;
         }

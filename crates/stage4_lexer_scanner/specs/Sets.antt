@@ -16,7 +16,7 @@ unfoldable pub joined : List ℕ → List ℕ → ℕ
 joined sets [] = 0
 joined sets (i ∷ l) = bitOr (getD sets i 0) (joined sets l)
 
--- The entry of the first position of a list, if there is one.
+-- The entry of the first position of a list, if there is one, as a byte.
 unfoldable pub first-entry : List ℕ → List ℕ → Option ℕ
 first-entry entries [] = none
 first-entry entries (i ∷ l) = some (getD entries i 0 % 256)

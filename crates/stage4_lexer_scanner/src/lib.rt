@@ -1,4 +1,4 @@
-// The scanner: the longest match at the front of a text, by a walk over positions held in columns. Sets of positions are words.
+// The scanner: the longest match at the front of a text, by a walk over positions that the machine's tables hold. Sets of positions are words.
 // Which place of a text the front starts at, and what a match leads to, is not asked here.
 ghost use mathlib.Core.Path.{_≡_};
 ghost use mathlib.Core.List.{_∷_};
@@ -48,7 +48,7 @@ fn lowest_first(set: u64) -> Step
 
 // The follow sets of the kept positions, together, as the walk meets them: from the lowest position to the next, until none is left.
 pub fn follow_sets(kept: u64, tables: &[u64; 448]) -> u64
-    ensures { λ r. ⌜ (r ≡ joined (drop 256 (now (tables .entry))) (set-walk kept)) × (set-walk kept ≡ members kept) ⌝ }
+    ensures { λ r. ⌜ r ≡ joined (drop 256 (now (tables .entry))) (set-walk kept) ⌝ }
 {
     let mut next: u64 = 0;
     let mut left = kept;
@@ -77,6 +77,7 @@ pub fn lowest_rule(ending: u64, tables: &[u64; 448]) -> Ended
 
 // What a byte leads to: the class table gives the kept positions by one `and`, and only these are walked.
 fn after_byte(byte: u8, held: u64, last: u64, tables: &[u64; 448]) -> AfterByte
+    requires { ⌜ ((ps : List Position) × Prepared ps last (now tables)) ⌝ }
     ensures { λ r. ⌜ ((ps : List Position) → Prepared ps last (now (tables .entry)) → LeadsTo ps held byte r) ⌝ }
 {
     let kept = held & tables[byte as usize];
@@ -117,6 +118,7 @@ fn found_match(ending: u64, length: usize, tables: &[u64; 448]) -> Found
 // set; the rule is looked up once, after the walk, and the one that `after_byte` tells is not used. The walk ends where a byte keeps no
 // position. If those that the latest byte kept end a match, that is the longest, otherwise the one noted is.
 pub fn longest_match<'a>(text: &'a [u8], tables: &'a [u64; 448], last: u64, first: u64) -> Found
+    requires { ⌜ ((ps : List Position) × Prepared ps last (now tables)) ⌝ }
     ensures { λ r. ⌜ ((ps : List Position) → Prepared ps last (now (tables .entry))
         → match-of r ≡ longest-match ps first (now (text .entry))) ⌝ }
 {

@@ -1,6 +1,6 @@
 -- What a run leaves of what it is lent, in the page's sentences: which numbers leave all of it untouched, what it holds otherwise, and that a
 -- run with a table is the run without one unless 18 or 19 is given. Of the relation alone.
-use mathlib.Core.Path.{_≡_, refl, sym, ap, _∙_}
+use mathlib.Core.Path.{_≡_, refl, sym, ap, subst, _∙_}
 use mathlib.Core.Bool.{Bool, true, false, true≢false, _||_}
 use mathlib.Core.List.{List, _++_}
 use mathlib.Core.Option.{some}
@@ -11,11 +11,12 @@ use lib.Dec.{eqb}
 use Rattle.stage1_sheet.specs.FieldLaws.{Bytes}
 use Rattle.stage4_lexer.specs.Table.{written-over}
 use Rattle.stage5_image.specs.Image.{Image}
+use Rattle.stage5_image.specs.ReadableImages.{readable-one}
 use Rattle.stage6_machine.specs.Answer.{Answer}
 use Rattle.stage6_machine.specs.Trace.{State, Ended, answer-of}
 use Rattle.stage6_machine.specs.Lent.{Lent, stack-alone, Ran, entries-of, winners-of, built, turned-away, finished}
 use Rattle.stage6_machine.specs.Runs.{Traces, rule-skipped, rule-taken, nothing-matched, rule-untaken, stack-overflowed, nullable-at-end}
-use Rattle.stage6_machine.specs.Runs.{pending-at-end, Begins, Runs, short, long-text, unreadable, many-rows, no-entry, started}
+use Rattle.stage6_machine.specs.Runs.{pending-at-end, ManyRows, Begins, Runs, short, long-text, unreadable, many-rows, no-entry, started}
 use Rattle.stage6_machine.specs.RunsLaws.{runs-one}
 
 -- "Entries past the last row keep what they held."
@@ -40,10 +41,13 @@ traces-number (stack-overflowed rule n t w k o) = refl
 traces-number (nullable-at-end e n) = refl
 traces-number (pending-at-end e n) = refl
 
+-- What a run that has begun leaves.
+abbrev left-of : Lent → Image → Lent
+left-of lent i = record { stack = replicate (length (lent .stack)) 0; scanner = built i (lent .scanner) }
+
 module _ (bytes text : List ℕ) (lent : Lent) where
-  -- What a run that has begun leaves.
   abbrev pub Left : Image → Ran → Type 0
-  Left i r = Begins bytes text lent i × (r .left ≡ record { stack = replicate (length (lent .stack)) 0; scanner = built i (lent .scanner) })
+  Left i r = Begins bytes text lent i × (r .left ≡ left-of lent i)
 
   -- A run is turned away and leaves all that it was lent, or it has begun.
   data Ways (r : Ran) : Type 0 where
@@ -75,6 +79,17 @@ module _ (bytes text : List ℕ) (lent : Lent) where
       go (away u e) = absurd (true≢false (sym u ∙ t))
       go (begun u i e) = (i, e)
 
+  -- The same of a run that begins with a given image: bytes are one image at most.
+  pub begun-left : {r : Ran} → Runs bytes text lent r → (i : Image) → Begins bytes text lent i
+      → r .left ≡ record { stack = replicate (length (lent .stack)) 0; scanner = built i (lent .scanner) }
+  unfolding turned-away finished
+  begun-left (short h) i b = absurd (b .not-short h)
+  begun-left (long-text h l) i b = absurd (omega (arith, l, b .within))
+  begun-left (unreadable p h l n o) i b = absurd (n (i, b .readable))
+  begun-left (many-rows j h l x m) i b = absurd (b .few-rows (subst (ManyRows (lent .scanner)) (readable-one bytes j i x (b .readable)) m))
+  begun-left (no-entry j x z) i b = ap (left-of lent) (readable-one bytes j i (x .readable) (b .readable))
+  begun-left (started j e x z t) i b = ap (left-of lent) (readable-one bytes j i (x .readable) (b .readable))
+
   -- ---- with a table and without
 
   record AsAlone (r : Ran) : Type 0 where
@@ -103,15 +118,3 @@ module _ (bytes text : List ℕ) (lent : Lent) where
       let a = as-alone x m n in
       let same = runs-one bytes text (stack-alone (lent .stack)) b (a .runs) y in
       (a .same-answer ∙ ap (λ (z : Ran). z .answer) same, a .same-stack ∙ ap (λ (z : Ran). z .left .stack) same)
-
--- A run without a table gives neither 18 nor 19.
-pub alone-number : (bytes text stack : List ℕ) {r : Ran} → Runs bytes text (stack-alone stack) r
-    → (r .answer .number ≡ 18 → ⊥) × (r .answer .number ≡ 19 → ⊥)
-unfolding turned-away finished answer-of
-alone-number bytes text stack (short h) = absurd h
-alone-number bytes text stack (long-text h l) = ((λ e. omega arith), λ e. omega arith)
-alone-number bytes text stack (unreadable p h l n o) = ((λ e. omega arith), λ e. omega arith)
-alone-number bytes text stack (many-rows image h l x m) = absurd m
-alone-number bytes text stack (no-entry image x z) = ((λ e. omega arith), λ e. omega arith)
-alone-number bytes text stack (started image e x z t) =
-    ((λ k. true≢false (sym (ap turns-away k) ∙ traces-number t)), λ k. true≢false (sym (ap turns-away k) ∙ traces-number t))

@@ -43,7 +43,7 @@ fn scan<'a>(
 // The turns of a readable image over a text, by rows or by sets, from a state on until a place is reached or the run ends. With the text's
 // length as that place they are all turns, with the place after the state's own one turn. There is one loop for both ways of scanning, so
 // that the compiler puts the code of a turn into it: a function that is called from two places it leaves apart.
-pub fn run_turns<'a>(
+fn run_turns<'a>(
     image: &[u8],
     read: ImageRead,
     tables: &'a [u64; 448],

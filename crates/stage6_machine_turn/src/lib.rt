@@ -29,7 +29,7 @@ enum Taker {
 
 // What a take leaves: so many pending nonterminals, and the first; or no pending nonterminal takes the rule; or the stack does not hold
 // the tail.
-pub enum Taken {
+enum Taken {
     Pending(usize, u8),
     NoTaker,
     TooDeep,
@@ -142,7 +142,7 @@ fn replace_by_long(image: &[u8], at: usize, stack: &mut [u8], below: usize) -> T
 
 // Puts the tail that an entry stands for in the place of its taker, behind which so many are pending. The row of the taker starts at
 // `start` in the image's bytes.
-pub fn replace_taker(
+fn replace_taker(
     image: &[u8],
     start: usize,
     entry: u16,

@@ -1,4 +1,4 @@
--- What follows from the demands and is asked often: when a text is accepted, where it is refused, that a sheet which denotes nothing
+-- What follows from the demands and is asked often: what running leaves of all that it is lent; when a text is accepted, where it is refused, that a sheet which denotes nothing
 -- accepts no text, that a long enough stack never runs out, that 65,536 bytes are room for the image of every sheet that passes, and that a
 -- sheet and its padded twin give the same image; and demands 2 and 3 with every repetition spelled out: typing and denotation are then the
 -- published ones alone, while the sheet's bytes and its image stay those with tag 7.
@@ -36,9 +36,9 @@ use Rattle.stage5_image.specs.Write.{written}
 use Rattle.stage5_image.specs.Writes.{Acceptable}
 use Rattle.stage6_machine.specs.Answer.{Answer, answer}
 use Rattle.stage6_machine.specs.Lent.{most-text-bytes, long-enough, Lent, stack-alone, Ran, built}
-use Rattle.stage6_machine.specs.Runs.{Begins, Runs}
+use Rattle.stage6_machine.specs.Runs.{Short, ManyRows, Begins, Runs}
 use Rattle.stage6_machine.specs.LentLaws as lent-laws
-use Rattle.stage6_machine.specs.LentLaws.{turns-away, begins-left, alone-number}
+use Rattle.stage6_machine.specs.LentLaws.{turns-away, begins-left, begun-left}
 use Rattle.stage6_machine.specs.OwnAnswer.{own-order, OwnAnswer, OwnAnswerByNumber}
 use Rattle.stage6_machine.specs.Lexes.{Lexeme, tokens-of, Lexes, ReadingChanges, AnswerOfReading}
 use Rattle.stage6_machine.specs.OrderedAnswers.{answer-changes-only}
@@ -46,7 +46,7 @@ use Rattle.stage6_machine.specs.FaithfulImage.{answered-by-number}
 use Rattle.stage6_machine.specs.AcceptanceLaws.{accepted-iff, accepted-answer, answered-reading, own-answer-not-17}
 use Rattle.stage6_machine.specs.SpelledOutAnswers.{spelled-out-own-answer}
 use Rattle.stage7_demands.specs.Demands.{Functions, Demand1, Demand2, Demand3}
-use Rattle.stage7_demands.specs.Proofs.{cited, written-bytes, demand-1, demand-3}
+use Rattle.stage7_demands.specs.Proofs.{cited, demand-3}
 
 -- Of any functions that meet demand 1, what running leaves of all that it is lent, whatever the image, the text and the buffers hold.
 module _ (f : Functions) (demand : Demand1 f) (image text : List ℕ) (bytes : Bytes image) (lent : Lent) where
@@ -67,6 +67,11 @@ module _ (f : Functions) (demand : Demand1 f) (image text : List ℕ) (bytes : B
       × (Begins image text lent i × (ran .left ≡ record { stack = replicate (length (lent .stack)) 0; scanner = built i (lent .scanner) }))
   worked = begins-left image text lent runs
 
+  -- The same from the page's conditions: a run that begins, with this image, leaves so, whatever it answers.
+  pub worked-when-begun : (i : Image) → Begins image text lent i
+      → ran .left ≡ record { stack = replicate (length (lent .stack)) 0; scanner = built i (lent .scanner) }
+  worked-when-begun i = begun-left image text lent runs i
+
   -- "Unless 18 or 19 is given, the answer and the final stack are those of a run without a table", for every image, readable or not.
   pub as-without-table : (ran .answer .number ≡ 18 → ⊥) → (ran .answer .number ≡ 19 → ⊥)
       → let alone = f .run image text (stack-alone (lent .stack)) in (ran .answer ≡ alone .answer) × (ran .left .stack ≡ alone .left .stack)
@@ -74,34 +79,29 @@ module _ (f : Functions) (demand : Demand1 f) (image text : List ℕ) (bytes : B
       let alone = stack-alone (lent .stack) in
       lent-laws.as-without-table image text lent bytes runs (demand .running image text bytes alone _ .0 refl)
 
--- Demand 3 of the functions that the code's contracts cite, of runs without a table, which give neither 18 nor 19.
+-- Demand 3 of the functions that the code's contracts cite, on a stack alone, which meets neither 18 nor 19.
 module _ (sheet : List ℕ) (bytes : Bytes sheet) (work room : ℕ) (image : List ℕ) (accepted : cited .write sheet work room ≡ written image)
     (s : Sheet) (spells : Spells sheet s) (text : List ℕ) (within : length text ≤ most-text-bytes) where
-  alone-runs : (stack : List ℕ) → Runs image text (stack-alone stack) (cited .run image text (stack-alone stack))
-  alone-runs stack =
-      demand-1 .running image text (written-bytes sheet bytes work room image accepted) (stack-alone stack) _ .0 refl
-
   pub own-answer-without : (stack : List ℕ) → long-enough text ≤ length stack → OwnAnswer s text (cited .run image text (stack-alone stack) .answer)
   own-answer-without stack long =
-      let n = alone-number image text stack (alone-runs stack) in
-      demand-3 .own-answer sheet bytes work room image accepted s spells text (stack-alone stack) within long (n .0) (n .1)
+      demand-3 .own-answer sheet bytes work room image accepted s spells text (stack-alone stack) within long (λ x. x) (λ x. x)
 
   -- On a stack that is just long enough.
   pub own-answer-alone : OwnAnswer s text (cited .run image text (stack-alone (replicate (long-enough text) 0)) .answer)
   own-answer-alone = own-answer-without (replicate (long-enough text) 0) (omega (arith, length-replicate {A = ℕ} (long-enough text) 0))
 
--- Of any functions that meet demand 3: a sheet that writing accepted, its image, a text within the limit, a long enough stack, and a run that
--- meets neither 18 nor 19.
+-- Of any functions that meet demand 3: a sheet that writing accepted, its image, a text within the limit, a long enough stack, and, where a
+-- table is lent, one that is not short and holds the image's rows.
 module _ (f : Functions) (demand : Demand3 f) (sheet : List ℕ) (bytes : Bytes sheet) (work room : ℕ) (image : List ℕ)
     (accepted : f .write sheet work room ≡ written image) (s : Sheet) (spells : Spells sheet s) (text : List ℕ) (lent : Lent)
     (within : length text ≤ most-text-bytes) (long : long-enough text ≤ length (lent .stack))
-    (not-18 : f .run image text lent .answer .number ≡ 18 → ⊥) (not-19 : f .run image text lent .answer .number ≡ 19 → ⊥) where
+    (not-short : Short (lent .scanner) → ⊥) (few-rows : ManyRows (lent .scanner) (image-of s) → ⊥) where
   -- What running the image answers.
   abbrev a : Answer
   a = f .run image text lent .answer
 
   own : OwnAnswer s text a
-  own = demand .own-answer sheet bytes work room image accepted s spells text lent within long not-18 not-19
+  own = demand .own-answer sheet bytes work room image accepted s spells text lent within long not-short few-rows
 
   -- A text is accepted exactly when longest match over all rules reads it to its end and the expression denotes the tokens found.
   pub text-accepted-iff : (a .number ≡ 0)

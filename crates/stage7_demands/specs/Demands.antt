@@ -26,7 +26,7 @@ use Rattle.stage5_image.specs.Write.{Written, refused, too-long, written, Write
 use Rattle.stage5_image.specs.Writes.{Acceptable, Writes}
 use Rattle.stage6_machine.specs.Answer.{Answer}
 use Rattle.stage6_machine.specs.Lent.{most-text-bytes, long-enough, Lent, Ran}
-use Rattle.stage6_machine.specs.Runs.{Runs}
+use Rattle.stage6_machine.specs.Runs.{Short, ManyRows, Runs}
 use Rattle.stage6_machine.specs.OwnAnswer.{OwnAnswer}
 
 -- What checking, writing and running answer, and what the lent buffers hold at the end, as functions of all that is handed over. Checking
@@ -124,11 +124,11 @@ pub record Demand2 (f : Functions) : Type 0 where
 -- What follows from it by name is in `Corollaries`: `text-accepted-iff`, `text-accepted-answer`, `text-reading`, `nothing-accepted`,
 -- `stack-never-short`, `spelled-out-answered`.
 pub record Demand3 (f : Functions) : Type 0 where
-  -- Of every run, with a table or without, that meets neither 18 nor 19.
+  -- Of every run, with a table or without: only, one that is lent is not short (18), and the image's has no more rows than it can hold (19).
   pub own-answer : (sheet : List ℕ) → Bytes sheet → (work room : ℕ) (image : List ℕ) → f .write sheet work room ≡ written image
       → (s : Sheet) → Spells sheet s
       → (text : List ℕ) (lent : Lent) → length text ≤ most-text-bytes → long-enough text ≤ length (lent .stack)
-      → let a = f .run image text lent .answer in (a .number ≡ 18 → ⊥) → (a .number ≡ 19 → ⊥) → OwnAnswer s text a
+      → (Short (lent .scanner) → ⊥) → (ManyRows (lent .scanner) (image-of s) → ⊥) → OwnAnswer s text (f .run image text lent .answer)
   pub exactly : (s : Sheet) (text : List ℕ) (a b : Answer) → OwnAnswer s text a → OwnAnswer s text b → a ≡ b
   -- "A reading changes only where a non-word rule stood above a word rule and both matched equally far": at every place the match by number,
   -- as it was, and the match by kind are equally long, and their rules differ only so. Of whole texts: `Corollaries`: `text-changes-only`.

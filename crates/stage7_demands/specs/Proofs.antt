@@ -33,7 +33,7 @@ use Rattle.stage5_image.specs.BufferLaws.{checked-answers, written-answers, han
 use Rattle.stage6_machine.specs.Answer.{Answer}
 use Rattle.stage6_machine.specs.Trace.{answer-of}
 use Rattle.stage6_machine.specs.Lent.{most-text-bytes, long-enough, Lent, Ran, turned-away, finished}
-use Rattle.stage6_machine.specs.Runs.{Begins, Runs, short, long-text, unreadable, many-rows, no-entry, started}
+use Rattle.stage6_machine.specs.Runs.{Short, ManyRows, Runs, short, long-text, unreadable, many-rows, no-entry, started}
 use Rattle.stage6_machine.specs.Run.{run}
 use Rattle.stage6_machine.specs.RunsLaws.{run-runs, runs-iff}
 use Rattle.stage6_machine.specs.OwnAnswer.{OwnAnswer}
@@ -144,9 +144,9 @@ demand-2 = record {
 runs-own : (sheet : List ℕ) → Bytes sheet → (work room : ℕ) (image : List ℕ) → write sheet work room ≡ written image
     → (s : Sheet) → Spells sheet s
     → (text : List ℕ) (lent : Lent) → length text ≤ most-text-bytes → long-enough text ≤ length (lent .stack)
-    → (r : Ran) → Runs image text lent r → (r .answer .number ≡ 18 → ⊥) → (r .answer .number ≡ 19 → ⊥) → OwnAnswer s text (r .answer)
+    → (Short (lent .scanner) → ⊥) → (ManyRows (lent .scanner) (image-of s) → ⊥) → {r : Ran} → Runs image text lent r → OwnAnswer s text (r .answer)
 unfolding image-of words-first-sheet turned-away finished answer-of
-runs-own sheet bytes work room image e s spells text lent within long r runs = by-question runs
+runs-own sheet bytes work room image e s spells text lent within long not-short few runs = by-question runs
   where
     acceptable : Acceptable sheet room s
     acceptable = (accepted-sheet sheet bytes work room image e s spells) .0
@@ -155,15 +155,18 @@ runs-own sheet bytes work room image e s spells text lent within long r runs = b
     limits : WithinLimits (words-first-sheet s)
     limits = ordered-limits s (spelled-limits sheet s spells)
 
-    by-question : {q : Ran} → Runs image text lent q → (q .answer .number ≡ 18 → ⊥) → (q .answer .number ≡ 19 → ⊥) → OwnAnswer s text (q .answer)
-    by-question (short h) m n = absurd (m refl)
-    by-question (long-text h l) m n = absurd (omega arith)
-    by-question (unreadable p h l u o) m n = absurd (u (image-of s, accepted-normal-form sheet bytes work room image e s spells))
-    by-question (many-rows i h l x k) m n = absurd (n refl)
-    by-question (no-entry i x z) m n = absurd (omega (arith, z, long))
-    by-question (started i end x z t) m n =
+    readable : ReadableAs image (image-of s)
+    readable = accepted-normal-form sheet bytes work room image e s spells
+
+    by-question : {q : Ran} → Runs image text lent q → OwnAnswer s text (q .answer)
+    by-question (short h) = absurd (not-short h)
+    by-question (long-text h l) = absurd (omega arith)
+    by-question (unreadable p h l u o) = absurd (u (image-of s, readable))
+    by-question (many-rows i h l x k) = absurd (few (subst (ManyRows (lent .scanner)) (readable-one image i (image-of s) x readable) k))
+    by-question (no-entry i x z) = absurd (omega (arith, z, long))
+    by-question (started i end x z t) =
         let typed = (acceptable .passable .has-type) .1 in
-        let same = readable-one image (image-of s) i (accepted-normal-form sheet bytes work room image e s spells) (x .readable) in
+        let same = readable-one image (image-of s) i readable (x .readable) in
         let ordered = words-first-sheet s in
         let stands = StandsFor ordered limits typed in
         let faithful = image-faithful ordered limits typed (ordered-empty-match (s .rules) (no-empty s sheet room acceptable)) in
@@ -178,9 +181,9 @@ written-bytes sheet bytes work room image e =
 run-own-answer : (sheet : List ℕ) → Bytes sheet → (work room : ℕ) (image : List ℕ) → write sheet work room ≡ written image
     → (s : Sheet) → Spells sheet s
     → (text : List ℕ) (lent : Lent) → length text ≤ most-text-bytes → long-enough text ≤ length (lent .stack)
-    → let a = run image text lent .answer in (a .number ≡ 18 → ⊥) → (a .number ≡ 19 → ⊥) → OwnAnswer s text a
-run-own-answer sheet bytes work room image e s spells text lent within long =
-    runs-own sheet bytes work room image e s spells text lent within long (run image text lent)
+    → (Short (lent .scanner) → ⊥) → (ManyRows (lent .scanner) (image-of s) → ⊥) → OwnAnswer s text (run image text lent .answer)
+run-own-answer sheet bytes work room image e s spells text lent within long not-short few =
+    runs-own sheet bytes work room image e s spells text lent within long not-short few
     (run-runs image text lent (written-bytes sheet bytes work room image e))
 
 pub demand-3 : Demand3 cited

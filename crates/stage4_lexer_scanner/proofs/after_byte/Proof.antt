@@ -1,6 +1,9 @@
 -- `stage4_lexer_scanner::after_byte` meets its contract: the class table gives the kept positions, and the rest goes by these.
 use borrow.Author.Needs.{needs}
 use native.Mathlib.Omega.{arith}
+use lib.Bits.{and-le-l}
+use lib.ListN.{getD}
+use denote.Ref.{now}
 use Rattle.stage4_lexer_scanner.proofs.Byte.{leads-to}
 use Rattle.stage4_lexer_scanner.proofs.after_byte.Statement.{statement}
 use Rattle.stage4_lexer_scanner.proofs.after_byte.Tie as tie
@@ -20,7 +23,8 @@ lowest-rule-requires c κs = search needs
 returns : tie.Need-returns
 returns c = λ ps h.
     let a = c .before .before .before .args in
-    leads-to _ _ ps h (a .held) (a .byte) _ _ (omega arith) (c .before .follow-sets .ensures) (c .lowest-rule .ensures)
+    leads-to _ _ ps h (a .held) (a .byte) _ _ (omega arith)
+    (omega (arith, and-le-l (a .held) (getD (now (a .tables)) (a .byte) 0))) (c .before .follow-sets .ensures) (c .lowest-rule .ensures)
 
 pub after-byte-spec : {M : Type 1} → statement M
 after-byte-spec = tie.close (tie.spec mul-kept element-copy-out-kept follow-sets-requires lowest-rule-requires returns)

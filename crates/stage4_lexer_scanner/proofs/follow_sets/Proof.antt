@@ -8,7 +8,7 @@ use native.Mathlib.Omega.{arith}
 use lib.Count.{ones}
 use lib.ListN.{length, drop}
 use lib.Seq.{getD-drop}
-use Rattle.stage4_lexer.specs.SetWalkLaws.{ones-members, first-member-below, walk-meets-members}
+use Rattle.stage4_lexer.specs.SetWalkLaws.{ones-members, first-member-below}
 use Rattle.stage4_lexer_scanner.proofs.Walked.{Walked, walked-start, walked-step, walked-end}
 use Rattle.stage4_lexer_scanner.proofs.follow_sets.Statement.{statement}
 use Rattle.stage4_lexer_scanner.proofs.follow_sets.Tie as tie
@@ -57,7 +57,7 @@ loop-again c =
 returns : tie.Need-returns Inv-loop μ-loop
 returns c =
     let l = c .before .loop in
-    (walked-end _ _ (l .left) (l .next) (c .loop-test .left) (l .inv .1), walk-meets-members _ (omega arith))
+    walked-end _ _ (l .left) (l .next) (c .loop-test .left) (l .inv .1)
 
 pub follow-sets-spec : {M : Type 1} → statement M
 follow-sets-spec =

@@ -63,7 +63,7 @@ returns-2 c = λ ps h.
     ∙ walk-start ps (now (s .args .text)) (s .args .first)
 
 after-byte-requires : tie.Need-after-byte-requires Inv-loop μ-loop
-after-byte-requires c κs = tt
+after-byte-requires c κs = c .before .before .before .before .before .pre
 
 loop-holds : tie.Need-loop-holds Inv-loop μ-loop
 loop-holds c = (
@@ -98,7 +98,8 @@ latest-requires : tie.Need-latest-requires Inv-loop μ-loop
 latest-requires c κs = tt
 
 after-byte-requires-2 : tie.Need-after-byte-requires-2 Inv-loop μ-loop
-after-byte-requires-2 c κs = tt
+after-byte-requires-2 c κs =
+    c .before .before .before .before .before .before .before .before .before .before .before .before .before .pre
 
 add-n : tie.Need-add-n Inv-loop μ-loop
 add-n c = omega arith

@@ -89,7 +89,7 @@ loop-again c =
       filled .fill-row2 .kept .0 ∙ l .inv .1,
       λ ps h k buffer w. next-written ps _ (s .args .first) _ h _ _ k (long s) buffer (l .table) _ (l .i) _
           (c .before .before .before .before .before .before .loop-test .taken)
-          (filled .before .before .before .follow-sets .ensures .0) (l .inv .2 ps h k buffer w)
+          (filled .before .before .before .follow-sets .ensures) (l .inv .2 ps h k buffer w)
           (filled .fill-row2 .ensures),
     )
 

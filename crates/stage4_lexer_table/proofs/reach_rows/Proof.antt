@@ -60,7 +60,7 @@ loop-again c =
       e .1,
       λ ps h. reached-next ps _ (start .args .first) _ h (l .sets) _ (l .met) _ (l .i)
           (omega (arith, l .inv .0, l .inv .1)) (c .before .before .before .before .loop-test .taken) (omega (arith, c .before .before .before .if1 .left)) (l .inv .2 ps h)
-          _ (c .before .before .follow-sets .ensures .0) (λ so-far below m k. e .2 _ so-far below m k),
+          _ (c .before .before .follow-sets .ensures) (λ so-far below m k. e .2 _ so-far below m k),
     )
 
 returns : tie.Need-returns Inv-loop μ-loop
