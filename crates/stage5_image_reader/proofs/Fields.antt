@@ -1,5 +1,5 @@
 -- Laws of an image's fields: when one is read, what is then known of it, and how two tests of a value compare.
-use mathlib.Core.Path.{_≡_, refl, sym, ap, ap₂, subst, _∙_}
+use mathlib.Core.Path.{_≡_, refl, sym, ap, ap₂, _∙_}
 use mathlib.Core.Bool.{Bool, true, false, cond, _&&_}
 use mathlib.Core.List.{List, [], _∷_}
 use Prim.Native.Nat.{ℕ, _+_, _-_, _^_, _≤_, _<_}
@@ -50,25 +50,6 @@ pub field-forbidden : (p : ℕ → Bool) (bytes : List ℕ) (at : ℕ) {v n : �
     → image-field p bytes at ≡ stop 13 at
 field-forbidden p bytes at {v} {n} e h = field-number bytes p at e ∙ ap (λ (b : Bool). cond b (got v (at + n)) (stop 13 at)) h
 
--- A field is refused at its place, or is the number there, which passes the test.
-data FieldView (p : ℕ → Bool) (bytes : List ℕ) (at : ℕ) : Reading ℕ → Type 0 where
-  field-stop : FieldView p bytes at (stop 13 at)
-  field-value : (v used : ℕ) (fewest : Bool) → decode-fewest bytes at ≡ number.Read v used fewest → p v ≡ true
-      → FieldView p bytes at (got v (at + used))
-
-field-view : (p : ℕ → Bool) (bytes : List ℕ) (at : ℕ) → FieldView p bytes at (image-field p bytes at)
-field-view p bytes at = by-number (decode-fewest bytes at) refl
-  where
-    by-test : (v used : ℕ) (fewest : Bool) (b : Bool) → decode-fewest bytes at ≡ number.Read v used fewest → p v ≡ b
-        → FieldView p bytes at (cond b (got v (at + used)) (stop 13 at))
-    by-test v used fewest true e k = field-value v used fewest e k
-    by-test v used fewest false e k = field-stop
-
-    by-number : (n : Number) → decode-fewest bytes at ≡ n → FieldView p bytes at (image-field p bytes at)
-    by-number number.Refused e = subst (FieldView p bytes at) (sym (field-missing bytes p at e)) field-stop
-    by-number (number.Read v used fewest) e =
-        subst (FieldView p bytes at) (sym (field-number bytes p at e)) (by-test v used fewest (p v) e refl)
-
 pub stop-got : {A X : Type 0} {q p n : ℕ} {a : A} → _≡_ {A = Reading A} (stop q p) (got a n) → X
 stop-got {A} {X} {q} {p} {n} {a} e = let z : _≡_ {A = ℕ} 0 1 = cc in absurd (omega arith)
 
@@ -81,19 +62,18 @@ pub record FieldGot (p : ℕ → Bool) (bytes : List ℕ) (at v next : ℕ) : Ty
   pub after : next ≡ at + used
 
 pub field-got : (p : ℕ → Bool) (bytes : List ℕ) (at : ℕ) {v next : ℕ} → image-field p bytes at ≡ got v next → FieldGot p bytes at v next
-field-got p bytes at {v} {next} h = go (field-view p bytes at) h
+field-got p bytes at {v} {next} h = by-number (decode-fewest bytes at) refl
   where
-    go : {x : Reading ℕ} → FieldView p bytes at x → x ≡ got v next → FieldGot p bytes at v next
-    go field-stop f = stop-got f
-    go (field-value w used fewest e k) f =
+    by-test : (w u : ℕ) (f b : Bool) → decode-fewest bytes at ≡ number.Read w u f → p w ≡ b → cond b (got w (at + u)) (stop 13 at) ≡ got v next
+        → FieldGot p bytes at v next
+    by-test w u f true e k g =
         let same : w ≡ v = cc in
-        record {
-          used = used;
-          fewest = fewest;
-          number = e ∙ ap (λ (x : ℕ). number.Read x used fewest) same;
-          allowed = ap p (sym same) ∙ k;
-          after = cc;
-        }
+        record { used = u; fewest = f; number = e ∙ ap (λ (x : ℕ). number.Read x u f) same; allowed = ap p (sym same) ∙ k; after = cc }
+    by-test w u f false e k g = stop-got g
+
+    by-number : (n : Number) → decode-fewest bytes at ≡ n → FieldGot p bytes at v next
+    by-number number.Refused e = stop-got (sym (field-missing bytes p at e) ∙ h)
+    by-number (number.Read w u f) e = by-test w u f (p w) e refl (sym (field-number bytes p at e) ∙ h)
 
 pub field-range : (l m : ℕ) (bytes : List ℕ) (at : ℕ) {v next : ℕ} → image-field (between l m) bytes at ≡ got v next → (l ≤ v) × (v ≤ m)
 field-range l m bytes at {v} e = between-range l m v (field-got (between l m) bytes at e .allowed)
@@ -165,18 +145,20 @@ field-one-byte p bytes at {v} {next} hb e h =
 -- ---- values below a limit
 
 -- The largest value of a field is one below its limit.
-pub below-limit : (limit : ℕ) → 1 ≤ limit → (v : ℕ) → leb v (limit - 1) ≡ ltb v limit
+below-limit : (limit : ℕ) → 1 ≤ limit → (v : ℕ) → leb v (limit - 1) ≡ ltb v limit
 below-limit limit h v =
     ⊎-elim (λ l. le-leb v (limit - 1) (omega arith) ∙ sym (lt-ltb v limit l))
     (λ l. lt-leb v (limit - 1) (omega arith) ∙ sym (le-ltb v limit l))
     (lt-or-le v limit)
 
+pub between-below : (least limit : ℕ) → 1 ≤ limit → (v : ℕ) → between least (limit - 1) v ≡ (leb least v && ltb v limit)
+between-below least limit h v = between-is least (limit - 1) v ∙ ap (λ (b : Bool). leb least v && b) (below-limit limit h v)
+
 -- A rule that must not fall, and lie below the number of rules.
 pub field-rule : (bytes : List ℕ) (least rules at : ℕ) → 1 ≤ rules
     → image-field (between least (rules - 1)) bytes at ≡ image-field (λ v. leb least v && ltb v rules) bytes at
 field-rule bytes least rules at h =
-    field-same (between least (rules - 1)) (λ v. leb least v && ltb v rules) bytes at
-    (λ v. between-is least (rules - 1) v ∙ ap (λ (b : Bool). leb least v && b) (below-limit rules h v))
+    field-same (between least (rules - 1)) (λ v. leb least v && ltb v rules) bytes at (between-below least rules h)
 
 pub field-below : (bytes : List ℕ) (limit at : ℕ) → 1 ≤ limit
     → image-field (between 0 (limit - 1)) bytes at ≡ image-field (λ v. ltb v limit) bytes at

@@ -22,8 +22,8 @@ use Rattle.stage5_image.specs.ImageReading.{image-field, read-list, read-produc
 use Rattle.stage5_image_reader.specs.Answers.{after, StepAnswers, ProductionHeld}
 use Rattle.stage5_image_reader.specs.declared.Step.{Step}
 use Rattle.stage5_image_reader.specs.Tables.{held-flags, Members, MembersHeld, EntryTail, EntryIs, EntriesOf, Room, SameBelow}
-use Rattle.stage5_image_reader.proofs.Parts.{between-is, production-is}
-use Rattle.stage5_image_reader.proofs.Fields.{field-same, field-both, field-got, field-one-byte, between-range, below-limit}
+use Rattle.stage5_image_reader.proofs.Parts.{production-is}
+use Rattle.stage5_image_reader.proofs.Fields.{field-same, field-both, field-got, field-one-byte, between-range, between-below}
 use Rattle.stage5_image_reader.proofs.Flags.{length-listed, getD-listed}
 use Rattle.stage5_image_reader.proofs.Steps.{after-refused, after-taken, after-same, step-on, step-got, taken-before}
 use Rattle.stage5_image_reader.proofs.Steps.{number-got, number-before}
@@ -72,9 +72,6 @@ module _ (skips rules least : ℕ) (h : 1 ≤ rules) (v : ℕ) where
   abbrev first : Bool
   first = leb least v && ltb v rules
 
-  below-is : between least (rules - 1) v ≡ first
-  below-is = between-is least (rules - 1) v ∙ ap (λ (b : Bool). leb least v && b) (below-limit rules h v)
-
   skip-is : (first && not (getD (held-flags skips rules) v true)) ≡ (first && not (bit skips v))
   skip-is = ⊎-elim inside outside (lt-or-le v rules)
     where
@@ -89,7 +86,7 @@ module _ (skips rules least : ℕ) (h : 1 ≤ rules) (v : ℕ) where
   rule-is =
       ap (λ (n : ℕ). leb least v && (ltb v n && not (getD (held-flags skips rules) v true))) (length-listed (bit skips) 0 rules)
       ∙ and-assoc (leb least v) (ltb v rules) (not (getD (held-flags skips rules) v true))
-      ∙ skip-is ∙ ap (λ (b : Bool). b && not (bit skips v)) (sym below-is)
+      ∙ skip-is ∙ ap (λ (b : Bool). b && not (bit skips v)) (sym (between-below least rules h v))
 
 -- ---- reading a production
 

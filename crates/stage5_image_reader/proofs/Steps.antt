@@ -39,14 +39,6 @@ module _ {A : Type 0} where
   unfolding after
   after-start at x = refl
 
-  -- What was read matters only where all was taken.
-  pub after-got : (s : Step) (a b : A) → (s .ok ≡ true → a ≡ b) → after s (got a) ≡ after s (got b)
-  after-got s a b h = go (s .ok) refl
-    where
-      go : (c : Bool) → s .ok ≡ c → after s (got a) ≡ after s (got b)
-      go true k = ap (λ (x : A). after s (got x)) (h k)
-      go false k = after-refused s (got a) k ∙ sym (after-refused s (got b) k)
-
   pub then-after : {B : Type 0} (s : Step) (x : ℕ → Reading A) (rest : A → ℕ → Reading B)
       → and-then (after s x) rest ≡ after s (λ at. and-then (x at) rest)
   unfolding after

@@ -2,15 +2,17 @@
 use borrow.Author.Needs.{needs}
 use borrow.Author.Tests.{not-true}
 use native.Mathlib.Omega.{arith}
-use mathlib.Core.Path.{_≡_, sym, subst, _∙_}
+use mathlib.Core.Path.{_≡_, sym, ap, subst, _∙_}
 use mathlib.Core.Bool.{Bool, false}
 use mathlib.Core.List.{List, []}
 use Prim.Native.Nat.{ℕ, _-_, _≤_}
 use lib.Dec.{eqb}
+use Rattle.stage1_sheet.specs.Field.{got}
 use Rattle.stage5_image.specs.ImageReading.{read-flag}
+use Rattle.stage5_image_reader.specs.Answers.{after}
 use Rattle.stage5_image_reader.specs.Tables.{FlagsOf}
 use Rattle.stage5_image_reader.proofs.Flags.{FlagsHeld, held-none, held-more, held-list}
-use Rattle.stage5_image_reader.proofs.Steps.{flag-reads, after-value, after-got, true-false}
+use Rattle.stage5_image_reader.proofs.Steps.{flag-reads, after-value, true-false}
 use Rattle.stage5_image_reader.proofs.Turns.{Listing, listing-start, turns-more, turns-stop, turns-reads}
 use Rattle.stage5_image_reader.proofs.read_flags.Statement.{statement}
 use Rattle.stage5_image_reader.proofs.read_flags.Tie as tie
@@ -60,12 +62,13 @@ loop-again c =
 returns-2 : tie.Need-returns-2 Inv-loop μ-loop
 returns-2 c =
     let turn = c .before in
+    let next = turn .loop .next in
     let l = turn .loop .inv .1 in
     let n = turn .before .before .args .size .value in
     let whole : turn .loop .i ≡ n = omega (arith, turn .loop .inv .0, c .loop-test .left) in
     let held = subst (λ (k : ℕ). FlagsHeld k (turn .loop .set) (l .0)) whole (l .2) in
     let list = held-list _ _ (l .0) held in (
-      after-value (turn .loop .next) (turn .loop .set) _ ∙ after-got (turn .loop .next) _ (l .0) (λ h. sym list) ∙ turns-reads (l .1) (search needs),
+      after-value next (turn .loop .set) _ ∙ ap (λ (x : List Bool). after next (got x)) (sym list) ∙ turns-reads (l .1) (search needs),
       λ h. subst (λ (x : List Bool). FlagsOf (λ b. b) false (turn .loop .set) x) list (held .bits),
     )
 
