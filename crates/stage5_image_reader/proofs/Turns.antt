@@ -94,6 +94,10 @@ listing-start one n from = record {
   rest = turns-start (λ (s : Bool) at. one at) (λ s a. s) true n from .rest ∙ after-same from _ _ (sym (list-is one n (from .at)));
 }
 
+-- Nothing is read after a refusal.
+pub answers-refused : {A : Type 0} {P : A → Type 0} (s : Step) (x : ℕ → Reading A) (a : A) → s .ok ≡ false → Answers P s (after s x)
+answers-refused s x a h = record { what = a; reads = after-refused s (got a) h ∙ sym (after-refused s x h); holds = λ k. true-false k h }
+
 -- An answer with another value, such as what a loop gathered.
 pub answers-value : {A : Type 0} {P : A → Type 0} {s : Step} {x : Reading A} (v : ℕ) → Answers P s x
     → Answers P (record { value = v; at = s .at; ok = s .ok }) x

@@ -1,6 +1,6 @@
 // The image reader: an image's bytes are read once, before the text, into tables for the machine. Question 13 is answered here,
 // and no other: the text is not looked at. A number is read only where none was refused before, so that the numbers of a part are read one
-// after the other, and whether all were taken is asked once, at the end of the part; a loop stops there.
+// after the other, and whether all were taken is asked once, at the end of the part. Loops alone do not start after a refusal and stop at one.
 ghost use mathlib.Core.Path.{_≡_};
 ghost use mathlib.Core.Bool.{true, false, not, _&&_};
 ghost use mathlib.Core.List.{List, []};
@@ -129,12 +129,15 @@ fn largest_set(count: u64) -> u64
     (1u64 << count) - 1
 }
 
-// So many flags, as a set.
+// As many flags as `size` says, as a set.
 fn read_flags(bytes: &[u8], size: Step) -> Step
     requires { ⌜ size .value ≤ 64 ⌝ }
     ensures { λ r. ⌜ (after r (got (held-flags (r .value) (size .value))) ≡ after size (read-list (read-flag (now (bytes .entry))) (size .value)))
         × (r .ok ≡ true → FlagsOf (λ b. b) false (r .value) (held-flags (r .value) (size .value))) ⌝ }
 {
+    if !size.ok {
+        return size;
+    }
     let count = size.value;
     let mut set: u64 = 0;
     let mut next = size;
@@ -154,8 +157,8 @@ fn read_flags(bytes: &[u8], size: Step) -> Step
     }
 }
 
-// So many nonterminals of a tail. A nonterminal is below 64 and so one byte: a tail of more than two members is later read from the image's
-// bytes.
+// As many nonterminals of a tail as `size` says. A nonterminal is below 64 and so one byte: a tail of more than two members is later read
+// from the image's bytes.
 fn read_tail(bytes: &[u8], size: Step, nonterminals: u64) -> Step
     requires { ⌜ (1 ≤ nonterminals) × (nonterminals ≤ 64) × (size .ok ≡ true → size .at ≤ length (now bytes)) ⌝ }
     ensures { λ r. ⌜ Answers
@@ -163,6 +166,9 @@ fn read_tail(bytes: &[u8], size: Step, nonterminals: u64) -> Step
         r
         (after size (read-list (image-field (λ v. ltb v nonterminals) (now (bytes .entry))) (size .value))) ⌝ }
 {
+    if !size.ok {
+        return size;
+    }
     let count = size.value;
     let mut next = size;
     let mut i: u64 = 0;
@@ -196,7 +202,7 @@ fn read_position(bytes: &[u8], from: Step, rules: u64, count: u64, least: u64) -
     }
 }
 
-// So many positions, into the tables.
+// As many positions as `size` says, into the tables.
 fn read_positions(bytes: &[u8], size: Step, rules: u64, tables: &mut [u64; 448]) -> PositionsRead
     requires { ⌜ (0 < size .value → 1 ≤ rules) × (rules ≤ 32) × (size .value ≤ 64)
         × (length (now tables) ≡ 448) × Holding [] (now tables) ⌝ }
@@ -205,6 +211,9 @@ fn read_positions(bytes: &[u8], size: Step, rules: u64, tables: &mut [u64; 448])
         (r .end)
         (after size (positions-in (now (bytes .entry)) rules (size .value))) ⌝ }
 {
+    if !size.ok {
+        return PositionsRead { end: size, last: 0 };
+    }
     let count = size.value;
     let mut last_ones: u64 = 0;
     let mut next = size;
@@ -302,7 +311,7 @@ fn tail_entry(bytes: &[u8], start: usize, place: usize) -> u16
     32768 + second * 64 + first
 }
 
-// So many productions of one nonterminal, whose row starts at `start` and whose entries start at `base`.
+// As many productions of one nonterminal as `size` says, whose row starts at `start` and whose entries start at `base`.
 fn read_productions(
     bytes: &[u8],
     start: usize,

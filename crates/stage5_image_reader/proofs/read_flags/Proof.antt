@@ -12,7 +12,7 @@ use Rattle.stage5_image.specs.ImageReading.{read-flag}
 use Rattle.stage5_image_reader.specs.Answers.{after}
 use Rattle.stage5_image_reader.specs.Tables.{FlagsOf}
 use Rattle.stage5_image_reader.proofs.Flags.{FlagsHeld, held-none, held-more, held-list}
-use Rattle.stage5_image_reader.proofs.Steps.{flag-reads, after-value, true-false}
+use Rattle.stage5_image_reader.proofs.Steps.{flag-reads, after-value, after-refused, true-false}
 use Rattle.stage5_image_reader.proofs.Turns.{Listing, listing-start, turns-more, turns-stop, turns-reads}
 use Rattle.stage5_image_reader.proofs.read_flags.Statement.{statement}
 use Rattle.stage5_image_reader.proofs.read_flags.Tie as tie
@@ -24,17 +24,20 @@ Inv-loop bytes count set₀ next₀ i₀ set next i =
 abbrev μ-loop : tie.MeasureT-loop
 μ-loop bytes count set₀ next₀ i₀ set next i = count - i
 
+returns : tie.Need-returns Inv-loop μ-loop
+returns c = let h = not-true _ (c .if1 .taken) in (after-refused _ _ h ∙ sym (after-refused _ _ h), λ k. true-false k h)
+
 loop-holds : tie.Need-loop-holds Inv-loop μ-loop
 loop-holds c = (search needs, ([], listing-start _ _ _, held-none))
 
 read-next-requires : tie.Need-read-next-requires Inv-loop μ-loop
 read-next-requires c κs = search needs
 
-returns : tie.Need-returns Inv-loop μ-loop
-returns c =
+returns-2 : tie.Need-returns-2 Inv-loop μ-loop
+returns-2 c =
     let read = c .before .before in
     let t = turns-more (read .before .before .loop .inv .1 .1) _ _ (search needs) (flag-reads _ _ _ (read .read-next .ensures .reads)) in
-    let h = not-true _ (c .if1 .taken) in
+    let h = not-true _ (c .if2 .taken) in
     (turns-stop t h _, λ k. true-false k h)
 
 with-flag-requires : tie.Need-with-flag-requires Inv-loop μ-loop
@@ -59,12 +62,12 @@ loop-again c =
       ),
     )
 
-returns-2 : tie.Need-returns-2 Inv-loop μ-loop
-returns-2 c =
+returns-3 : tie.Need-returns-3 Inv-loop μ-loop
+returns-3 c =
     let turn = c .before in
     let next = turn .loop .next in
     let l = turn .loop .inv .1 in
-    let n = turn .before .before .args .size .value in
+    let n = turn .before .before .before .before .args .size .value in
     let whole : turn .loop .i ≡ n = omega (arith, turn .loop .inv .0, c .loop-test .left) in
     let held = subst (λ (k : ℕ). FlagsHeld k (turn .loop .set) (l .0)) whole (l .2) in
     let list = held-list _ _ (l .0) held in (
@@ -78,11 +81,12 @@ read-flags-spec =
     (tie.spec
     Inv-loop
     μ-loop
+    returns
     loop-holds
     read-next-requires
-    returns
+    returns-2
     with-flag-requires
     add-i
     loop-less
     loop-again
-    returns-2)
+    returns-3)

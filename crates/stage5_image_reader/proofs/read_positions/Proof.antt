@@ -13,7 +13,7 @@ use Rattle.stage5_image.specs.ImageReading.{read-position}
 use Rattle.stage5_image_reader.specs.Answers.{after, positions-in}
 use Rattle.stage5_image_reader.specs.Tables.{PositionsHeld}
 use Rattle.stage5_image_reader.proofs.Positions.{positions-none, positions-more}
-use Rattle.stage5_image_reader.proofs.Turns.{Turns, turns-start, turns-more, turns-refused, turns-end}
+use Rattle.stage5_image_reader.proofs.Turns.{Turns, turns-start, turns-more, turns-refused, turns-end, answers-refused}
 use Rattle.stage5_image_reader.proofs.read_positions.Statement.{statement}
 use Rattle.stage5_image_reader.proofs.read_positions.Tie as tie
 
@@ -27,21 +27,24 @@ Inv-loop bytes rules tables₀ count last₀ next₀ least₀ i₀ tables last n
 abbrev μ-loop : tie.MeasureT-loop
 μ-loop bytes rules tables₀ count last₀ next₀ least₀ i₀ tables last next least i = count - i
 
+returns : tie.Need-returns Inv-loop μ-loop
+returns c = (c .before .before .before .pre .3, answers-refused _ _ [] (not-true _ (c .if1 .taken)))
+
 loop-holds : tie.Need-loop-holds Inv-loop μ-loop
-loop-holds c = let p = c .before .pre in (search needs, p .3, ([], turns-start _ _ _ _ _, positions-none _ _ (p .4)))
+loop-holds c = let p = c .before .before .before .pre in (search needs, p .3, ([], turns-start _ _ _ _ _, positions-none _ _ (p .4)))
 
 read-position-requires : tie.Need-read-position-requires Inv-loop μ-loop
-read-position-requires c κs = let p = c .before .before .before .pre in (p .0 (omega arith), p .1, p .2)
+read-position-requires c κs = let p = c .before .before .before .before .before .pre in (p .0 (omega arith), p .1, p .2)
 
-returns : tie.Need-returns Inv-loop μ-loop
-returns c =
+returns-2 : tie.Need-returns-2 Inv-loop μ-loop
+returns-2 c =
     let read = c .before .before .before in
     let l = read .before .before .loop .inv in
-    (l .1, turns-refused (turns-more (l .2 .1) _ _ (search needs) (read .read-position .ensures .0)) (not-true _ (c .if1 .taken)))
+    (l .1, turns-refused (turns-more (l .2 .1) _ _ (search needs) (read .read-position .ensures .0)) (not-true _ (c .if2 .taken)))
 
 -- There is room for one position more.
-room : (c : tie.Else1 Inv-loop μ-loop) → c .before .before .before .before .before .loop .i < 64
-room c = omega (arith, c .before .before .before .before .before .before .before .pre .2)
+room : (c : tie.Else2 Inv-loop μ-loop) → c .before .before .before .before .before .loop .i < 64
+room c = omega (arith, c .before .before .before .before .before .before .before .before .before .pre .2)
 
 shl-one-need : tie.Need-shl-one Inv-loop μ-loop
 shl-one-need c = room c
@@ -78,14 +81,14 @@ loop-again c =
       (
         _,
         turns-more (l .2 .1) _ _ (search needs) (p .ensures .0),
-        positions-more _ _ _ _ _ _ ps _ more (c .before .with-flag .ensures) (p .ensures .1) (p .ensures .2 (not-false _ (test .if1 .left))) s,
+        positions-more _ _ _ _ _ _ ps _ more (c .before .with-flag .ensures) (p .ensures .1) (p .ensures .2 (not-false _ (test .if2 .left))) s,
       ),
     )
 
-returns-2 : tie.Need-returns-2 Inv-loop μ-loop
-returns-2 c =
+returns-3 : tie.Need-returns-3 Inv-loop μ-loop
+returns-3 c =
     let turn = c .before in
-    let a = turn .before .before .args in
+    let a = turn .before .before .before .before .args in
     let l = turn .loop in
     let whole : l .i ≡ a .size .value = omega (arith, l .inv .0, c .loop-test .left) in (
       l .inv .1,
@@ -99,9 +102,10 @@ read-positions-spec =
     (tie.spec
     Inv-loop
     μ-loop
+    returns
     loop-holds
     read-position-requires
-    returns
+    returns-2
     shl-one-need
     hold-position-requires
     with-flag-requires
@@ -109,4 +113,4 @@ read-positions-spec =
     add-i
     loop-less
     loop-again
-    returns-2)
+    returns-3)

@@ -13,7 +13,7 @@ use Rattle.stage5_image.specs.ImageReading.{image-field}
 use Rattle.stage5_image_reader.specs.Tables.{MembersHeld}
 use Rattle.stage5_image_reader.proofs.Steps.{below-reads, number-got, number-before}
 use Rattle.stage5_image_reader.proofs.Tails.{held-none, held-more}
-use Rattle.stage5_image_reader.proofs.Turns.{Listing, listing-start, turns-more, turns-refused, turns-end}
+use Rattle.stage5_image_reader.proofs.Turns.{Listing, listing-start, turns-more, turns-refused, turns-end, answers-refused}
 use Rattle.stage5_image_reader.proofs.read_tail.Statement.{statement}
 use Rattle.stage5_image_reader.proofs.read_tail.Tie as tie
 
@@ -26,8 +26,11 @@ Inv-loop bytes nonterminals count next₀ i₀ next i =
 abbrev μ-loop : tie.MeasureT-loop
 μ-loop bytes nonterminals count next₀ i₀ next i = count - i
 
+returns : tie.Need-returns Inv-loop μ-loop
+returns c = answers-refused _ _ [] (not-true _ (c .if1 .taken))
+
 loop-holds : tie.Need-loop-holds Inv-loop μ-loop
-loop-holds c = (search needs, ([], listing-start _ _ _, λ h. held-none _ _ _ (c .before .pre .2 h)))
+loop-holds c = (search needs, ([], listing-start _ _ _, λ h. held-none _ _ _ (c .before .before .before .pre .2 h)))
 
 sub-read-next : tie.Need-sub-read-next Inv-loop μ-loop
 sub-read-next c = search needs
@@ -35,12 +38,12 @@ sub-read-next c = search needs
 read-next-requires : tie.Need-read-next-requires Inv-loop μ-loop
 read-next-requires c κs = search needs
 
-returns : tie.Need-returns Inv-loop μ-loop
-returns c =
+returns-2 : tie.Need-returns-2 Inv-loop μ-loop
+returns-2 c =
     let read = c .before .before in
     let turn = read .before .before in
-    let e = below-reads _ _ _ _ (turn .before .before .pre .0) (read .read-next .ensures .reads) in
-    turns-refused (turns-more (turn .loop .inv .1 .1) _ _ (search needs) e) (not-true _ (c .if1 .taken))
+    let e = below-reads _ _ _ _ (turn .before .before .before .before .pre .0) (read .read-next .ensures .reads) in
+    turns-refused (turns-more (turn .loop .inv .1 .1) _ _ (search needs) e) (not-true _ (c .if2 .taken))
 
 add-i : tie.Need-add-i Inv-loop μ-loop
 add-i c = search needs
@@ -53,7 +56,7 @@ loop-again c =
     let read = c .before .before in
     let e = read .read-next .ensures in
     let turn = read .before .before in
-    let entry = turn .before in
+    let entry = turn .before .before .before in
     let p = entry .before .pre in
     let l = turn .loop .inv .1 in (
       omega arith,
@@ -65,10 +68,10 @@ loop-again c =
       ),
     )
 
-returns-2 : tie.Need-returns-2 Inv-loop μ-loop
-returns-2 c =
+returns-3 : tie.Need-returns-3 Inv-loop μ-loop
+returns-3 c =
     let turn = c .before in
-    let a = turn .before .before .args in
+    let a = turn .before .before .before .before .args in
     let l = turn .loop .inv .1 in
     let whole : turn .loop .i ≡ a .size .value = omega (arith, turn .loop .inv .0, c .loop-test .left) in
     turns-end (l .1) (search needs)
@@ -80,11 +83,12 @@ read-tail-spec =
     (tie.spec
     Inv-loop
     μ-loop
+    returns
     loop-holds
     sub-read-next
     read-next-requires
-    returns
+    returns-2
     add-i
     loop-less
     loop-again
-    returns-2)
+    returns-3)
