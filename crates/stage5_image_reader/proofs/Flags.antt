@@ -14,7 +14,7 @@ use Rattle.stage0_laws.specs.Bits.{bit}
 use Rattle.stage0_laws.specs.BitLaws.{bit-or, bit-one, bit-zero}
 use Rattle.stage0_laws.specs.Order.{compare-cases}
 use Rattle.stage5_image_reader.specs.Answers.{with-flag}
-use Rattle.stage5_image_reader.specs.Tables.{listed, FlagsOf}
+use Rattle.stage5_image_reader.specs.Tables.{listed, held-flags, FlagsOf}
 
 or-false : (b : Bool) → (b || false) ≡ b
 or-false true = refl
@@ -82,3 +82,20 @@ pub listed-is : {A : Type 0} (f : ℕ → A) (d : A) (n : ℕ) (l : List A) → 
 listed-is f d n l hl h =
     ext-getD d l (listed f 0 n) (hl ∙ sym (length-listed f 0 n))
     (λ k m. sym (h k (omega arith)) ∙ sym (getD-listed f 0 n k d (omega arith) ∙ ap f (zero-add k)))
+
+-- So many flags as a set.
+pub record FlagsHeld (count s : ℕ) (l : List Bool) : Type 0 where
+  pub size : length l ≡ count
+  pub bits : FlagsOf (λ b. b) false s l
+
+pub held-none : FlagsHeld 0 0 []
+held-none = record { size = refl; bits = flags-none (λ b. b) false refl }
+
+pub held-more : (i s s' : ℕ) (l : List Bool) (b : Bool) → s' ≡ with-flag s i b → FlagsHeld i s l → FlagsHeld (i + 1) s' (l ++ (b ∷ []))
+held-more i s s' l b e h = record {
+  size = length-append l (b ∷ []) ∙ ap (λ (n : ℕ). n + 1) (h .size);
+  bits = flags-more (λ b. b) false b s i l refl (h .size) (h .bits) e;
+}
+
+pub held-list : (n s : ℕ) (l : List Bool) → FlagsHeld n s l → l ≡ held-flags s n
+held-list n s l h = listed-is (bit s) false n l (h .size) (λ k m. h .bits k)

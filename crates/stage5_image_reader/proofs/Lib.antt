@@ -1,5 +1,8 @@
--- The laws that the functions' proofs cite: fields, things read one after the other, sets of flags, columns and the table.
+-- The laws that the functions' proofs cite: the definitions' parts, fields, steps, things read one after the other, sets of flags, columns
+-- and the table.
+pub mod Parts
 pub mod Fields
+pub mod Steps
 pub mod Turns
 pub mod Flags
 pub mod Tails

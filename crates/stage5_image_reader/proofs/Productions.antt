@@ -1,6 +1,6 @@
--- Laws of productions: one law for each way through the reading of a production, and the table with one entry more.
+-- Laws of productions: the steps over a production are its reading, and the table with one entry more.
 use mathlib.Core.Path.{_≡_, refl, sym, ap, subst, _∙_}
-use mathlib.Core.Bool.{Bool, true, false, not, _&&_}
+use mathlib.Core.Bool.{Bool, true, false, not, cond, _&&_}
 use mathlib.Core.Logic.{⊎-elim}
 use mathlib.Core.List.{List, [], _∷_, _++_}
 use mathlib.Core.Option.{Option, none, some}
@@ -11,161 +11,129 @@ use lib.ListN.{length, getD, set, length-set}
 use lib.Seq.{getD-set-same, getD-set-other}
 use lib.Bits.{bitAnd}
 use lib.Dec.{eqb, leb, ltb}
-use borrow.Author.Tests.{eq-eqb, ne-eqb, le-leb, lt-ltb, ltb-true}
+use borrow.Author.Tests.{eq-eqb, ne-eqb, le-ltb}
 use Rattle.stage0_laws.specs.Bits.{bit}
 use Rattle.stage0_laws.specs.BitLaws.{and-test, shl-one}
-use Rattle.stage0_laws.specs.Order.{compare-cases}
-use Rattle.stage1_sheet.specs.Field.{Reading, stop, got, between}
+use Rattle.stage0_laws.specs.Order.{compare-cases, lt-or-le}
+use Rattle.stage0_laws.specs.Truth.{and-true-first}
+use Rattle.stage1_sheet.specs.Field.{Reading, stop, got, and-then, between}
 use Rattle.stage3_normal_form.specs.Productions.{Production, production-of, most-tail}
 use Rattle.stage5_image.specs.ImageReading.{image-field, read-list, read-production}
-use Rattle.stage5_image_reader.specs.Answers.{ProductionHeld, ProductionAnswers}
-use Rattle.stage5_image_reader.specs.declared.ProductionRead.the-variants as production
-use Rattle.stage5_image_reader.specs.Tables.{held-flags, TailAt, Members, EntryTail, EntryIs, EntriesOf, Room, SameBelow}
-use Rattle.stage5_image_reader.proofs.Fields.{field-got, field-passes, field-fails, field-stricter, field-range, field-one-byte}
-use Rattle.stage5_image_reader.proofs.Fields.{below-limit}
-use Rattle.stage5_image_reader.proofs.Turns.{many-next}
+use Rattle.stage5_image_reader.specs.Answers.{after, StepAnswers, ProductionHeld}
+use Rattle.stage5_image_reader.specs.declared.Step.{Step}
+use Rattle.stage5_image_reader.specs.Tables.{held-flags, Members, MembersHeld, EntryTail, EntryIs, EntriesOf, Room, SameBelow}
+use Rattle.stage5_image_reader.proofs.Parts.{production-is}
+use Rattle.stage5_image_reader.proofs.Fields.{field-same, field-both, field-got, field-one-byte, between-range, between-below}
 use Rattle.stage5_image_reader.proofs.Flags.{length-listed, getD-listed}
-
--- ---- answers
-
-value-refused : {X : Type 0} {rule place next p : ℕ} → production.Production rule place next ≡ production.Refused p → X
-value-refused {X} {rule} {place} {next} {p} e = let z : _≡_ {A = ℕ} 0 1 = cc in absurd (omega arith)
-
-module _ {bytes : List ℕ} {n least at : ℕ} {x : Reading Production} where
-  pub production-value : {rule place next : ℕ} (p : Production) → x ≡ got p next → ProductionHeld bytes n least at rule place next p
-      → ProductionAnswers bytes n least at (production.Production rule place next) x
-  production-value {rule} {place} {next} p h k = record {
-    value = λ e. (p, h ∙ ap (got p) (same-next e), same-held e);
-    refusal = λ e. value-refused e;
-  }
-    where
-      same-next : {r l m : ℕ} → production.Production rule place next ≡ production.Production r l m → next ≡ m
-      same-next {r} {l} {m} e = cc
-
-      same-held : {r l m : ℕ} → production.Production rule place next ≡ production.Production r l m
-          → ProductionHeld bytes n least at r l m p
-      same-held {r} {l} {m} e =
-          let same-rule : rule ≡ r = cc in
-          let same-place : place ≡ l = cc in
-          subst (λ (y : ℕ). ProductionHeld bytes n least at y l m p) same-rule
-          (subst (λ (y : ℕ). ProductionHeld bytes n least at rule y m p) same-place
-          (subst (λ (y : ℕ). ProductionHeld bytes n least at rule place y p) (same-next e) k))
-
-  pub production-refusal : {p : ℕ} → x ≡ stop 13 p → ProductionAnswers bytes n least at (production.Refused p) x
-  production-refusal {p} h = record { value = λ e. value-refused (sym e); refusal = λ e. h ∙ ap (stop 13) (refused-at e) }
-    where
-      refused-at : {q : ℕ} → production.Refused p ≡ production.Refused q → p ≡ q
-      refused-at {q} e = cc
+use Rattle.stage5_image_reader.proofs.Steps.{after-refused, after-taken, after-same, step-on, step-got, taken-before}
+use Rattle.stage5_image_reader.proofs.Steps.{number-got, number-before}
 
 -- ---- the rule of a production
 
--- The test of a production's rule.
-unfoldable pub rule-test : List Bool → ℕ → ℕ → Bool
-rule-test skips least v = leb least v && (ltb v (length skips) && not (getD skips v true))
+-- The test of a production's rule, as the code makes it.
+abbrev rule-test : ℕ → ℕ → ℕ → ℕ → Bool
+rule-test skips rules least v = between least (rules - 1) v && not (bit skips v)
 
-and-false : (a b c : Bool) → (a && b) ≡ false → (a && (b && c)) ≡ false
-and-false true true c e = let z : _≡_ {A = ℕ} 0 1 = cc in absurd (omega arith)
-and-false true false c e = refl
-and-false false b c e = refl
+module _ (bytes : List ℕ) (skips rules least : ℕ) (from rule : Step) (e : StepAnswers bytes from least (rules - 1) rule) where
+  abbrev second : ℕ → ℕ → Reading ℕ
+  second v next = cond (not (bit skips v)) (got v next) (stop 13 (from .at))
 
-module _ (skips rules least : ℕ) (h : 1 ≤ rules) where
-  flags-size : length (held-flags skips rules) ≡ rules
-  flags-size = length-listed (bit skips) 0 rules
+  tested : {b : Bool} → bit skips (rule .value) ≡ b
+      → after from (image-field (rule-test skips rules least) bytes)
+      ≡ after rule (λ next. cond (not b) (got (rule .value) next) (stop 13 (from .at)))
+  tested {b} h =
+      after-same from (image-field (rule-test skips rules least) bytes) (λ at. and-then (image-field (between least (rules - 1)) bytes at) second)
+      (field-both (between least (rules - 1)) (λ v. not (bit skips v)) bytes (from .at))
+      ∙ step-on _ _ _ _ (e .reads) second
+      ∙ after-same rule (second (rule .value)) (λ next. cond (not b) (got (rule .value) next) (stop 13 (from .at)))
+      (ap (λ (x : Bool). cond (not x) (got (rule .value) (rule .at)) (stop 13 (from .at))) h)
 
-  flag-at : (v : ℕ) → v < rules → getD (held-flags skips rules) v true ≡ bit skips v
-  flag-at v m = getD-listed (bit skips) 0 rules v true m ∙ ap (bit skips) (zero-add v)
+  pub rule-stops : rule .ok ≡ false → after rule (got (rule .value)) ≡ after from (image-field (rule-test skips rules least) bytes)
+  rule-stops h = sym (tested refl ∙ after-refused rule _ h ∙ sym (after-refused rule (got (rule .value)) h))
 
-  test-outside : (v : ℕ) → between least (rules - 1) v ≡ false → rule-test (held-flags skips rules) least v ≡ false
-  unfolding between rule-test
-  test-outside v e =
-      let b : leb v (rules - 1) ≡ ltb v (length (held-flags skips rules)) = below-limit rules h v ∙ ap (ltb v) (sym flags-size) in
-      and-false (leb least v) (ltb v (length (held-flags skips rules))) (not (getD (held-flags skips rules) v true)) (rw b at e)
+  pub rule-skips : rule .ok ≡ true → bit skips (rule .value) ≡ true
+      → after (record { value = 0; at = from .at; ok = false }) (got 0) ≡ after from (image-field (rule-test skips rules least) bytes)
+  rule-skips h b = after-refused (record { value = 0; at = from .at; ok = false }) (got 0) refl ∙ sym (tested b ∙ after-taken rule _ h)
 
-  test-inside : (v : ℕ) → least ≤ v → v < rules → rule-test (held-flags skips rules) least v ≡ not (bit skips v)
-  unfolding rule-test
-  test-inside v l m =
-      rw (le-leb least v l, flags-size, lt-ltb v rules m, flag-at v m)
+  pub rule-passes : bit skips (rule .value) ≡ false
+      → after rule (got (rule .value)) ≡ after from (image-field (rule-test skips rules least) bytes)
+  rule-passes b = sym (tested b)
 
-  module _ (bytes : List ℕ) (at : ℕ) where
-    pub rule-refused : {p : ℕ} → image-field (between least (rules - 1)) bytes at ≡ stop 13 p
-        → image-field (rule-test (held-flags skips rules) least) bytes at ≡ stop 13 p
-    rule-refused e = field-stricter (between least (rules - 1)) (rule-test (held-flags skips rules) least) bytes at test-outside e
+and-assoc : (a b c : Bool) → (a && (b && c)) ≡ ((a && b) && c)
+and-assoc true b c = refl
+and-assoc false b c = refl
 
-    pub rule-skips : {v next : ℕ} → image-field (between least (rules - 1)) bytes at ≡ got v next → bit skips v ≡ true
-        → image-field (rule-test (held-flags skips rules) least) bytes at ≡ stop 13 at
-    rule-skips {v} e b =
-        let r = field-range least (rules - 1) bytes at e in
-        field-fails (between least (rules - 1)) (rule-test (held-flags skips rules) least) bytes at e
-        (test-inside v (r .0) (omega arith) ∙ ap not b)
+and-never : (a c d : Bool) → ((a && false) && c) ≡ ((a && false) && d)
+and-never true c d = refl
+and-never false c d = refl
 
-    pub rule-passes : {v next : ℕ} → image-field (between least (rules - 1)) bytes at ≡ got v next → bit skips v ≡ false
-        → image-field (rule-test (held-flags skips rules) least) bytes at ≡ got v next
-    rule-passes {v} e b =
-        let r = field-range least (rules - 1) bytes at e in
-        field-passes (between least (rules - 1)) (rule-test (held-flags skips rules) least) bytes at e
-        (test-inside v (r .0) (omega arith) ∙ ap not b)
+-- It is the definition's test.
+module _ (skips rules least : ℕ) (h : 1 ≤ rules) (v : ℕ) where
+  abbrev first : Bool
+  first = leb least v && ltb v rules
+
+  skip-is : (first && not (getD (held-flags skips rules) v true)) ≡ (first && not (bit skips v))
+  skip-is = ⊎-elim inside outside (lt-or-le v rules)
+    where
+      inside : v < rules → (first && not (getD (held-flags skips rules) v true)) ≡ (first && not (bit skips v))
+      inside l = ap (λ (b : Bool). first && not b) (getD-listed (bit skips) 0 rules v true l ∙ ap (bit skips) (zero-add v))
+
+      outside : rules ≤ v → (first && not (getD (held-flags skips rules) v true)) ≡ (first && not (bit skips v))
+      outside l = rw (le-ltb v rules l) (and-never (leb least v) (not (getD (held-flags skips rules) v true)) (not (bit skips v)))
+
+  rule-is : (leb least v && (ltb v (length (held-flags skips rules)) && not (getD (held-flags skips rules) v true)))
+      ≡ rule-test skips rules least v
+  rule-is =
+      ap (λ (n : ℕ). leb least v && (ltb v n && not (getD (held-flags skips rules) v true))) (length-listed (bit skips) 0 rules)
+      ∙ and-assoc (leb least v) (ltb v rules) (not (getD (held-flags skips rules) v true))
+      ∙ skip-is ∙ ap (λ (b : Bool). b && not (bit skips v)) (sym (between-below least rules h v))
 
 -- ---- reading a production
 
-module _ (bytes : List ℕ) (skips : List Bool) (count least at : ℕ) where
-  pub rule-stops : {p : ℕ} → image-field (rule-test skips least) bytes at ≡ stop 13 p
-      → read-production bytes skips count least at ≡ stop 13 p
-  unfolding read-production rule-test
-  rule-stops e = rw e
+module _ (bytes : List ℕ) (skips rules n least : ℕ) (from rule size end : Step) (tail : List ℕ)
+    (e₁ : after rule (got (rule .value)) ≡ after from (image-field (rule-test skips rules least) bytes))
+    (e₂ : StepAnswers bytes rule 0 most-tail size)
+    (e₃ : after end (got tail) ≡ after size (read-list (image-field (λ v. ltb v n) bytes) (size .value))) where
+  defined : 1 ≤ rules
+      → after rule (got (rule .value))
+      ≡ after from (image-field (λ v. leb least v && (ltb v (length (held-flags skips rules)) && not (getD (held-flags skips rules) v true))) bytes)
+  defined h = e₁ ∙ after-same from _ _ (sym (field-same _ (rule-test skips rules least) bytes (from .at) (rule-is skips rules least h)))
 
-  module _ {rule at-length : ℕ} (e : image-field (rule-test skips least) bytes at ≡ got rule at-length) where
-    pub size-stops : {p : ℕ} → image-field (between 0 most-tail) bytes at-length ≡ stop 13 p
-        → read-production bytes skips count least at ≡ stop 13 p
-    unfolding read-production rule-test
-    size-stops e₂ = rw (e, e₂)
+  pub production-steps : 1 ≤ rules
+      → after end (got (record { head = rule .value; tail = tail })) ≡ after from (read-production bytes (held-flags skips rules) n least)
+  production-steps h =
+      sym (after-same from _ _ (production-is bytes (held-flags skips rules) n least (from .at))
+      ∙ step-on _ _ _ _ (defined h) _
+      ∙ step-on _ _ _ _ (e₂ .reads) _
+      ∙ step-on _ _ _ _ e₃ _)
 
-    module _ {size at-tail : ℕ} (e₂ : image-field (between 0 most-tail) bytes at-length ≡ got size at-tail) where
-      pub tail-stops : {p : ℕ} → read-list (image-field (λ v. ltb v count) bytes) size at-tail ≡ stop 13 p
-          → read-production bytes skips count least at ≡ stop 13 p
-      unfolding read-production rule-test
-      tail-stops e₃ = rw (e, e₂, e₃)
-
-      pub production-reads : {tail : List ℕ} {next : ℕ} → read-list (image-field (λ v. ltb v count) bytes) size at-tail ≡ got tail next
-          → read-production bytes skips count least at ≡ got (record { head = rule; tail = tail }) next
-      unfolding read-production rule-test
-      production-reads e₃ = rw (e, e₂, e₃)
-
--- The tail that was read stands behind its length.
-pub tail-at : (bytes : List ℕ) (n place size at-tail : ℕ) (tail : List ℕ) → ((i : ℕ) → getD bytes i 0 < 256)
-    → image-field (between 0 most-tail) bytes place ≡ got size at-tail → length tail ≡ size → Members bytes at-tail n tail
-    → TailAt bytes n place tail
-tail-at bytes n place size at-tail tail hb e l m =
-    let r = field-range 0 most-tail bytes place e in
-    let o = field-one-byte (between 0 most-tail) bytes place hb e (omega arith) in
-    record {
-      size = o .byte ∙ sym l;
-      short = omega arith;
-      members = subst (λ (x : ℕ). Members bytes x n tail) (o .after) m;
-    }
-
--- A production has one byte for the rule, one for the tail's length and one for each member.
-module _ (bytes : List ℕ) (hb : (i : ℕ) → getD bytes i 0 < 256) where
-  tail-next : (n size at : ℕ) → n ≤ 64 → {tail : List ℕ} {next : ℕ} → read-list (image-field (λ v. ltb v n) bytes) size at ≡ got tail next
-      → next ≡ at + size
-  unfolding read-list
-  tail-next n size at h e =
-      many-next (λ (s : Bool) at. image-field (λ v. ltb v n) bytes at) (λ s a. s)
-      (λ s at v next f. let g = field-got (λ v. ltb v n) bytes at f in
-      field-one-byte (λ v. ltb v n) bytes at hb f (omega (arith, ltb-true v n (g .allowed))) .after)
-      true size at e
-
-  pub production-near : (least rules n at : ℕ) {rule at-length size at-tail next : ℕ} {tail : List ℕ} → 1 ≤ rules → rules ≤ 32 → n ≤ 64
-      → image-field (between least (rules - 1)) bytes at ≡ got rule at-length
-      → image-field (between 0 most-tail) bytes at-length ≡ got size at-tail
-      → read-list (image-field (λ v. ltb v n) bytes) size at-tail ≡ got tail next
-      → (at-length ≡ at + 1) × (at ≤ next) × (next ≤ at + 34)
-  production-near least rules n at {rule} {at-length} {size} {at-tail} {next} one most few e e₂ e₃ =
-      let r = field-range least (rules - 1) bytes at e in
-      let o = field-one-byte (between least (rules - 1)) bytes at hb e (omega arith) in
-      let r₂ = field-range 0 most-tail bytes at-length e₂ in
-      let o₂ = field-one-byte (between 0 most-tail) bytes at-length hb e₂ (omega arith) in
-      let f = tail-next n size at-tail few e₃ in
-      (o .after, omega (arith, o .after, o₂ .after, f), omega (arith, o .after, o₂ .after, f, r₂ .1))
+  -- A production has one byte for the rule, one for the tail's length and one for each member.
+  pub production-held : ((i : ℕ) → getD bytes i 0 < 256) → rule .value < 32 → end .ok ≡ true
+      → MembersHeld bytes (size .at) n (size .value) (end .at) tail
+      → ProductionHeld bytes n least (from .at) (record { rule = rule .value; tail = rule .at; end = end })
+      (record { head = rule .value; tail = tail })
+  production-held hb b h m =
+      let k = taken-before size end (read-list (image-field (λ v. ltb v n) bytes) (size .value)) tail e₃ h in
+      let f₁ = step-got from rule (image-field (rule-test skips rules least) bytes) (rule .value) e₁ (number-before e₂ k) in
+      let f₂ = number-got e₂ k in
+      let t = and-true-first _ (not (bit skips (rule .value))) (field-got _ bytes (from .at) f₁ .allowed) in
+      let r = between-range least (rules - 1) (rule .value) t in
+      let o₁ = field-one-byte (rule-test skips rules least) bytes (from .at) hb f₁ (omega arith) in
+      let s : size .value ≤ most-tail = e₂ .at-most in
+      let o₂ = field-one-byte (between 0 most-tail) bytes (rule .at) hb f₂ (omega arith) in
+      record {
+        head = refl;
+        at-least = r .0;
+        below = b;
+        near = o₁ .after;
+        onward = omega (arith, o₁ .after, o₂ .after, m .place);
+        short = omega (arith, o₁ .after, o₂ .after, m .place, s);
+        tail = record {
+          size = o₂ .byte ∙ sym (m .count);
+          short = omega (arith, m .count, s);
+          members = subst (λ (x : ℕ). Members bytes x n tail) (o₂ .after) (m .members);
+        };
+      }
 
 -- ---- the production of a rule
 

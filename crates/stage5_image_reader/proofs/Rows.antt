@@ -1,47 +1,41 @@
--- Laws of rows: one law for each way through the reading of a row, and the tables with one row more.
+-- Laws of rows: the steps over a row are its reading, and the tables with one row more.
 use mathlib.Core.Path.{_≡_, refl, sym, ap, subst, _∙_}
-use mathlib.Core.Bool.{Bool}
+use mathlib.Core.Bool.{Bool, true}
 use mathlib.Core.Logic.{⊎-elim}
 use mathlib.Core.List.{List, [], _∷_, _++_}
-use Prim.Native.Nat.{ℕ, suc, _+_, _*_, _≤_, _<_}
+use Prim.Native.Nat.{ℕ, suc, _+_, _*_, _<_}
 use native.Mathlib.Omega.{arith}
 use lib.ListN.{length, getD, set, length-append}
 use lib.Seq.{getD-set-same, getD-set-other}
 use lib.Dec.{eqb}
 use Rattle.stage0_laws.specs.Order.{lt-or-le}
-use Rattle.stage1_sheet.specs.Field.{stop, got, between, read-many}
+use Rattle.stage1_sheet.specs.Field.{got, read-many}
 use Rattle.stage3_normal_form.specs.Productions.{Production, Row, row-of, no-productions, production-of}
-use Rattle.stage5_image.specs.ImageReading.{image-field, read-production, read-row}
-use Rattle.stage5_image_reader.specs.Answers.{with-flag}
-use Rattle.stage5_image_reader.specs.Tables.{FlagsOf, EntryIs, EntriesOf, RowHeld, RowsHeld, Room, SameBelow}
-use Rattle.stage5_image_reader.proofs.Fields.{flag-reads, flag-stops, field-range, field-one-byte}
+use Rattle.stage5_image.specs.ImageReading.{read-production, read-row}
+use Rattle.stage5_image_reader.specs.Answers.{after, StepAnswers, RowEntered, with-flag}
+use Rattle.stage5_image_reader.specs.Tables.{FlagsOf, EntryIs, EntriesOf, RowsHeld, Room}
+use Rattle.stage5_image_reader.specs.declared.Step.{Step}
+use Rattle.stage5_image_reader.proofs.Parts.{row-is}
+use Rattle.stage5_image_reader.proofs.Fields.{field-one-byte}
 use Rattle.stage5_image_reader.proofs.Flags.{flags-none, flags-more, snoc-below, snoc-last}
+use Rattle.stage5_image_reader.proofs.Steps.{after-same, step-on, flag-reads, number-got, number-before}
 
-module _ (bytes : List ℕ) (skips : List Bool) (n at : ℕ) where
-  pub empty-stops : {p : ℕ} → image-field (between 0 1) bytes at ≡ stop 13 p → read-row bytes skips n at ≡ stop 13 p
-  unfolding read-row
-  empty-stops e = rw (flag-stops bytes at e)
+module _ (bytes : List ℕ) (from empty count : Step) (e₁ : StepAnswers bytes from 0 1 empty) (e₂ : StepAnswers bytes empty 0 32 count) where
+  pub row-steps : (skips : List Bool) (n : ℕ) (end : Step) (ps : List Production)
+      → after end (got ps) ≡ after count (read-many (read-production bytes skips n) (λ least p. suc (p .head)) 0 (count .value))
+      → after end (got (record { has-epsilon = eqb (empty .value) 1; productions = ps })) ≡ after from (read-row bytes skips n)
+  row-steps skips n end ps e₃ =
+      sym (after-same from _ _ (row-is bytes skips n (from .at))
+      ∙ step-on _ _ _ _ (flag-reads bytes from empty (e₁ .reads)) _
+      ∙ step-on _ _ _ _ (e₂ .reads) _
+      ∙ step-on _ _ _ _ e₃ _)
 
-  module _ {v at-count : ℕ} (e : image-field (between 0 1) bytes at ≡ got v at-count) where
-    pub count-stops : {p : ℕ} → image-field (between 0 32) bytes at-count ≡ stop 13 p → read-row bytes skips n at ≡ stop 13 p
-    unfolding read-row
-    count-stops e₂ = rw (flag-reads bytes at e, e₂)
-
-    module _ {size at-first : ℕ} (e₂ : image-field (between 0 32) bytes at-count ≡ got size at-first) where
-      pub productions-stop : {p : ℕ} → read-many (read-production bytes skips n) (λ least p. suc (p .head)) 0 size at-first ≡ stop 13 p
-          → read-row bytes skips n at ≡ stop 13 p
-      unfolding read-row
-      productions-stop e₃ = rw (flag-reads bytes at e, e₂, e₃)
-
-      pub row-reads : {ps : List Production} {next : ℕ}
-          → read-many (read-production bytes skips n) (λ least p. suc (p .head)) 0 size at-first ≡ got ps next
-          → read-row bytes skips n at ≡ got (record { has-epsilon = eqb v 1; productions = ps }) next
-      unfolding read-row
-      row-reads e₃ = rw (flag-reads bytes at e, e₂, e₃)
-
--- A row that is refused before its productions leaves the table as it is.
-pub room-after : (table : List ℕ) (base : ℕ) → Room table base → Room table (base + 32)
-room-after table base r = record { size = r .size; zero-from = λ k h. r .zero-from k (omega arith) }
+  -- The ε flag and the count of a row are one byte each.
+  pub row-near : ((i : ℕ) → getD bytes i 0 < 256) → count .ok ≡ true → count .at ≡ from .at + 2
+  row-near hb h =
+      let o₁ = field-one-byte _ bytes (from .at) hb (number-got e₁ (number-before e₂ h)) (omega (arith, e₁ .at-most)) in
+      let o₂ = field-one-byte _ bytes (empty .at) hb (number-got e₂ h) (omega (arith, e₂ .at-most)) in
+      omega (arith, o₁ .after, o₂ .after)
 
 -- The rows so far, in the table: the entries of row m start at 32 m, and those of rows to come are zero.
 pub record Filling (bytes : List ℕ) (n : ℕ) (starts table : List ℕ) (s base i : ℕ) (rows : List Row) : Type 0 where
@@ -62,7 +56,7 @@ filling-none bytes n starts table z = record {
 
 module _ (bytes : List ℕ) (n : ℕ) (starts table table' : List ℕ) (s base i at v : ℕ) (rows : List Row) (row : Row)
     (f : Filling bytes n starts table s base i rows) (inside : i < length starts)
-    (h : RowHeld bytes at n table' base v row) (same : SameBelow base table table') (after : Room table' (base + 32)) where
+    (h : RowEntered bytes at n base table table' v row) where
   abbrev more-starts : List ℕ
   more-starts = set starts i at
 
@@ -71,7 +65,7 @@ module _ (bytes : List ℕ) (n : ℕ) (starts table table' : List ℕ) (s base i
 
   entries-below : (m : ℕ) → m < i → EntriesOf bytes (getD more-starts m 0) n table' (m * 32) ((row-of (rows ++ (row ∷ [])) m) .productions)
   entries-below m l r k =
-      let g : getD table' (m * 32 + r) 0 ≡ getD table (m * 32 + r) 0 = same (m * 32 + r) (omega (arith, f .start)) in
+      let g : getD table' (m * 32 + r) 0 ≡ getD table (m * 32 + r) 0 = h .entered .same (m * 32 + r) (omega (arith, f .start)) in
       let o : row-of (rows ++ (row ∷ [])) m ≡ row-of rows m = snoc-below rows row no-productions m (omega (arith, f .size)) in
       let b : getD more-starts m 0 ≡ getD starts m 0 = getD-set-other starts i m at 0 (λ e. omega arith) in
       subst (λ (x : ℕ). EntryAt x (getD table' (m * 32 + r) 0) r (row-of (rows ++ (row ∷ [])) m)) (sym b)
@@ -85,7 +79,7 @@ module _ (bytes : List ℕ) (n : ℕ) (starts table table' : List ℕ) (s base i
       let a : getD more-starts m 0 ≡ at = ap (λ (x : ℕ). getD more-starts x 0) e ∙ getD-set-same starts i at 0 inside in
       subst (λ (x : ℕ). EntryAt x (getD table' (m * 32 + r) 0) r (row-of (rows ++ (row ∷ [])) m)) (sym a)
       (subst (EntryAt at (getD table' (m * 32 + r) 0) r) (sym o)
-      (subst (λ (x : ℕ). EntryAt at (getD table' (x + r) 0) r row) b (h .entries r k)))
+      (subst (λ (x : ℕ). EntryAt at (getD table' (x + r) 0) r row) b (h .entered .entries r k)))
 
   pub filling-more : {s' : ℕ} → s' ≡ with-flag s i (eqb v 1)
       → Filling bytes n more-starts table' s' (base + 32) (i + 1) (rows ++ (row ∷ []))
@@ -95,7 +89,7 @@ module _ (bytes : List ℕ) (n : ℕ) (starts table table' : List ℕ) (s base i
     empty =
         flags-more (λ row. row .has-epsilon) no-productions row s i rows refl (f .size) (f .empty) (e ∙ ap (with-flag s i) (h .empty));
     entries = λ m l. ⊎-elim (λ k. entries-below m k) (λ k. entries-last m (omega arith)) (lt-or-le m i);
-    room = after;
+    room = h .entered .room;
   }
 
 pub filling-end : (bytes : List ℕ) (n : ℕ) (starts table : List ℕ) (s base i : ℕ) (rows : List Row) → i ≡ n
@@ -105,14 +99,3 @@ filling-end bytes n starts table s base i rows e f = record {
   empty = f .empty;
   entries = λ m h. f .entries m (omega arith);
 }
-
--- The ε flag and the count of a row are one byte each.
-pub row-near : (bytes : List ℕ) → ((i : ℕ) → getD bytes i 0 < 256) → (at : ℕ) {v at-count size at-first : ℕ}
-    → image-field (between 0 1) bytes at ≡ got v at-count → image-field (between 0 32) bytes at-count ≡ got size at-first
-    → (at-first ≡ at + 2) × (size ≤ 32)
-row-near bytes hb at {v} {at-count} {size} {at-first} e e₂ =
-    let r = field-range 0 1 bytes at e in
-    let o = field-one-byte (between 0 1) bytes at hb e (omega arith) in
-    let r₂ = field-range 0 32 bytes at-count e₂ in
-    let o₂ = field-one-byte (between 0 32) bytes at-count hb e₂ (omega arith) in
-    (omega (arith, o .after, o₂ .after), r₂ .1)

@@ -1,22 +1,27 @@
--- Laws of a whole image: one law for each way through the reading of its parts, one after the other.
+-- Laws of a whole image: the steps over it are its reading, and what the tables hold at the end.
 use mathlib.Core.Path.{_≡_, refl, sym, ap, subst, _∙_}
-use mathlib.Core.Bool.{Bool, false}
+use mathlib.Core.Bool.{Bool, true, false, cond}
 use mathlib.Core.List.{List}
-use Prim.Native.Nat.{ℕ, zero, suc, _-_, _^_}
+use Prim.Native.Nat.{ℕ, zero, suc, _+_, _-_, _*_, _^_}
 use native.Mathlib.Omega.{arith}
-use lib.ListN.{length, getD, replicate, length-replicate}
+use lib.ListN.{length, getD, drop, replicate, length-replicate}
+use lib.Seq.{getD-drop}
+use lib.Dec.{eqb}
 use borrow.Author.Tests.{eq-eqb, ne-eqb}
-use Rattle.stage1_sheet.specs.Field.{Reading, stop, got, between}
-use Rattle.stage3_normal_form.specs.Productions.{Row}
+use Rattle.stage1_sheet.specs.Field.{Reading, stop, got}
+use Rattle.stage3_normal_form.specs.Productions.{Row, row-of}
 use Rattle.stage4_lexer.specs.Positions.{Position}
+use Rattle.stage4_lexer_tables.specs.Holding.{SweptOver}
 use Rattle.stage5_image.specs.Image.{Image}
-use Rattle.stage5_image.specs.ImageReading.{image-field, read-flag, read-list, read-row, image-end, read-image}
-use Rattle.stage5_image_reader.specs.Answers.{positions-in}
-use Rattle.stage5_image_reader.specs.Tables.{held-flags, FlagsOf, FlagsHeld, Room}
-use Rattle.stage5_image_reader.specs.Decoded.{Decoded, tables-of, refused-at, ImageAnswers, read-grammar, read-lexer}
+use Rattle.stage5_image.specs.ImageReading.{read-flag, read-list, read-row, image-end, read-image}
+use Rattle.stage5_image_reader.specs.Answers.{after, StepAnswers, positions-in}
+use Rattle.stage5_image_reader.specs.Tables.{EntriesOf, RowsHeld, Room}
+use Rattle.stage5_image_reader.specs.Decoded.{Decoded, tables-of, refused-at, ImageAnswers}
 use Rattle.stage5_image_reader.specs.declared.ImageRead.{ImageRead}
 use Rattle.stage5_image_reader.specs.declared.Outcome.the-variants.{Readable, Refused}
-use Rattle.stage5_image_reader.proofs.Positions.{field-set}
+use Rattle.stage5_image_reader.specs.declared.Step.{Step}
+use Rattle.stage5_image_reader.proofs.Parts.{end-is, image-is}
+use Rattle.stage5_image_reader.proofs.Steps.{after-refused, after-taken, after-start, step-on, set-reads}
 
 -- ---- answers
 
@@ -41,10 +46,6 @@ module _ {bytes : List ℕ} {r : ImageRead} {tables productions : List ℕ} {x :
       same-place : {q : ℕ} → Refused place ≡ Refused q → place ≡ q
       same-place {q} e = cc
 
-  pub image-same : {y : Reading Image} → x ≡ y → ImageAnswers bytes r tables productions y
-      → ImageAnswers bytes r tables productions x
-  image-same e a = subst (λ (z : Reading Image). ImageAnswers bytes r tables productions z) (sym e) a
-
 -- ---- the table before any row
 
 zeros : (n k : ℕ) → _≡_ {A = ℕ} (getD (replicate n 0) k 0) 0
@@ -55,75 +56,52 @@ zeros (suc n) (suc k) = zeros n k
 pub room-whole : Room (replicate 2048 0) 0
 room-whole = record { size = length-replicate {A = ℕ} 2048 0; zero-from = λ k h. zeros 2048 k }
 
--- ---- from the nonterminal count on
+-- ---- the steps
 
-module _ (bytes : List ℕ) (skips : List Bool) (ps : List Position) (first at : ℕ) where
-  pub nonterminals-stop : {p : ℕ} → image-field (between 1 64) bytes at ≡ stop 13 p → read-grammar bytes skips ps first at ≡ stop 13 p
-  unfolding read-grammar
-  nonterminals-stop e = rw e
+module _ (bytes : List ℕ) (version rules skips count positions first nonterminals end : Step)
+    (flags : List Bool) (ps : List Position) (rows : List Row) {set : ℕ} (e : set ≡ 2 ^ (count .value) - 1)
+    (e₁ : StepAnswers bytes (record { value = 0; at = 0; ok = true }) 1 1 version)
+    (e₂ : StepAnswers bytes version 1 32 rules)
+    (e₃ : after skips (got flags) ≡ after rules (read-list (read-flag bytes) (rules .value)))
+    (e₄ : StepAnswers bytes skips 1 64 count)
+    (e₅ : after positions (got ps) ≡ after count (positions-in bytes (rules .value) (count .value)))
+    (e₆ : StepAnswers bytes positions 0 set first)
+    (e₇ : StepAnswers bytes first 1 64 nonterminals)
+    (e₈ : after end (got rows) ≡ after nonterminals (read-list (read-row bytes flags (nonterminals .value)) (nonterminals .value))) where
+  pub image-steps : read-image bytes ≡ after end (image-end bytes (record { skips = flags; positions = ps; first = first .value; rows = rows }))
+  image-steps =
+      image-is bytes ∙ after-start 0 _
+      ∙ step-on _ _ _ _ (e₁ .reads) _
+      ∙ step-on _ _ _ _ (e₂ .reads) _
+      ∙ step-on _ _ _ _ e₃ _
+      ∙ step-on _ _ _ _ (e₄ .reads) _
+      ∙ step-on _ _ _ _ e₅ _
+      ∙ step-on _ _ _ _ (set-reads bytes (count .value) positions first e (e₆ .reads)) _
+      ∙ step-on _ _ _ _ (e₇ .reads) _
+      ∙ step-on _ _ _ _ e₈ _
 
-  module _ {n at-rows : ℕ} (e : image-field (between 1 64) bytes at ≡ got n at-rows) where
-    pub rows-stop : {p : ℕ} → read-list (read-row bytes skips n) n at-rows ≡ stop 13 p → read-grammar bytes skips ps first at ≡ stop 13 p
-    unfolding read-grammar
-    rows-stop e₂ = rw (e, e₂)
+module _ (bytes : List ℕ) (end : Step) (i : Image) (e : read-image bytes ≡ after end (image-end bytes i)) where
+  pub image-stops : end .ok ≡ false → read-image bytes ≡ stop 13 (end .at)
+  image-stops h = e ∙ after-refused end (image-end bytes i) h
 
-    module _ {rows : List Row} {end : ℕ} (e₂ : read-list (read-row bytes skips n) n at-rows ≡ got rows end) where
-      pub left-over : (end ≡ length bytes → ⊥) → read-grammar bytes skips ps first at ≡ stop 13 end
-      unfolding read-grammar image-end
-      left-over h = rw (e, e₂, ne-eqb end (length bytes) h)
+  module _ (h : end .ok ≡ true) where
+    ended : {b : Bool} → eqb (end .at) (length bytes) ≡ b → read-image bytes ≡ cond b (got i (end .at)) (stop 13 (end .at))
+    ended k =
+        e ∙ after-taken end (image-end bytes i) h ∙ end-is bytes i (end .at)
+        ∙ ap (λ (b : Bool). cond b (got i (end .at)) (stop 13 (end .at))) k
 
-      pub grammar-reads : end ≡ length bytes
-          → read-grammar bytes skips ps first at ≡ got (record { skips = skips; positions = ps; first = first; rows = rows }) (length bytes)
-      unfolding read-grammar image-end
-      grammar-reads h = rw (e, e₂, eq-eqb end (length bytes) h, h)
+    pub left-over : (end .at ≡ length bytes → ⊥) → read-image bytes ≡ stop 13 (end .at)
+    left-over k = ended (ne-eqb (end .at) (length bytes) k)
 
--- ---- from the position count on
+    pub image-reads : end .at ≡ length bytes → read-image bytes ≡ got i (length bytes)
+    image-reads k = ended (eq-eqb (end .at) (length bytes) k) ∙ ap (got i) k
 
-module _ (bytes : List ℕ) (rules : ℕ) (skips : List Bool) (at : ℕ) where
-  pub count-stops : {p : ℕ} → image-field (between 1 64) bytes at ≡ stop 13 p → read-lexer bytes rules skips at ≡ stop 13 p
-  unfolding read-lexer
-  count-stops e = rw e
-
-  module _ {count at-positions : ℕ} (e : image-field (between 1 64) bytes at ≡ got count at-positions) where
-    pub positions-stop : {p : ℕ} → positions-in bytes rules count at-positions ≡ stop 13 p
-        → read-lexer bytes rules skips at ≡ stop 13 p
-    unfolding read-lexer
-    positions-stop e₂ = rw (e, e₂)
-
-    module _ {ps : List Position} {at-first : ℕ}
-        (e₂ : positions-in bytes rules count at-positions ≡ got ps at-first)
-        {m : ℕ} (l : m ≡ 2 ^ count - 1) where
-      pub first-stops : {p : ℕ} → image-field (between 0 m) bytes at-first ≡ stop 13 p → read-lexer bytes rules skips at ≡ stop 13 p
-      unfolding read-lexer
-      first-stops e₃ = rw (e, e₂, sym (field-set bytes count at-first l) ∙ e₃)
-
-      pub lexer-reads : {first next : ℕ} → image-field (between 0 m) bytes at-first ≡ got first next
-          → read-lexer bytes rules skips at ≡ read-grammar bytes skips ps first next
-      unfolding read-lexer
-      lexer-reads {first} {next} e₃ = rw (e, e₂, sym (field-set bytes count at-first l) ∙ e₃)
-
--- ---- from the version on
-
-module _ (bytes : List ℕ) where
-  pub version-stops : {p : ℕ} → image-field (between 1 1) bytes 0 ≡ stop 13 p → read-image bytes ≡ stop 13 p
-  unfolding read-image
-  version-stops e = rw e
-
-  module _ {version at-rules : ℕ} (e : image-field (between 1 1) bytes 0 ≡ got version at-rules) where
-    pub rules-stop : {p : ℕ} → image-field (between 1 32) bytes at-rules ≡ stop 13 p → read-image bytes ≡ stop 13 p
-    unfolding read-image
-    rules-stop e₂ = rw (e, e₂)
-
-    module _ {rules at-skips : ℕ} (e₂ : image-field (between 1 32) bytes at-rules ≡ got rules at-skips) where
-      pub skips-stop : {p : ℕ} → read-list (read-flag bytes) rules at-skips ≡ stop 13 p → read-image bytes ≡ stop 13 p
-      unfolding read-image
-      skips-stop e₃ = rw (e, e₂, e₃)
-
-      pub image-reads : {skips at-count : ℕ} {l : List Bool} → read-list (read-flag bytes) rules at-skips ≡ got l at-count
-          → FlagsHeld rules skips l
-          → read-image bytes ≡ read-lexer bytes rules (held-flags skips rules) at-count
-      unfolding read-image read-lexer read-grammar
-      image-reads {skips} {at-count} {l} e₃ h = rw (e, e₂, e₃, h .list)
-
-pub flags-whole : {rules skips : ℕ} {l : List Bool} → FlagsHeld rules skips l → FlagsOf (λ b. b) false skips (held-flags skips rules)
-flags-whole {rules} {skips} h = subst (λ (x : List Bool). FlagsOf (λ b. b) false skips x) (h .list) (h .bits)
+-- The sweep leaves the starts of the rows.
+pub rows-swept : (bytes : List ℕ) (n : ℕ) (t t' table : List ℕ) (s : ℕ) (rows : List Row) → SweptOver t t'
+    → RowsHeld bytes n (drop 384 t) table s rows → RowsHeld bytes n (drop 384 t') table s rows
+rows-swept bytes n t t' table s rows w h = record {
+  size = h .size;
+  empty = h .empty;
+  entries = λ m l. subst (λ (x : ℕ). EntriesOf bytes x n table (m * 32) ((row-of rows m) .productions))
+      (getD-drop 384 t m 0 ∙ sym (w .others (384 + m) (omega arith)) ∙ sym (getD-drop 384 t' m 0)) (h .entries m l);
+}

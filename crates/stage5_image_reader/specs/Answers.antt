@@ -1,41 +1,38 @@
--- What the answers of the functions that read parts of an image say: a refusal is question 13 at its place, a value is what was
--- read and the place after it.
+-- What the functions that read parts of an image answer: a step is where reading stands, and from a refused number on nothing more
+-- is read. What a whole image's reading answers is said in `Decoded`.
 use mathlib.Core.Path.{_≡_}
-use mathlib.Core.Bool.{Bool, cond}
+use mathlib.Core.Bool.{Bool, true, false, cond}
 use mathlib.Core.List.{List}
 use Prim.Native.Nat.{ℕ, suc, _+_, _^_, _≤_, _<_}
 use lib.Bits.{bitOr}
 use lib.Dec.{eqb}
-use lib.ListN.{set}
-use Rattle.stage1_sheet.specs.Field.{Reading, stop, got, read-many}
+use Rattle.stage1_sheet.specs.Field.{Reading, stop, got, between, read-many}
 use Rattle.stage3_normal_form.specs.Productions.{Production, Row}
 use Rattle.stage4_lexer.specs.Positions.{Position}
-use Rattle.stage5_image.specs.ImageReading.{read-position, read-production, read-row}
-use Rattle.stage5_image_reader.specs.Tables.{held-flags, TailAt, EntriesHeld, RowHeld, Room, SameBelow}
+use Rattle.stage5_image.specs.ImageReading.{image-field, read-position, read-production, read-row}
+use Rattle.stage5_image_reader.specs.Tables.{held-flags, TailAt, EntriesOf, Room, SameBelow}
 use Rattle.stage5_image_reader.specs.declared.Bounds.{Bounds}
-use Rattle.stage5_image_reader.specs.declared.Field.{Field}
-use Rattle.stage5_image_reader.specs.declared.Field.the-variants.{Value, Refused}
+use Rattle.stage5_image_reader.specs.declared.Step.{Step}
 use Rattle.stage5_image_reader.specs.declared.PositionRead.{PositionRead}
-use Rattle.stage5_image_reader.specs.declared.PositionRead.the-variants as position
 use Rattle.stage5_image_reader.specs.declared.ProductionRead.{ProductionRead}
-use Rattle.stage5_image_reader.specs.declared.ProductionRead.the-variants as production
 
--- ---- fields
+-- ---- steps
 
--- A field's answer, as the reading that it stands for.
-abbrev pub field-reading : Field → Reading ℕ
-field-reading (Value v next) = got v next
-field-reading (Refused place) = stop 13 place
+-- What is read from a step on: a refusal, question 13 at its place, stays.
+unfoldable pub after : {A : Type 0} → Step → (ℕ → Reading A) → Reading A
+after s one = cond (s .ok) (one (s .at)) (stop 13 (s .at))
 
--- The place in an answer.
-abbrev pub place-of : Field → ℕ
-place-of (Value v next) = next
-place-of (Refused place) = place
+-- The step over one number: it is the number's reading, and its value is 0 where it was refused.
+pub record StepAnswers (bytes : List ℕ) (from : Step) (least most : ℕ) (r : Step) : Type 0 where
+  pub reads : after r (got (r .value)) ≡ after from (image-field (between least most) bytes)
+  pub at-most : r .value ≤ most
+  pub none : r .ok ≡ false → r .value ≡ 0
 
--- An answer to a reading of something else than a number: the value stands in a relation to what was read.
-pub record Answers {A : Type 0} (P : ℕ → A → Type 0) (r : Field) (x : Reading A) : Type 0 where
-  pub value : {v next : ℕ} → r ≡ Value v next → (a : A) × (x ≡ got a next) × P v a
-  pub refusal : {place : ℕ} → r ≡ Refused place → x ≡ stop 13 place
+-- The step over something else than a number: what was read, if all of it was taken, stands in a relation to what the function returns.
+pub record Answers {A : Type 0} (P : A → Type 0) (r : Step) (x : Reading A) : Type 0 where
+  pub what : A
+  pub reads : after r (got what) ≡ x
+  pub holds : r .ok ≡ true → P what
 
 -- A set with i added where a flag is set.
 unfoldable pub with-flag : ℕ → ℕ → Bool → ℕ
@@ -45,9 +42,8 @@ with-flag s i b = cond b (bitOr s (2 ^ i)) s
 
 -- A position's answer, as the reading that it stands for.
 abbrev pub position-reading : PositionRead → Reading Position
-position-reading (position.Position low high rule last follow next) =
-    got (record { low = low; high = high; rule = rule; last = eqb last 1; follow = follow }) next
-position-reading (position.Refused place) = stop 13 place
+position-reading p =
+    after (p .follow) (got (record { low = p .low; high = p .high; rule = p .rule; last = eqb (p .last) 1; follow = p .follow .value }))
 
 -- So many positions.
 abbrev pub positions-in : List ℕ → ℕ → ℕ → ℕ → Reading (List Position)
@@ -72,31 +68,24 @@ productions-in bytes b count at = read-many (production-in bytes b) (λ least p.
 abbrev pub row-in : List ℕ → Bounds → ℕ → Reading Row
 row-in bytes b at = read-row bytes (held-flags (b .skips) (b .rules)) (b .nonterminals) at
 
--- A production, read from `at` on, whose tail's length stands at a place.
-pub record ProductionHeld (bytes : List ℕ) (n least at rule place next : ℕ) (p : Production) : Type 0 where
-  pub head : p .head ≡ rule
-  pub at-least : least ≤ rule
-  pub below : rule < 32
-  pub near : place ≡ at + 1
-  pub onward : at ≤ next
-  pub short : next ≤ at + 34
-  pub tail : TailAt bytes n place (p .tail)
+-- A production, read from `at` on.
+pub record ProductionHeld (bytes : List ℕ) (n least at : ℕ) (r : ProductionRead) (p : Production) : Type 0 where
+  pub head : p .head ≡ r .rule
+  pub at-least : least ≤ r .rule
+  pub below : r .rule < 32
+  pub near : r .tail ≡ at + 1
+  pub onward : at ≤ r .end .at
+  pub short : r .end .at ≤ at + 34
+  pub tail : TailAt bytes n (r .tail) (p .tail)
 
--- A production's answer.
-pub record ProductionAnswers (bytes : List ℕ) (n least at : ℕ) (r : ProductionRead) (x : Reading Production) : Type 0 where
-  pub value : {rule place next : ℕ} → r ≡ production.Production rule place next
-      → (p : Production) × (x ≡ got p next) × ProductionHeld bytes n least at rule place next p
-  pub refusal : {place : ℕ} → r ≡ production.Refused place → x ≡ stop 13 place
-
--- So many productions of the row that starts at a place, entered from a base on. What stands below the base stays, and what follows the
+-- The productions of the row that starts at a place, entered from a base on. What stands below the base stays, and what follows the
 -- row's entries is zero as it was.
-pub record ProductionsEntered (bytes : List ℕ) (b : Bounds) (count start at base : ℕ) (table table' : List ℕ) (r : Field) : Type 0 where
-  pub answers : Answers (EntriesHeld bytes start (b .nonterminals) table' base) r (productions-in bytes b count at)
+pub record ProductionsEntered (bytes : List ℕ) (start n base : ℕ) (table table' : List ℕ) (ps : List Production) : Type 0 where
+  pub entries : EntriesOf bytes start n table' base ps
   pub same : SameBelow base table table'
   pub room : Room table' (base + 32)
 
--- A row, entered from a base on.
-pub record RowEntered (bytes : List ℕ) (b : Bounds) (at base : ℕ) (table table' : List ℕ) (r : Field) : Type 0 where
-  pub answers : Answers (RowHeld bytes at (b .nonterminals) table' base) r (row-in bytes b at)
-  pub same : SameBelow base table table'
-  pub room : Room table' (base + 32)
+-- A row, entered likewise; v is its ε flag as a number.
+pub record RowEntered (bytes : List ℕ) (start n base : ℕ) (table table' : List ℕ) (v : ℕ) (row : Row) : Type 0 where
+  pub empty : eqb v 1 ≡ row .has-epsilon
+  pub entered : ProductionsEntered bytes start n base table table' (row .productions)

@@ -1,21 +1,17 @@
 -- What reading an image answers: the outcome is the definition's own answer to question 13, and the tables of a readable image
--- hold it. The parts of the definition that functions answer one after the other are named here.
+-- hold it. The reading of parts is not said here.
 use mathlib.Core.Path.{_≡_}
-use mathlib.Core.Bool.{Bool, false}
+use mathlib.Core.Bool.{false}
 use mathlib.Core.List.{List}
-use Prim.Native.Nat.{ℕ, _^_, _≤_, _<_}
-use lib.Dec.{ltb}
+use Prim.Native.Nat.{ℕ, _≤_, _<_}
 use lib.ListN.{length, drop}
 use Rattle.stage0_laws.specs.Lists.{All}
-use Rattle.stage1_sheet.specs.Limits.{most-classes, most-expression-nodes}
-use Rattle.stage1_sheet.specs.Field.{Reading, stop, got, and-then, between}
+use Rattle.stage1_sheet.specs.Field.{Reading, stop, got}
 use Rattle.stage4_lexer.specs.Positions.{Position}
 use Rattle.stage4_lexer.specs.PositionBounds.{NeverFalling}
 use Rattle.stage4_lexer_scanner.specs.Meaning.{Prepared}
 use Rattle.stage5_image.specs.Image.{Image}
-use Rattle.stage5_image.specs.ImageReading.{image-field, read-list, read-row, image-end}
-use Rattle.stage5_image_reader.specs.Answers.{positions-in}
-use Rattle.stage5_image_reader.specs.Tables.{held-flags, FlagsOf, RowsHeld}
+use Rattle.stage5_image_reader.specs.Tables.{FlagsOf, RowsHeld}
 use Rattle.stage5_image_reader.specs.declared.ImageRead.{ImageRead}
 use Rattle.stage5_image_reader.specs.declared.Outcome.the-variants.{Readable, Refused}
 
@@ -79,26 +75,3 @@ pub record ImageAnswers (bytes : List ℕ) (r : ImageRead) (tables productions :
   pub readable : r .outcome ≡ Readable
       → (i : Image) × (x ≡ got i (length bytes)) × Decoded bytes (tables-of r tables productions) i
   pub refusal : {place : ℕ} → r .outcome ≡ Refused place → (x ≡ stop 13 place) × (r ≡ refused-at place)
-
--- ---- the parts
-
--- What is known after the flags: so many rules, and the set of those that skip.
-pub record RulesRead (rules skips : ℕ) : Type 0 where
-  pub some : 1 ≤ rules
-  pub most : rules ≤ 32
-  pub flags : FlagsOf (λ b. b) false skips (held-flags skips rules)
-
--- From the nonterminal count on.
-unfoldable pub read-grammar : List ℕ → List Bool → List Position → ℕ → ℕ → Reading Image
-read-grammar bytes skips ps first at =
-    and-then (image-field (between 1 most-expression-nodes) bytes at)
-    (λ nonterminals at-rows. and-then (read-list (read-row bytes skips nonterminals) nonterminals at-rows)
-    (λ rows end. image-end bytes (record { skips = skips; positions = ps; first = first; rows = rows }) end))
-
--- From the position count on.
-unfoldable pub read-lexer : List ℕ → ℕ → List Bool → ℕ → Reading Image
-read-lexer bytes rules skips at =
-    and-then (image-field (between 1 most-classes) bytes at)
-    (λ count at-positions. and-then (positions-in bytes rules count at-positions)
-    (λ ps at-first. and-then (image-field (λ v. ltb v (2 ^ count)) bytes at-first)
-    (λ first at-nonterminals. read-grammar bytes skips ps first at-nonterminals)))

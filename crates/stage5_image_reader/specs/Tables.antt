@@ -1,11 +1,10 @@
 -- What the tables hold of an image. The tables are made once, before the text; the machine reads them and the image's bytes.
 -- How they are read from bytes is not said here.
 use mathlib.Core.Path.{_≡_}
-use mathlib.Core.Bool.{Bool, false}
+use mathlib.Core.Bool.{Bool}
 use mathlib.Core.List.{List, [], _∷_}
 use mathlib.Core.Option.{Option, none, some}
 use Prim.Native.Nat.{ℕ, zero, suc, _+_, _*_, _/_, _%_, _≤_, _<_}
-use lib.Dec.{eqb}
 use lib.ListN.{length, getD, take, drop}
 use Rattle.stage0_laws.specs.Bits.{bit}
 use Rattle.stage0_laws.specs.Lists.{All}
@@ -28,20 +27,15 @@ held-flags s n = listed (bit s) 0 n
 abbrev pub FlagsOf : {A : Type 0} → (A → Bool) → A → ℕ → List A → Type 0
 FlagsOf f d s l = (k : ℕ) → bit s k ≡ f (getD l k d)
 
--- So many flags as a set.
-pub record FlagsHeld (count s : ℕ) (l : List Bool) : Type 0 where
-  pub size : length l ≡ count
-  pub bits : FlagsOf (λ b. b) false s l
-  pub list : l ≡ held-flags s count
-
 -- ---- positions
 
--- So many positions in the tables, with the set of those that are last. The value that stands for them says nothing.
-pub record PositionsHeld (rules count last : ℕ) (tables : List ℕ) (v : ℕ) (ps : List Position) : Type 0 where
+-- So many positions in the tables, with the set of those that are last.
+pub record PositionsHeld (rules count last : ℕ) (tables : List ℕ) (ps : List Position) : Type 0 where
   pub size : length ps ≡ count
   pub held : Holding ps tables
   pub last-ones : FlagsOf (λ p. p .last) no-position last ps
   pub below : All (λ p. p .rule < rules) ps
+  pub ordered : All (λ p. p .low ≤ p .high) ps
 
 -- ---- productions
 
@@ -51,9 +45,10 @@ pub record Members (bytes : List ℕ) (at n : ℕ) (l : List ℕ) : Type 0 where
   pub there : take (length l) (drop at bytes) ≡ l
   pub below : All (λ m. m < n) l
 
--- So many of them. The value that stands for them says nothing.
-pub record MembersHeld (bytes : List ℕ) (at n size v : ℕ) (l : List ℕ) : Type 0 where
+-- So many of them, up to an end.
+pub record MembersHeld (bytes : List ℕ) (at n size end : ℕ) (l : List ℕ) : Type 0 where
   pub count : length l ≡ size
+  pub place : end ≡ at + size
   pub members : Members bytes at n l
 
 -- A tail in the image's bytes: its length, and then its members.
@@ -96,16 +91,7 @@ EntryIs bytes start n entry (some p) = EntryTail bytes start n entry (p .tail)
 abbrev pub EntriesOf : List ℕ → ℕ → ℕ → List ℕ → ℕ → List Production → Type 0
 EntriesOf bytes start n table base ps = (r : ℕ) → r < 32 → EntryIs bytes start n (getD table (base + r) 0) (production-of r ps)
 
--- The same, where a value that says nothing stands for them.
-pub record EntriesHeld (bytes : List ℕ) (start n : ℕ) (table : List ℕ) (base v : ℕ) (ps : List Production) : Type 0 where
-  pub entries : EntriesOf bytes start n table base ps
-
 -- ---- rows
-
--- A row in the table from a base on, which stands in the bytes from a start on; v is its ε flag as a number.
-pub record RowHeld (bytes : List ℕ) (start n : ℕ) (table : List ℕ) (base v : ℕ) (row : Row) : Type 0 where
-  pub empty : eqb v 1 ≡ row .has-epsilon
-  pub entries : EntriesOf bytes start n table base (row .productions)
 
 -- All rows in the table, and their starts; s is the set of those with ε.
 pub record RowsHeld (bytes : List ℕ) (n : ℕ) (starts table : List ℕ) (s : ℕ) (rows : List Row) : Type 0 where

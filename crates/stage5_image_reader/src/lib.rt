@@ -1,54 +1,52 @@
 // The image reader: an image's bytes are read once, before the text, into tables for the machine. Question 13 is answered here,
-// and no other: the text is not looked at.
+// and no other: the text is not looked at. A number is read only where none was refused before, so that the numbers of a part are read one
+// after the other, and whether all were taken is asked once, at the end of the part. Loops alone do not start after a refusal and stop at one.
 ghost use mathlib.Core.Path.{_≡_};
+ghost use mathlib.Core.Bool.{true, false, not, _&&_};
 ghost use mathlib.Core.List.{List, []};
 ghost use Prim.Native.Nat.{ℕ, _+_, _-_, _^_, _≤_, _<_};
 ghost use lib.Dec.{eqb, ltb};
 ghost use lib.ListN.{length, drop};
-ghost use Rattle.stage1_sheet.specs.Field.{between};
+ghost use Rattle.stage0_laws.specs.Bits.{bit};
+ghost use Rattle.stage1_sheet.specs.Field.{got, between};
 use stage4_lexer_tables::hold_position;
 use stage4_lexer_tables::sweep;
-ghost use Rattle.stage0_laws.specs.Lists.{All};
-ghost use Rattle.stage4_lexer.specs.Positions.{Position};
-ghost use Rattle.stage5_image_reader.specs.Decoded.{refused-at, ImageAnswers, RulesRead, LexerHeld, read-grammar, read-lexer};
+ghost use Rattle.stage5_image_reader.specs.Decoded.{refused-at, ImageAnswers};
 ghost use Rattle.stage4_lexer_tables.specs.Holding.{Holding};
 ghost use Rattle.stage5_image.specs.ImageReading.{image-field, read-flag, read-list, read-position, read-image};
-ghost use Rattle.stage5_image_reader.specs.Tables.{held-flags, FlagsHeld, PositionsHeld, MembersHeld, TailAt, EntryTail};
+ghost use Rattle.stage5_image_reader.specs.Tables.{held-flags, FlagsOf, PositionsHeld, MembersHeld, TailAt, EntryTail};
 ghost use Rattle.stage5_image_reader.specs.Tables.{RowsHeld, Room, SameBelow};
-ghost use Rattle.stage5_image_reader.specs.Answers.{field-reading, place-of, Answers, with-flag};
-ghost use Rattle.stage5_image_reader.specs.Answers.{position-reading, positions-in};
-ghost use Rattle.stage5_image_reader.specs.Answers.{InBounds, production-in, row-in, ProductionAnswers};
-ghost use Rattle.stage5_image_reader.specs.Answers.{ProductionsEntered, RowEntered};
+ghost use Rattle.stage5_image_reader.specs.Answers.{after, Answers, StepAnswers, with-flag, position-reading, positions-in};
+ghost use Rattle.stage5_image_reader.specs.Answers.{InBounds, production-in, productions-in, row-in};
+ghost use Rattle.stage5_image_reader.specs.Answers.{ProductionHeld, ProductionsEntered, RowEntered};
 
-// What a field gives: a value and the place after it, or the place of question 13.
-enum Field {
-    Value(u64, usize),
-    Refused(usize),
+// A number that was read and the place after it; or, from a refused number on, its place, which is that of question 13.
+struct Step {
+    value: u64,
+    at: usize,
+    ok: bool,
 }
 
-// A position that was read: its values and the place after it, or the place of question 13.
-enum PositionRead {
-    Position {
-        low: u8,
-        high: u8,
-        rule: u8,
-        last: u64,
-        follow: u64,
-        next: usize,
-    },
-    Refused(usize),
+// A position's values; its last number, the follow set, ends it.
+struct PositionRead {
+    low: u8,
+    high: u8,
+    rule: u8,
+    last: u64,
+    follow: Step,
 }
 
-// Where positions end, or the place of question 13, and the set of those that are last. The columns hold the rest.
+// Where positions end, and the set of those that are last. The columns hold the rest.
 struct PositionsRead {
-    end: Field,
+    end: Step,
     last: u64,
 }
 
-// A production that was read: its rule, the place of its tail's length and the place after it, or the place of question 13.
-enum ProductionRead {
-    Production { rule: u64, tail: usize, next: usize },
-    Refused(usize),
+// A production's rule, the place of its tail's length, and where it ends.
+struct ProductionRead {
+    rule: u64,
+    tail: usize,
+    end: Step,
 }
 
 // What bounds the values of productions: the number of rules, those that skip, and the number of nonterminals.
@@ -56,15 +54,6 @@ struct Bounds {
     rules: u64,
     skips: u64,
     nonterminals: u64,
-}
-
-// What stands in no column of an image's rules and positions: the number of rules, those that skip, the number of positions, and the last
-// and the first ones.
-struct Lexer {
-    rules: u64,
-    skips: u64,
-    last: u64,
-    first: u64,
 }
 
 pub enum Outcome {
@@ -85,34 +74,37 @@ pub struct ImageRead {
     pub empty: u64,
 }
 
-// The place that a refused field names.
-fn place_of(field: Field) -> usize
-    ensures { λ r. ⌜ r ≡ place-of field ⌝ }
+// A number in its fewest bytes and in a range, both ends included; nothing is read where a number was refused before.
+fn read_next(bytes: &[u8], from: Step, least: u64, most: u64) -> Step
+    ensures { λ r. ⌜ StepAnswers (now (bytes .entry)) from least most r ⌝ }
 {
-    match field {
-        Field::Value(_, next) => next,
-        Field::Refused(place) => place,
+    let at = from.at;
+    let refused = Step {
+        value: 0,
+        at,
+        ok: false,
+    };
+    if !from.ok {
+        return refused;
     }
-}
-
-// A number in its fewest bytes and in a range, both ends included.
-fn read_between(bytes: &[u8], at: usize, least: u64, most: u64) -> Field
-    ensures { λ r. ⌜ field-reading r ≡ image-field (between least most) (now (bytes .entry)) at ⌝ }
-{
     let number = stage0_number::read_number(bytes, at);
     let stage0_number::Number::Read(value, used, fewest) = number else {
-        return Field::Refused(at);
+        return refused;
     };
     if !fewest {
-        return Field::Refused(at);
+        return refused;
     }
     if value < least {
-        return Field::Refused(at);
+        return refused;
     }
     if most < value {
-        return Field::Refused(at);
+        return refused;
     }
-    Field::Value(value, at + used)
+    Step {
+        value,
+        at: at + used,
+        ok: true,
+    }
 }
 
 // A set with i added where a flag is 1.
@@ -137,158 +129,161 @@ fn largest_set(count: u64) -> u64
     (1u64 << count) - 1
 }
 
-// So many flags, as a set.
-fn read_flags(bytes: &[u8], at: usize, count: u64) -> Field
-    requires { ⌜ count ≤ 64 ⌝ }
-    ensures { λ r. ⌜ Answers (FlagsHeld count) r (read-list (read-flag (now (bytes .entry))) count at) ⌝ }
+// As many flags as `size` says, as a set.
+fn read_flags(bytes: &[u8], size: Step) -> Step
+    requires { ⌜ size .value ≤ 64 ⌝ }
+    ensures { λ r. ⌜ (after r (got (held-flags (r .value) (size .value))) ≡ after size (read-list (read-flag (now (bytes .entry))) (size .value)))
+        × (r .ok ≡ true → FlagsOf (λ b. b) false (r .value) (held-flags (r .value) (size .value))) ⌝ }
 {
+    if !size.ok {
+        return size;
+    }
+    let count = size.value;
     let mut set: u64 = 0;
-    let mut next = at;
+    let mut next = size;
     let mut i: u64 = 0;
     while i < count {
-        let flag = read_between(bytes, next, 0, 1);
-        let Field::Value(value, after) = flag else {
-            return Field::Refused(place_of(flag));
-        };
-        set = with_flag(set, i, value);
-        next = after;
+        next = read_next(bytes, next, 0, 1);
+        if !next.ok {
+            return next;
+        }
+        set = with_flag(set, i, next.value);
         i += 1;
     }
-    Field::Value(set, next)
+    Step {
+        value: set,
+        at: next.at,
+        ok: next.ok,
+    }
 }
 
-// So many nonterminals of a tail. A nonterminal is below 64 and so one byte: a tail of more than two members is later read from the image's
-// bytes.
-fn read_tail(bytes: &[u8], at: usize, size: u64, nonterminals: u64) -> Field
-    requires { ⌜ (1 ≤ nonterminals) × (nonterminals ≤ 64) × (at ≤ length (now bytes)) ⌝ }
+// As many nonterminals of a tail as `size` says. A nonterminal is below 64 and so one byte: a tail of more than two members is later read
+// from the image's bytes.
+fn read_tail(bytes: &[u8], size: Step, nonterminals: u64) -> Step
+    requires { ⌜ (1 ≤ nonterminals) × (nonterminals ≤ 64) × (size .ok ≡ true → size .at ≤ length (now bytes)) ⌝ }
     ensures { λ r. ⌜ Answers
-        (MembersHeld (now (bytes .entry)) at nonterminals size)
+        (MembersHeld (now (bytes .entry)) (size .at) nonterminals (size .value) (r .at))
         r
-        (read-list (image-field (λ v. ltb v nonterminals) (now (bytes .entry))) size at) ⌝ }
+        (after size (read-list (image-field (λ v. ltb v nonterminals) (now (bytes .entry))) (size .value))) ⌝ }
 {
-    let mut next = at;
+    if !size.ok {
+        return size;
+    }
+    let count = size.value;
+    let mut next = size;
     let mut i: u64 = 0;
-    while i < size {
-        let member = read_between(bytes, next, 0, nonterminals - 1);
-        let Field::Value(_, after) = member else {
-            return Field::Refused(place_of(member));
-        };
-        next = after;
+    while i < count {
+        next = read_next(bytes, next, 0, nonterminals - 1);
+        if !next.ok {
+            return next;
+        }
         i += 1;
     }
-    Field::Value(size, next)
+    next
 }
 
 // A position. Its rule is `least` or above.
-fn read_position(bytes: &[u8], at: usize, rules: u64, count: u64, least: u64) -> PositionRead
+fn read_position(bytes: &[u8], from: Step, rules: u64, count: u64, least: u64) -> PositionRead
     requires { ⌜ (1 ≤ rules) × (rules ≤ 32) × (count ≤ 64) ⌝ }
-    ensures { λ r. ⌜ position-reading r ≡ read-position (now (bytes .entry)) rules count least at ⌝ }
+    ensures { λ r. ⌜ (position-reading r ≡ after from (read-position (now (bytes .entry)) rules count least))
+        × (r .rule < rules) × (r .follow .ok ≡ true → r .low ≤ r .high) ⌝ }
 {
-    let low = read_between(bytes, at, 0, 255);
-    let Field::Value(low_byte, at_high) = low else {
-        return PositionRead::Refused(place_of(low));
-    };
-    let high = read_between(bytes, at_high, low_byte, 255);
-    let Field::Value(high_byte, at_rule) = high else {
-        return PositionRead::Refused(place_of(high));
-    };
-    let rule = read_between(bytes, at_rule, least, rules - 1);
-    let Field::Value(rule_number, at_last) = rule else {
-        return PositionRead::Refused(place_of(rule));
-    };
-    let last = read_between(bytes, at_last, 0, 1);
-    let Field::Value(last_flag, at_follow) = last else {
-        return PositionRead::Refused(place_of(last));
-    };
-    let follow = read_between(bytes, at_follow, 0, largest_set(count));
-    let Field::Value(follow_set, next) = follow else {
-        return PositionRead::Refused(place_of(follow));
-    };
-    PositionRead::Position {
-        low: low_byte as u8,
-        high: high_byte as u8,
-        rule: rule_number as u8,
-        last: last_flag,
-        follow: follow_set,
-        next,
+    let low = read_next(bytes, from, 0, 255);
+    let high = read_next(bytes, low, low.value, 255);
+    let rule = read_next(bytes, high, least, rules - 1);
+    let last = read_next(bytes, rule, 0, 1);
+    let follow = read_next(bytes, last, 0, largest_set(count));
+    PositionRead {
+        low: low.value as u8,
+        high: high.value as u8,
+        rule: rule.value as u8,
+        last: last.value,
+        follow,
     }
 }
 
-// So many positions, into the tables.
-fn read_positions(bytes: &[u8], at: usize, rules: u64, count: u64, tables: &mut [u64; 448]) -> PositionsRead
-    requires { ⌜ (1 ≤ rules) × (rules ≤ 32) × (count ≤ 64) × (length (now tables) ≡ 448) × Holding [] (now tables) ⌝ }
+// As many positions as `size` says, into the tables.
+fn read_positions(bytes: &[u8], size: Step, rules: u64, tables: &mut [u64; 448]) -> PositionsRead
+    requires { ⌜ (0 < size .value → 1 ≤ rules) × (rules ≤ 32) × (size .value ≤ 64)
+        × (length (now tables) ≡ 448) × Holding [] (now tables) ⌝ }
     ensures { λ r. ⌜ (length (now (tables .exit)) ≡ 448) × Answers
-        (PositionsHeld rules count (r .last) (now (tables .exit)))
+        (PositionsHeld rules (size .value) (r .last) (now (tables .exit)))
         (r .end)
-        (positions-in (now (bytes .entry)) rules count at) ⌝ }
+        (after size (positions-in (now (bytes .entry)) rules (size .value))) ⌝ }
 {
+    if !size.ok {
+        return PositionsRead { end: size, last: 0 };
+    }
+    let count = size.value;
     let mut last_ones: u64 = 0;
-    let mut next = at;
+    let mut next = size;
     let mut least: u64 = 0;
     let mut i: u64 = 0;
     while i < count {
         let position = read_position(bytes, next, rules, count, least);
-        match position {
-            PositionRead::Refused(place) => {
-                return PositionsRead {
-                    end: Field::Refused(place),
-                    last: last_ones,
-                };
-            }
-            PositionRead::Position {
-                low: low_byte,
-                high: high_byte,
-                rule: rule_number,
-                last,
-                follow: follow_set,
-                next: after,
-            } => {
-                let n = i as usize;
-                let one = 1u64 << i;
-                hold_position(low_byte, high_byte, rule_number, follow_set, n, one, tables);
-                last_ones = with_flag(last_ones, i, last);
-                least = rule_number as u64;
-                next = after;
-                i += 1;
-            }
+        next = position.follow;
+        if !next.ok {
+            return PositionsRead {
+                end: next,
+                last: last_ones,
+            };
         }
+        let n = i as usize;
+        let one = 1u64 << i;
+        hold_position(
+            position.low,
+            position.high,
+            position.rule,
+            next.value,
+            n,
+            one,
+            tables,
+        );
+        last_ones = with_flag(last_ones, i, position.last);
+        least = position.rule as u64;
+        i += 1;
     }
     PositionsRead {
-        end: Field::Value(count, next),
+        end: next,
         last: last_ones,
     }
 }
 
-// A production. Its rule is `least` or above and does not skip.
-fn read_production(bytes: &[u8], at: usize, bounds: Bounds, least: u64) -> ProductionRead
+// A production's rule: `least` or above, and not skipping.
+fn read_rule(bytes: &[u8], from: Step, bounds: Bounds, least: u64) -> Step
     requires { ⌜ InBounds bounds ⌝ }
-    ensures { λ r. ⌜ ProductionAnswers
-        (now (bytes .entry))
-        (bounds .nonterminals)
-        least
-        at
-        r
-        (production-in (now (bytes .entry)) bounds least at) ⌝ }
+    ensures { λ r. ⌜ (r .value < 32) × (after r (got (r .value))
+        ≡ after from (image-field (λ v. between least (bounds .rules - 1) v && not (bit (bounds .skips) v)) (now (bytes .entry)))) ⌝ }
 {
-    let rule = read_between(bytes, at, least, bounds.rules - 1);
-    let Field::Value(rule_number, at_length) = rule else {
-        return ProductionRead::Refused(place_of(rule));
-    };
-    if bounds.skips & (1u64 << rule_number) != 0 {
-        return ProductionRead::Refused(at);
+    let rule = read_next(bytes, from, least, bounds.rules - 1);
+    if !rule.ok {
+        return rule;
     }
-    let size = read_between(bytes, at_length, 0, stage3_normal_form::MOST_TAIL);
-    let Field::Value(length, at_tail) = size else {
-        return ProductionRead::Refused(place_of(size));
-    };
-    let tail = read_tail(bytes, at_tail, length, bounds.nonterminals);
-    let Field::Value(_, next) = tail else {
-        return ProductionRead::Refused(place_of(tail));
-    };
-    ProductionRead::Production {
-        rule: rule_number,
-        tail: at_length,
-        next,
+    if bounds.skips & (1u64 << rule.value) != 0 {
+        return Step {
+            value: 0,
+            at: from.at,
+            ok: false,
+        };
+    }
+    rule
+}
+
+// A production.
+fn read_production(bytes: &[u8], from: Step, bounds: Bounds, least: u64) -> ProductionRead
+    requires { ⌜ InBounds bounds ⌝ }
+    ensures { λ r. ⌜ Answers
+        (ProductionHeld (now (bytes .entry)) (bounds .nonterminals) least (from .at) r)
+        (r .end)
+        (after from (production-in (now (bytes .entry)) bounds least)) ⌝ }
+{
+    let rule = read_rule(bytes, from, bounds, least);
+    let size = read_next(bytes, rule, 0, stage3_normal_form::MOST_TAIL);
+    let end = read_tail(bytes, size, bounds.nonterminals);
+    ProductionRead {
+        rule: rule.value,
+        tail: rule.at,
+        end,
     }
 }
 
@@ -316,95 +311,95 @@ fn tail_entry(bytes: &[u8], start: usize, place: usize) -> u16
     32768 + second * 64 + first
 }
 
-// So many productions of one nonterminal, whose row starts at `start` and whose entries start at `base`.
+// As many productions of one nonterminal as `size` says, whose row starts at `start` and whose entries start at `base`.
 fn read_productions(
     bytes: &[u8],
     start: usize,
-    at: usize,
+    size: Step,
     bounds: Bounds,
-    count: u64,
     base: usize,
     table: &mut [u16; 2048],
-) -> Field
-    requires { ⌜ InBounds bounds × (at ≡ start + 2) × (count ≤ 32) × (base + 32 ≤ 2048) × Room (now table) base ⌝ }
-    ensures { λ r. ⌜ ProductionsEntered
-        (now (bytes .entry)) bounds count start at base (now (table .entry)) (now (table .exit)) r ⌝ }
+) -> Step
+    requires { ⌜ InBounds bounds × (size .ok ≡ true → size .at ≡ start + 2) × (size .value ≤ 32)
+        × (base + 32 ≤ 2048) × Room (now table) base ⌝ }
+    ensures { λ r. ⌜ Answers
+        (ProductionsEntered (now (bytes .entry)) start (bounds .nonterminals) base (now (table .entry)) (now (table .exit)))
+        r
+        (after size (productions-in (now (bytes .entry)) bounds (size .value))) ⌝ }
 {
-    let mut next = at;
+    let count = size.value;
+    let mut next = size;
     let mut least: u64 = 0;
     let mut i: u64 = 0;
     while i < count {
         let production = read_production(bytes, next, bounds, least);
-        match production {
-            ProductionRead::Refused(place) => return Field::Refused(place),
-            ProductionRead::Production {
-                rule,
-                tail,
-                next: after,
-            } => {
-                let entry = tail_entry(bytes, start, tail);
-                table[base + rule as usize] = entry;
-                least = rule + 1;
-                next = after;
-                i += 1;
-            }
+        next = production.end;
+        if !next.ok {
+            return next;
         }
+        let rule = production.rule;
+        let entry = tail_entry(bytes, start, production.tail);
+        table[base + rule as usize] = entry;
+        least = rule + 1;
+        i += 1;
     }
-    Field::Value(count, next)
+    next
 }
 
 // The row of one nonterminal, whose entries start at `base`: its ε flag is the value.
-fn read_row(bytes: &[u8], at: usize, bounds: Bounds, base: usize, table: &mut [u16; 2048]) -> Field
+fn read_row(bytes: &[u8], from: Step, bounds: Bounds, base: usize, table: &mut [u16; 2048]) -> Step
     requires { ⌜ InBounds bounds × (base + 32 ≤ 2048) × Room (now table) base ⌝ }
-    ensures { λ r. ⌜ RowEntered (now (bytes .entry)) bounds at base (now (table .entry)) (now (table .exit)) r ⌝ }
+    ensures { λ r. ⌜ Answers
+        (RowEntered (now (bytes .entry)) (from .at) (bounds .nonterminals) base (now (table .entry)) (now (table .exit)) (r .value))
+        r
+        (after from (row-in (now (bytes .entry)) bounds)) ⌝ }
 {
-    let empty = read_between(bytes, at, 0, 1);
-    let Field::Value(flag, at_count) = empty else {
-        return Field::Refused(place_of(empty));
-    };
-    let count = read_between(bytes, at_count, 0, 32);
-    let Field::Value(size, at_first) = count else {
-        return Field::Refused(place_of(count));
-    };
-    let productions = read_productions(bytes, at, at_first, bounds, size, base, table);
-    let Field::Value(_, next) = productions else {
-        return Field::Refused(place_of(productions));
-    };
-    Field::Value(flag, next)
+    let empty = read_next(bytes, from, 0, 1);
+    let count = read_next(bytes, empty, 0, 32);
+    let end = read_productions(bytes, from.at, count, bounds, base, table);
+    Step {
+        value: empty.value,
+        at: end.at,
+        ok: end.ok,
+    }
 }
 
 // The rows of all nonterminals, and where each starts: the set of those with ε is the value.
 fn read_rows(
     bytes: &[u8],
-    at: usize,
+    from: Step,
     bounds: Bounds,
     tables: &mut [u64; 448],
     table: &mut [u16; 2048],
-) -> Field
-    requires { ⌜ InBounds bounds × (length (now tables) ≡ 448) × Room (now table) 0 ⌝ }
-    ensures { λ r. ⌜ SameBelow 384 (now (tables .entry)) (now (tables .exit)) × Answers
-        (RowsHeld (now (bytes .entry)) (bounds .nonterminals) (drop 384 (now (tables .exit))) (now (table .exit)))
+) -> Step
+    requires { ⌜ (0 < bounds .nonterminals → InBounds bounds) × (bounds .nonterminals ≤ 64)
+        × (length (now tables) ≡ 448) × Room (now table) 0 ⌝ }
+    ensures { λ r. ⌜ (length (now (tables .exit)) ≡ 448) × SameBelow 384 (now (tables .entry)) (now (tables .exit)) × Answers
+        (RowsHeld (now (bytes .entry)) (bounds .nonterminals) (drop 384 (now (tables .exit))) (now (table .exit)) (r .value))
         r
-        (read-list (row-in (now (bytes .entry)) bounds) (bounds .nonterminals) at) ⌝ }
+        (after from (read-list (row-in (now (bytes .entry)) bounds) (bounds .nonterminals))) ⌝ }
 {
     let count = bounds.nonterminals;
     let mut empty: u64 = 0;
-    let mut next = at;
+    let mut next = from;
     let mut base: usize = 0;
     let mut i: u64 = 0;
     while i < count {
         let n = i as usize;
-        tables[384 + n] = next as u64;
-        let row = read_row(bytes, next, bounds, base, table);
-        let Field::Value(flag, after) = row else {
-            return Field::Refused(place_of(row));
-        };
-        empty = with_flag(empty, i, flag);
-        next = after;
+        tables[384 + n] = next.at as u64;
+        next = read_row(bytes, next, bounds, base, table);
+        if !next.ok {
+            return next;
+        }
+        empty = with_flag(empty, i, next.value);
         base += 32;
         i += 1;
     }
-    Field::Value(empty, next)
+    Step {
+        value: empty,
+        at: next.at,
+        ok: next.ok,
+    }
 }
 
 // The answer of question 13 at a place.
@@ -422,114 +417,47 @@ fn refused(place: usize) -> ImageRead
     }
 }
 
-// The image from its nonterminal count on.
-fn read_grammar(
-    bytes: &[u8],
-    at: usize,
-    lexer: Lexer,
-    tables: &mut [u64; 448],
-    productions: &mut [u16; 2048],
-) -> ImageRead
-    requires { ⌜ RulesRead (lexer .rules) (lexer .skips) × (length (now tables) ≡ 448) × Room (now productions) 0 ⌝ }
-    ensures { λ r. ⌜ ((ps : List Position) → LexerHeld ps (lexer .last) (now (tables .entry)) → All (λ p. p .rule < lexer .rules) ps
-        → ImageAnswers (now (bytes .entry)) r (now (tables .exit)) (now (productions .exit))
-        (read-grammar (now (bytes .entry)) (held-flags (lexer .skips) (lexer .rules)) ps (lexer .first) at)) ⌝ }
-{
-    let count = read_between(bytes, at, 1, 64);
-    let Field::Value(nonterminals, at_rows) = count else {
-        return refused(place_of(count));
-    };
-    let bounds = Bounds {
-        rules: lexer.rules,
-        skips: lexer.skips,
-        nonterminals,
-    };
-    let rows = read_rows(bytes, at_rows, bounds, tables, productions);
-    let Field::Value(empty, end) = rows else {
-        return refused(place_of(rows));
-    };
-    if end != bytes.len() {
-        return refused(end);
-    }
-    ImageRead {
-        outcome: Outcome::Readable,
-        rules: lexer.rules as usize,
-        skips: lexer.skips,
-        last: lexer.last,
-        first: lexer.first,
-        nonterminals: nonterminals as usize,
-        empty,
-    }
-}
-
-// The image from its position count on.
-fn read_lexer(
-    bytes: &[u8],
-    at: usize,
-    rules: u64,
-    skips: u64,
-    tables: &mut [u64; 448],
-    productions: &mut [u16; 2048],
-) -> ImageRead
-    requires { ⌜ RulesRead rules skips
-        × (length (now tables) ≡ 448) × Holding [] (now tables) × Room (now productions) 0 ⌝ }
-    ensures { λ r. ⌜ ImageAnswers (now (bytes .entry)) r
-        (now (tables .exit)) (now (productions .exit))
-        (read-lexer (now (bytes .entry)) rules (held-flags skips rules) at) ⌝ }
-{
-    let size = read_between(bytes, at, 1, 64);
-    let Field::Value(count, at_positions) = size else {
-        return refused(place_of(size));
-    };
-    let positions = read_positions(bytes, at_positions, rules, count, tables);
-    let end = positions.end;
-    let Field::Value(_, at_first) = end else {
-        return refused(place_of(end));
-    };
-    sweep(tables);
-    let first = read_between(bytes, at_first, 0, largest_set(count));
-    let Field::Value(first_set, at_nonterminals) = first else {
-        return refused(place_of(first));
-    };
-    let lexer = Lexer {
-        rules,
-        skips,
-        last: positions.last,
-        first: first_set,
-    };
-    read_grammar(bytes, at_nonterminals, lexer, tables, productions)
-}
-
 // Reads an image: question 13, and the tables for the machine, into arrays that the caller has: the columns of its positions, the start of
 // each row, and the table of productions, which is all zero before.
-pub fn read_image(
-    bytes: &[u8],
-    tables: &mut [u64; 448],
-    productions: &mut [u16; 2048],
-) -> ImageRead
+pub fn read_image(bytes: &[u8], tables: &mut [u64; 448], productions: &mut [u16; 2048]) -> ImageRead
     requires { ⌜ (length (now tables) ≡ 448) × Holding [] (now tables) × Room (now productions) 0 ⌝ }
     ensures { λ r. ⌜ ImageAnswers (now (bytes .entry)) r
         (now (tables .exit)) (now (productions .exit))
         (read-image (now (bytes .entry))) ⌝ }
 {
-    let version = read_between(bytes, 0, 1, 1);
-    let Field::Value(_, at_rules) = version else {
-        return refused(place_of(version));
+    let start = Step {
+        value: 0,
+        at: 0,
+        ok: true,
     };
-    let size = read_between(bytes, at_rules, 1, 32);
-    let Field::Value(rules, at_skips) = size else {
-        return refused(place_of(size));
+    let version = read_next(bytes, start, 1, 1);
+    let rules = read_next(bytes, version, 1, 32);
+    let skips = read_flags(bytes, rules);
+    let count = read_next(bytes, skips, 1, 64);
+    let positions = read_positions(bytes, count, rules.value, tables);
+    let end = positions.end;
+    let first = read_next(bytes, end, 0, largest_set(count.value));
+    let nonterminals = read_next(bytes, first, 1, 64);
+    let bounds = Bounds {
+        rules: rules.value,
+        skips: skips.value,
+        nonterminals: nonterminals.value,
     };
-    let flags = read_flags(bytes, at_skips, rules);
-    let Field::Value(skips, at_count) = flags else {
-        return refused(place_of(flags));
-    };
-    read_lexer(
-        bytes,
-        at_count,
-        rules,
-        skips,
-        tables,
-        productions,
-    )
+    let rows = read_rows(bytes, nonterminals, bounds, tables, productions);
+    if !rows.ok {
+        return refused(rows.at);
+    }
+    if rows.at != bytes.len() {
+        return refused(rows.at);
+    }
+    sweep(tables);
+    ImageRead {
+        outcome: Outcome::Readable,
+        rules: rules.value as usize,
+        skips: skips.value,
+        last: positions.last,
+        first: first.value,
+        nonterminals: nonterminals.value as usize,
+        empty: rows.value,
+    }
 }

@@ -1,140 +1,163 @@
--- `read_image` meets its contract: one law of `Whole` for each answer.
+-- `read_image` meets its contract: its steps are the image's reading, and where all were taken, so was each before.
 use borrow.Author.Needs.{needs}
-use native.Mathlib.Omega.{arith}
-use Rattle.stage5_image_reader.proofs.Fields.{value-reads, refusal-reads, refusal-answers, field-range}
-use Rattle.stage5_image_reader.proofs.Whole.{image-refused, image-same, version-stops, rules-stop}
-use Rattle.stage5_image_reader.proofs.Whole.{skips-stop, image-reads, flags-whole}
+use borrow.Author.Tests.{not-true, not-false}
+use mathlib.Core.Path.{_≡_, refl, sym}
+use mathlib.Core.Bool.{true}
+use Prim.Native.Nat.{_≤_}
+use denote.Ref.{now}
+use Rattle.stage5_image.specs.ImageReading.{image-end, read-image}
+use Rattle.stage5_image_reader.specs.Answers.{after}
+use Rattle.stage5_image_reader.specs.Tables.{held-flags}
+use Rattle.stage5_image_reader.proofs.Flags.{length-listed}
+use Rattle.stage5_image_reader.proofs.Positions.{positions-swept}
+use Rattle.stage5_image_reader.proofs.Steps.{number-before, number-least, some-taken, taken-before}
+use Rattle.stage5_image_reader.proofs.Whole.{image-readable, image-refused, image-steps, image-stops, left-over, image-reads, rows-swept}
 use Rattle.stage5_image_reader.proofs.read_image.Statement.{statement}
 use Rattle.stage5_image_reader.proofs.read_image.Tie as tie
 
-read-between-requires : tie.Need-read-between-requires
-read-between-requires c κs = search needs
+read-next-requires : tie.Need-read-next-requires
+read-next-requires c κs = search needs
 
-enum-known-version : tie.Need-enum-known-version
-enum-known-version c = search needs
+read-next-requires-2 : tie.Need-read-next-requires-2
+read-next-requires-2 c κs = search needs
 
-enum-told : tie.Need-enum-told
-enum-told c = search needs
+read-flags-requires : tie.Need-read-flags-requires
+read-flags-requires c κs = search needs
 
-place-of-requires : tie.Need-place-of-requires
-place-of-requires c κs = search needs
+read-next-requires-3 : tie.Need-read-next-requires-3
+read-next-requires-3 c κs = search needs
+
+-- Where the flags were taken, there is a rule.
+some-rules : (c : tie.After-read-flags) → c .read-flags .result .ok ≡ true → 1 ≤ c .before .read-next2 .result .value
+some-rules c h = number-least (c .before .read-next2 .ensures) (taken-before _ _ _ _ (c .read-flags .ensures .0) h)
+
+read-positions-requires : tie.Need-read-positions-requires
+read-positions-requires c κs =
+    let count = c .before .read-next3 .ensures in
+    let flags = c .before .before in
+    let p = flags .before .before .before .before .pre in
+    (λ h. some-rules flags (number-before count (some-taken count h)), flags .before .read-next2 .ensures .at-most, count .at-most, p .0, p .1)
+
+largest-set-requires : tie.Need-largest-set-requires
+largest-set-requires c κs = search needs
+
+read-next-requires-4 : tie.Need-read-next-requires-4
+read-next-requires-4 c κs = search needs
+
+read-next-requires-5 : tie.Need-read-next-requires-5
+read-next-requires-5 c κs = search needs
+
+-- Where the number of nonterminals was taken, so were the positions and the flags.
+positions-taken : (c : tie.After-read-next5) → c .read-next5 .result .ok ≡ true
+    → c .before .before .before .before .read-positions .result .end .ok ≡ true
+positions-taken c h = number-before (c .before .read-next4 .ensures) (number-before (c .read-next5 .ensures) h)
+
+flags-taken : (c : tie.After-read-next5) → c .read-next5 .result .ok ≡ true
+    → c .before .before .before .before .before .before .before .read-flags .result .ok ≡ true
+flags-taken c h =
+    let positions = c .before .before .before .before in
+    number-before (positions .before .before .read-next3 .ensures)
+    (taken-before _ _ _ _ (positions .read-positions .ensures .1 .reads) (positions-taken c h))
+
+read-rows-requires : tie.Need-read-rows-requires
+read-rows-requires c κs =
+    let n = c .before .before in
+    let e = n .read-next5 .ensures in
+    let positions = n .before .before .before .before in
+    let flags = positions .before .before .before in
+    let p = flags .before .before .before .before .pre in (
+      λ h. record {
+        rules = some-rules flags (flags-taken n (some-taken e h));
+        most-rules = flags .before .read-next2 .ensures .at-most;
+        nonterminals = h;
+        most-nonterminals = e .at-most;
+      },
+      e .at-most,
+      positions .read-positions .ensures .0,
+      p .2,
+    )
+
+-- The steps up to the end of the rows are the reading up to there.
+steps : (c : tie.After-read-rows)
+    → let n = c .before .before .before in
+    let positions = n .before .before .before .before in
+    let flags = positions .before .before .before in
+    let bytes = now (flags .before .before .before .before .args .bytes) in
+    read-image bytes
+    ≡ after (c .read-rows .result) (image-end bytes (record {
+      skips = held-flags (flags .read-flags .result .value) (flags .before .read-next2 .result .value);
+      positions = positions .read-positions .ensures .1 .what;
+      first = n .before .read-next4 .result .value;
+      rows = c .read-rows .ensures .2 .what;
+    }))
+steps c =
+    let n = c .before .before .before in
+    let positions = n .before .before .before .before in
+    let count = positions .before .before in
+    let flags = count .before in
+    let rules = flags .before in
+    image-steps _ _ _ _ _ _ _ _ _ _ _ _ (n .before .before .largest-set .ensures) (rules .before .read-next .ensures) (rules .read-next2 .ensures)
+    (flags .read-flags .ensures .0) (count .read-next3 .ensures) (positions .read-positions .ensures .1 .reads) (n .before .read-next4 .ensures)
+    (n .read-next5 .ensures) (c .read-rows .ensures .2 .reads)
 
 refused-requires : tie.Need-refused-requires
 refused-requires c κs = search needs
 
 returns : tie.Need-returns
 returns c =
-    let placed = c .before in
-    let version-known = placed .before in
-    let version-read = version-known .before .before in
-    let stops = refusal-reads (version-known .enum-told .given .1) (placed .place-of .ensures) (version-read .read-between .ensures) in
-    image-refused (c .refused .ensures) (version-stops _ stops)
-
-read-between-requires-2 : tie.Need-read-between-requires-2
-read-between-requires-2 c κs = search needs
-
-enum-known-size : tie.Need-enum-known-size
-enum-known-size c = search needs
-
-enum-told-2 : tie.Need-enum-told-2
-enum-told-2 c = search needs
-
-place-of-requires-2 : tie.Need-place-of-requires-2
-place-of-requires-2 c κs = search needs
+    let rows = c .before .before .before in
+    image-refused (c .refused .ensures) (image-stops _ _ _ (steps rows) (not-true _ (c .before .if1 .taken)))
 
 refused-requires-2 : tie.Need-refused-requires-2
 refused-requires-2 c κs = search needs
 
 returns-2 : tie.Need-returns-2
 returns-2 c =
-    let placed = c .before in
-    let size-known = placed .before in
-    let size-read = size-known .before .before in
-    let version-known = size-read .before .before in
-    let version-read = version-known .before .before in
-    let e = value-reads (version-known .version .given .1) (version-read .read-between .ensures) in
-    let stops = refusal-reads (size-known .enum-told2 .given .1) (placed .place-of2 .ensures) (size-read .read-between2 .ensures) in
-    image-refused (c .refused2 .ensures) (rules-stop _ e stops)
+    let rows = c .before .before .before .before .before in
+    image-refused (c .refused2 .ensures) (left-over _ _ _ (steps rows) (not-false _ (c .before .before .before .if1 .left)) (c .before .if2 .taken))
 
-read-flags-requires : tie.Need-read-flags-requires
-read-flags-requires c κs =
-    let size-known = c .before in
-    let size-read = size-known .before .before in
-    let e₂ = value-reads (size-known .size .given .1) (size-read .read-between2 .ensures) in
-    omega (arith, field-range 1 32 _ _ e₂ .1)
-
-enum-known-flags : tie.Need-enum-known-flags
-enum-known-flags c = search needs
-
-enum-told-3 : tie.Need-enum-told-3
-enum-told-3 c = search needs
-
-place-of-requires-3 : tie.Need-place-of-requires-3
-place-of-requires-3 c κs = search needs
-
-refused-requires-3 : tie.Need-refused-requires-3
-refused-requires-3 c κs = search needs
+sweep-requires : tie.Need-sweep-requires
+sweep-requires c κs = search needs
 
 returns-3 : tie.Need-returns-3
 returns-3 c =
-    let placed = c .before in
-    let flags-known = placed .before in
-    let flags-read = flags-known .before .before in
-    let size-known = flags-read .before .before in
-    let size-read = size-known .before .before in
-    let version-known = size-read .before .before in
-    let version-read = version-known .before .before in
-    let e = value-reads (version-known .version .given .1) (version-read .read-between .ensures) in
-    let e₂ = value-reads (size-known .size .given .1) (size-read .read-between2 .ensures) in
-    let stops = refusal-answers (flags-read .read-flags .ensures) (flags-known .enum-told3 .given .1) (placed .place-of3 .ensures) in
-    image-refused (c .refused3 .ensures) (skips-stop _ e e₂ stops)
-
-read-lexer-requires : tie.Need-read-lexer-requires
-read-lexer-requires c κs =
-    let flags-known = c .before .before .before in
-    let flags-read = flags-known .before .before in
-    let size-known = flags-read .before .before in
-    let size-read = size-known .before .before in
-    let e₂ = value-reads (size-known .size .given .1) (size-read .read-between2 .ensures) in
-    let t = flags-read .read-flags .ensures .value (flags-known .flags .given .1) in
-    let r = field-range 1 32 _ _ e₂ in
-    let p = size-read .before .before .before .before .before .before .pre in
-    (record { some = r .0; most = r .1; flags = flags-whole (t .2) }, p .0, p .1, p .2)
-
-returns-4 : tie.Need-returns-4
-returns-4 c =
-    let flags-known = c .before .before .before .before in
-    let flags-read = flags-known .before .before in
-    let size-known = flags-read .before .before in
-    let size-read = size-known .before .before in
-    let version-known = size-read .before .before in
-    let version-read = version-known .before .before in
-    let e = value-reads (version-known .version .given .1) (version-read .read-between .ensures) in
-    let e₂ = value-reads (size-known .size .given .1) (size-read .read-between2 .ensures) in
-    let t = flags-read .read-flags .ensures .value (flags-known .flags .given .1) in
-    image-same (image-reads _ e e₂ (t .1) (t .2)) (c .read-lexer .ensures)
+    let rows = c .before .before .before .before .before .before in
+    let n = rows .before .before .before in
+    let positions = n .before .before .before .before in
+    let count = positions .before .before .read-next3 in
+    let flags = positions .before .before .before in
+    let r = rows .read-rows .ensures in
+    let h = not-false _ (c .before .before .before .before .if1 .left) in
+    let k = taken-before _ _ _ _ (r .2 .reads) h in
+    let held = positions .read-positions .ensures .1 .holds (positions-taken n k) in
+    image-readable refl _ (image-reads _ _ _ (steps rows) h (c .before .before .if2 .left)) (record {
+      rules = sym (length-listed _ 0 (flags .before .read-next2 .result .value));
+      most-rules = flags .before .read-next2 .ensures .at-most;
+      skips = flags .read-flags .ensures .1 (flags-taken n k);
+      positions = positions-swept _ _ _ _ _ _ _ held (count .ensures .at-most) (r .1) (c .sweep .ensures);
+      positions-below = held .below;
+      first = refl;
+      some-nonterminals = number-least (n .read-next5 .ensures) k;
+      most-nonterminals = n .read-next5 .ensures .at-most;
+      rows = rows-swept _ _ _ _ _ _ _ (c .sweep .ensures) (r .2 .holds h);
+    })
 
 pub read-image-spec : {M : Type 1} → statement M
 read-image-spec =
     tie.close
     (tie.spec
-    read-between-requires
-    enum-known-version
-    enum-told
-    place-of-requires
+    read-next-requires
+    read-next-requires-2
+    read-flags-requires
+    read-next-requires-3
+    read-positions-requires
+    largest-set-requires
+    read-next-requires-4
+    read-next-requires-5
+    read-rows-requires
     refused-requires
     returns
-    read-between-requires-2
-    enum-known-size
-    enum-told-2
-    place-of-requires-2
     refused-requires-2
     returns-2
-    read-flags-requires
-    enum-known-flags
-    enum-told-3
-    place-of-requires-3
-    refused-requires-3
-    returns-3
-    read-lexer-requires
-    returns-4)
+    sweep-requires
+    returns-3)

@@ -1,5 +1,6 @@
 -- `read_rows` meets its contract. The loop's invariant: the rows so far were read, and the table has their entries.
 use borrow.Author.Needs.{needs}
+use borrow.Author.Tests.{not-true, not-false}
 use native.Mathlib.Omega.{arith}
 use mathlib.Core.Path.{_≡_, refl, _∙_}
 use mathlib.Core.List.{List, []}
@@ -10,23 +11,22 @@ use lib.Seq.{getD-set-other, drop-set-add}
 use Rattle.stage3_normal_form.specs.Productions.{Row}
 use Rattle.stage5_image_reader.specs.Answers.{row-in}
 use Rattle.stage5_image_reader.specs.Tables.{SameBelow}
-use Rattle.stage5_image_reader.proofs.Fields.{answers-value, answers-refusal, refusal-answers}
 use Rattle.stage5_image_reader.proofs.Rows.{Filling, filling-none, filling-more, filling-end}
-use Rattle.stage5_image_reader.proofs.Turns.{Listing, listing-start, listing-more, listing-stop, listing-end}
+use Rattle.stage5_image_reader.proofs.Turns.{Listing, listing-start, turns-more, turns-refused, turns-end, answers-value}
 use Rattle.stage5_image_reader.proofs.read_rows.Statement.{statement}
 use Rattle.stage5_image_reader.proofs.read_rows.Tie as tie
 
 abbrev Inv-loop : tie.InvT-loop
-Inv-loop bytes at bounds tables₀ table₀ count empty₀ next₀ base₀ i₀ tables table empty next base i =
+Inv-loop bytes bounds tables₀ table₀ count empty₀ next₀ base₀ i₀ tables table empty next base i =
     (i ≤ count)
     × (count ≡ bounds .nonterminals)
     × ((length tables ≡ 448) × SameBelow 384 tables₀ tables)
     × ((rows : List Row)
-    × Listing (row-in bytes bounds) (bounds .nonterminals) at i next rows
+    × Listing (row-in bytes bounds) next₀ (bounds .nonterminals) i next rows
     × Filling bytes (bounds .nonterminals) (drop 384 tables) table empty base i rows)
 
 abbrev μ-loop : tie.MeasureT-loop
-μ-loop bytes at bounds tables₀ table₀ count empty₀ next₀ base₀ i₀ tables table empty next base i = count - i
+μ-loop bytes bounds tables₀ table₀ count empty₀ next₀ base₀ i₀ tables table empty next base i = count - i
 
 -- A start is stored past the lexer's words.
 stored : (first t : List ℕ) (i v : ℕ) → (length t ≡ 448) × SameBelow 384 first t
@@ -35,54 +35,46 @@ stored first t i v h = (length-set t (384 + i) v ∙ h .0, λ k l. getD-set-othe
 
 loop-holds : tie.Need-loop-holds Inv-loop μ-loop
 loop-holds c =
-    let start = c .before in
-    (search needs, refl, (start .pre .1, λ k h. refl), ([], listing-start _ _ _, filling-none _ _ _ _ (start .pre .2)))
+    let p = c .before .pre in
+    (search needs, refl, (p .2, λ k h. refl), ([], listing-start _ _ _, filling-none _ _ _ _ (p .3)))
+
+-- There is a row more than those so far, and at most 64 in all.
+more : (c : tie.In-loop Inv-loop μ-loop) → c .before .loop .i < c .before .before .before .args .bounds .nonterminals
+more c = omega (arith, c .before .loop .inv .1, c .loop-test .taken)
+
+few : (c : tie.In-loop Inv-loop μ-loop) → c .before .loop .i < 64
+few c = omega (arith, c .before .before .before .pre .1, more c)
 
 add-tables : tie.Need-add-tables Inv-loop μ-loop
-add-tables c = let turn = c .before in omega (arith, turn .loop .inv .1, turn .before .before .pre .0 .most-nonterminals)
+add-tables c = omega (arith, few c)
 
 mul-tables : tie.Need-mul-tables Inv-loop μ-loop
-mul-tables c = let turn = c .before in omega (arith, turn .loop .inv .1, turn .before .before .pre .0 .most-nonterminals)
+mul-tables c = omega (arith, few c)
 
 element-write-tables : tie.Need-element-write-tables Inv-loop μ-loop
-element-write-tables c = let turn = c .before in omega (arith, turn .loop .inv .1, turn .before .before .pre .0 .most-nonterminals)
+element-write-tables c = omega (arith, few c)
 
 read-row-requires : tie.Need-read-row-requires Inv-loop μ-loop
 read-row-requires c κs =
     let turn = c .before .before in
-    let start = turn .before .before in
     let f = turn .loop .inv .3 .2 in
-    (start .pre .0, omega (arith, f .start, start .pre .0 .most-nonterminals), f .room)
-
-enum-known-row : tie.Need-enum-known-row Inv-loop μ-loop
-enum-known-row c = search needs
-
-enum-told : tie.Need-enum-told Inv-loop μ-loop
-enum-told c = search needs
-
-place-of-requires : tie.Need-place-of-requires Inv-loop μ-loop
-place-of-requires c κs = search needs
+    (turn .before .before .pre .0 (omega (arith, more (c .before))), omega (arith, f .start, few (c .before)), f .room)
 
 returns : tie.Need-returns Inv-loop μ-loop
 returns c =
-    let known = c .before in
-    let read = known .before .before in
+    let read = c .before .before in
     let turn = read .before .before .before in
-    let stops = refusal-answers (read .read-row .ensures .answers) (known .enum-told .given .1) (c .place-of .ensures) in
-    (stored (now (turn .before .before .args .tables)) (turn .loop .tables) (turn .loop .i) (turn .loop .next) (turn .loop .inv .2) .1,
-    answers-refusal (listing-stop _ _ _ (turn .loop .inv .3 .1) (search needs) stops))
+    let t = turns-more (turn .loop .inv .3 .1) _ _ (more (read .before .before)) (read .read-row .ensures .reads) in
+    let s = stored (now (turn .before .before .args .tables)) (turn .loop .tables) (turn .loop .i) (turn .loop .next .at) (turn .loop .inv .2) in
+    (s .0, s .1, turns-refused t (not-true _ (c .if1 .taken)))
 
 with-flag-requires : tie.Need-with-flag-requires Inv-loop μ-loop
-with-flag-requires c κs =
-    let turn = c .before .before .before .before .before .before in
-    let start = turn .before .before in
-    omega (arith, turn .loop .inv .1, start .pre .0 .most-nonterminals)
+with-flag-requires c κs = few (c .before .before .before .before)
 
 add-base : tie.Need-add-base Inv-loop μ-loop
 add-base c =
-    let turn = c .before .before .before .before .before .before .before in
-    let start = turn .before .before in
-    omega (arith, turn .loop .inv .3 .2 .start, start .pre .0 .most-nonterminals)
+    let test = c .before .before .before .before .before in
+    omega (arith, test .before .loop .inv .3 .2 .start, few test)
 
 add-i : tie.Need-add-i Inv-loop μ-loop
 add-i c = search needs
@@ -92,31 +84,31 @@ loop-less c = search needs
 
 loop-again : tie.Need-loop-again Inv-loop μ-loop
 loop-again c =
-    let known = c .before .before in
-    let read = known .before .before in
-    let turn = read .before .before .before in
+    let read = c .before .before .before in
+    let test = read .before .before in
+    let turn = test .before in
     let start = turn .before .before in
     let inv = turn .loop .inv in
-    let l = inv .3 in
-    let q = read .read-row .ensures in
-    let t = q .answers .value (known .row .given .1) in
+    let t = read .read-row .ensures in
     let inside : turn .loop .i < length (drop 384 (turn .loop .tables)) =
-    omega (arith, inv .1, inv .2 .0, start .pre .0 .most-nonterminals, length-drop 384 (turn .loop .tables)) in (
+    omega (arith, few test, inv .2 .0, length-drop 384 (turn .loop .tables)) in (
       omega arith,
       refl,
-      stored (now (start .args .tables)) (turn .loop .tables) (turn .loop .i) (turn .loop .next) (inv .2),
+      stored (now (start .args .tables)) (turn .loop .tables) (turn .loop .i) (turn .loop .next .at) (inv .2),
       (
         _,
-        listing-more _ _ _ (l .1) (search needs) (t .1),
-        rw (drop-set-add 384 (turn .loop .tables) (turn .loop .i) (turn .loop .next)) (filling-more _ _ _ _ _ _ _ _ _ _ _ _ (l .2) inside (t .2) (q .same) (q .room) (c .with-flag .ensures)),
+        turns-more (inv .3 .1) _ _ (more test) (t .reads),
+        rw (drop-set-add 384 (turn .loop .tables) (turn .loop .i) (turn .loop .next .at))
+            (filling-more _ _ _ _ _ _ _ _ _ _ _ _ (inv .3 .2) inside (t .holds (not-false _ (c .before .if1 .left))) (c .with-flag .ensures)),
       ),
     )
 
 returns-2 : tie.Need-returns-2 Inv-loop μ-loop
 returns-2 c =
     let turn = c .before in
-    let l = turn .loop .inv .3 in
-    (turn .loop .inv .2 .1, answers-value (l .0) (listing-end _ _ _ (l .1) (search needs)) (filling-end _ _ _ _ _ _ _ _ (omega arith) (l .2)))
+    let l = turn .loop .inv in
+    let held = filling-end _ _ _ _ _ _ _ _ (omega (arith, l .0, l .1)) (l .3 .2) in
+    (l .2 .0, l .2 .1, answers-value _ (turns-end (l .3 .1) (omega (arith, l .1)) (λ h. held)))
 
 pub read-rows-spec : {M : Type 1} → statement M
 read-rows-spec =
@@ -129,9 +121,6 @@ read-rows-spec =
     mul-tables
     element-write-tables
     read-row-requires
-    enum-known-row
-    enum-told
-    place-of-requires
     returns
     with-flag-requires
     add-base

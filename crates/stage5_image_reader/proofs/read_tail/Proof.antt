@@ -1,52 +1,49 @@
--- `read_tail` meets its contract. The loop's invariant: the members so far were read, and stand one byte each from the tail's
--- place on.
+-- `read_tail` meets its contract. The loop's invariant: the members so far were read, and, if all were taken, stand one byte each from
+-- the tail's place on.
 use borrow.Author.Needs.{needs}
+use borrow.Author.Tests.{not-true}
 use native.Mathlib.Omega.{arith}
-use mathlib.Core.Path.{sym, _∙_}
+use mathlib.Core.Path.{_≡_, subst}
+use mathlib.Core.Bool.{true}
 use mathlib.Core.List.{List, []}
 use Prim.Native.Nat.{ℕ, _-_, _≤_}
 use lib.Dec.{ltb}
+use denote.Ref.{now}
 use Rattle.stage5_image.specs.ImageReading.{image-field}
-use Rattle.stage5_image_reader.proofs.Fields.{value-reads, refusal-reads, answers-value, answers-refusal, field-below}
-use Rattle.stage5_image_reader.proofs.Tails.{Member, member-none, member-more}
-use Rattle.stage5_image_reader.proofs.Turns.{Listing, listing-start, listing-more, listing-stop, listing-end}
+use Rattle.stage5_image_reader.specs.Tables.{MembersHeld}
+use Rattle.stage5_image_reader.proofs.Steps.{below-reads, number-got, number-before}
+use Rattle.stage5_image_reader.proofs.Tails.{held-none, held-more}
+use Rattle.stage5_image_reader.proofs.Turns.{Listing, listing-start, turns-more, turns-refused, turns-end, answers-refused}
 use Rattle.stage5_image_reader.proofs.read_tail.Statement.{statement}
 use Rattle.stage5_image_reader.proofs.read_tail.Tie as tie
 
 abbrev Inv-loop : tie.InvT-loop
-Inv-loop bytes at size nonterminals next₀ i₀ next i =
-    (i ≤ size)
-    × ((l : List ℕ) × Listing (image-field (λ v. ltb v nonterminals) bytes) size at i next l × Member bytes at nonterminals next l)
+Inv-loop bytes nonterminals count next₀ i₀ next i =
+    (i ≤ count)
+    × ((l : List ℕ) × Listing (image-field (λ v. ltb v nonterminals) bytes) next₀ count i next l
+    × (next .ok ≡ true → MembersHeld bytes (next₀ .at) nonterminals i (next .at) l))
 
 abbrev μ-loop : tie.MeasureT-loop
-μ-loop bytes at size nonterminals next₀ i₀ next i = size - i
-
-loop-holds : tie.Need-loop-holds Inv-loop μ-loop
-loop-holds c = (search needs, ([], listing-start _ _ _, member-none _ _ _ (search needs)))
-
-sub-read-between : tie.Need-sub-read-between Inv-loop μ-loop
-sub-read-between c = search needs
-
-read-between-requires : tie.Need-read-between-requires Inv-loop μ-loop
-read-between-requires c κs = search needs
-
-enum-known-member : tie.Need-enum-known-member Inv-loop μ-loop
-enum-known-member c = search needs
-
-enum-told : tie.Need-enum-told Inv-loop μ-loop
-enum-told c = search needs
-
-place-of-requires : tie.Need-place-of-requires Inv-loop μ-loop
-place-of-requires c κs = search needs
+μ-loop bytes nonterminals count next₀ i₀ next i = count - i
 
 returns : tie.Need-returns Inv-loop μ-loop
-returns c =
-    let known = c .before in
-    let read = known .before .before in
+returns c = answers-refused _ _ [] (not-true _ (c .if1 .taken))
+
+loop-holds : tie.Need-loop-holds Inv-loop μ-loop
+loop-holds c = (search needs, ([], listing-start _ _ _, λ h. held-none _ _ _ (c .before .before .before .pre .2 h)))
+
+sub-read-next : tie.Need-sub-read-next Inv-loop μ-loop
+sub-read-next c = search needs
+
+read-next-requires : tie.Need-read-next-requires Inv-loop μ-loop
+read-next-requires c κs = search needs
+
+returns-2 : tie.Need-returns-2 Inv-loop μ-loop
+returns-2 c =
+    let read = c .before .before in
     let turn = read .before .before in
-    let start = turn .before .before in
-    let e = refusal-reads (known .enum-told .given .1) (c .place-of .ensures) (read .read-between .ensures) in
-    answers-refusal (listing-stop _ _ _ (turn .loop .inv .1 .1) (search needs) (sym (field-below _ _ _ (start .pre .0)) ∙ e))
+    let e = below-reads _ _ _ _ (turn .before .before .before .before .pre .0) (read .read-next .ensures .reads) in
+    turns-refused (turns-more (turn .loop .inv .1 .1) _ _ (search needs) e) (not-true _ (c .if2 .taken))
 
 add-i : tie.Need-add-i Inv-loop μ-loop
 add-i c = search needs
@@ -56,26 +53,29 @@ loop-less c = search needs
 
 loop-again : tie.Need-loop-again Inv-loop μ-loop
 loop-again c =
-    let known = c .before in
-    let read = known .before .before in
+    let read = c .before .before in
+    let e = read .read-next .ensures in
     let turn = read .before .before in
-    let entry = turn .before in
-    let start = entry .before in
-    let l = turn .loop .inv .1 in
-    let e = value-reads (known .member .given .1) (read .read-between .ensures) in (
+    let entry = turn .before .before .before in
+    let p = entry .before .pre in
+    let l = turn .loop .inv .1 in (
       omega arith,
       (
         _,
-        listing-more _ _ _ (l .1) (search needs) (sym (field-below _ _ _ (start .pre .0)) ∙ e),
-        member-more _ _ _ _ _ _ (l .0) (λ i. omega (arith, entry .shared-slice-known .given i)) (start .pre .0) (start .pre .1) e (l .2),
+        turns-more (l .1) _ _ (search needs) (below-reads _ _ _ _ (p .0) (e .reads)),
+        λ h. held-more _ _ _ _ _ _ _ (l .0) (λ i. omega (arith, entry .shared-slice-known .given i)) (p .0) (p .1) (number-got e h)
+            (l .2 (number-before e h)),
       ),
     )
 
-returns-2 : tie.Need-returns-2 Inv-loop μ-loop
-returns-2 c =
+returns-3 : tie.Need-returns-3 Inv-loop μ-loop
+returns-3 c =
     let turn = c .before in
+    let a = turn .before .before .before .before .args in
     let l = turn .loop .inv .1 in
-    answers-value (l .0) (listing-end _ _ _ (l .1) (search needs)) (record { count = omega (arith, l .1 .size); members = l .2 .members })
+    let whole : turn .loop .i ≡ a .size .value = omega (arith, turn .loop .inv .0, c .loop-test .left) in
+    turns-end (l .1) (search needs)
+    (λ h. subst (λ (k : ℕ). MembersHeld (now (a .bytes)) (a .size .at) (a .nonterminals) k (turn .loop .next .at) (l .0)) whole (l .2 h))
 
 pub read-tail-spec : {M : Type 1} → statement M
 read-tail-spec =
@@ -83,14 +83,12 @@ read-tail-spec =
     (tie.spec
     Inv-loop
     μ-loop
-    loop-holds
-    sub-read-between
-    read-between-requires
-    enum-known-member
-    enum-told
-    place-of-requires
     returns
+    loop-holds
+    sub-read-next
+    read-next-requires
+    returns-2
     add-i
     loop-less
     loop-again
-    returns-2)
+    returns-3)
