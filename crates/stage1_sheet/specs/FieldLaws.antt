@@ -1,22 +1,21 @@
--- The laws of fields: the ways through one, several in a row, and where numbers in their fewest bytes stand, as an image has them.
+-- The laws of fields: what a reading gives, one field, several in a row, and where numbers in their fewest bytes stand, as an image has them.
 -- Where the numbers of a sheet stand is said in NumberLaws.
-use mathlib.Core.Path.{_≡_, refl, sym, ap, ap₂, subst, _∙_}
-use mathlib.Core.Bool.{Bool, true, false, cond, _&&_}
+use mathlib.Core.Path.{_≡_, refl, sym, ap, subst, _∙_}
+use mathlib.Core.Bool.{Bool, true, _&&_}
 use mathlib.Core.List.{List, [], _∷_, _++_, append-assoc, append-nil}
 use mathlib.Core.Logic.{_↔_}
-use Prim.Native.Nat.{ℕ, zero, suc, _+_, _^_, _≤_, _<_}
+use Prim.Native.Nat.{ℕ, zero, suc, _+_, _≤_}
 use native.Mathlib.Omega.{arith}
 use lib.Dec.{T, leb, ltb, leb→le, le→leb, ltb→lt, lit<}
-use lib.ListN.{length, take, drop, length-append, take-append-drop}
-use lib.Seq.{drop-length, drop-append-seam, take-append-seam, drop-drop}
+use lib.ListN.{length, drop, length-append}
+use lib.Seq.{drop-length, drop-append-seam, drop-drop}
 use Rattle.stage0_laws.specs.Truth.{holds-true, true-holds, and-both, and-first, and-second, and-true-first, and-true-second}
-use Rattle.stage0_number.specs.Number.{encode, decode-fewest}
-use Rattle.stage0_number.specs.Laws.{fewest-within, fewest-there, fewest-bytes, fewest-width}
+use Rattle.stage0_number.specs.Number.{encode}
 use Rattle.stage0_number.specs.declared.Number.{Number}
 use Rattle.stage0_number.specs.declared.Number.the-variants.{Read, Refused}
 use Rattle.stage1_sheet.specs.Spelling.{spell}
 pub use Rattle.stage1_sheet.specs.Spelling.{Bytes}
-use Rattle.stage1_sheet.specs.Field.{Reading, stop, got, and-then, between, field-of, read-field, read-many}
+use Rattle.stage1_sheet.specs.Field.{Reading, stop, got, and-then, between, read-many}
 
 -- ---- where numbers stand
 
@@ -105,11 +104,6 @@ pub then-outcome : {A B : Type 0} {R : ℕ → ℕ → Type 0} {P : A → ℕ �
 then-outcome (refused question place h) k = refused question place h
 then-outcome (accepted a end h) k = k a end h
 
-pub outcome-imply : {A : Type 0} {R : ℕ → ℕ → Type 0} {P Q : A → ℕ → Type 0} {r : Reading A} → ((a : A) (end : ℕ) → P a end → Q a end)
-    → Outcome R P r → Outcome R Q r
-outcome-imply f (refused question place h) = refused question place h
-outcome-imply f (accepted a end h) = accepted a end (f a end h)
-
 pub outcome-got : {A : Type 0} {R : ℕ → ℕ → Type 0} {Q : A → ℕ → Type 0} {r : Reading A} {a : A} {end : ℕ} → Outcome R Q r
     → r ≡ got a end → Q a end
 outcome-got {A} {R} {Q} {r} {a} {end} h e = go (subst (Outcome R Q) e h)
@@ -136,59 +130,6 @@ true-between least most v e = (
   leb→le least v (true-holds (leb least v) (and-true-first (leb least v) (leb v most) e)),
   leb→le v most (true-holds (leb v most) (and-true-second (leb least v) (leb v most) e)),
 )
-
--- What a field that was read is: its number stands there, and its value is allowed.
-pub record FieldRead (allowed : ℕ → Bool) (bytes : List ℕ) (at v end : ℕ) : Type 0 where
-  pub holds : allowed v ≡ true
-  pub stands : Stands bytes at (v ∷ []) end
-
-module _ (number : List ℕ → ℕ → Number) (unreadable forbidden : ℕ) (allowed : ℕ → Bool) (bytes : List ℕ) (at : ℕ) where
-  -- The ways through a field: no number is read there, one that is not allowed, or one that is.
-  pub field-cases : (R Q : ℕ → ℕ → Type 0) → (number bytes at ≡ Refused → R unreadable at)
-      → ((v used : ℕ) (fewest : Bool) → number bytes at ≡ Read v used fewest → allowed v ≡ false → R forbidden at)
-      → ((v used : ℕ) (fewest : Bool) → number bytes at ≡ Read v used fewest → allowed v ≡ true → Q v (at + used))
-      → Outcome R Q (read-field number unreadable forbidden allowed bytes at)
-  unfolding read-field field-of
-  field-cases R Q none bad good = go (number bytes at) refl
-    where
-      chosen : (v used : ℕ) (fewest : Bool) → number bytes at ≡ Read v used fewest → (c : Bool) → allowed v ≡ c
-          → Outcome R Q (cond c (got v (at + used)) (stop forbidden at))
-      chosen v used fewest e true h = accepted v (at + used) (good v used fewest e h)
-      chosen v used fewest e false h = refused forbidden at (bad v used fewest e h)
-
-      go : (n : Number) → number bytes at ≡ n → Outcome R Q (field-of unreadable forbidden allowed at n)
-      go Refused e = refused unreadable at (none e)
-      go (Read v used fewest) e = chosen v used fewest e (allowed v) refl
-
-module _ (unreadable forbidden : ℕ) (allowed : ℕ → Bool) (bytes : List ℕ) (at : ℕ) where
-  number-stands : Bytes bytes → (v used : ℕ) (fewest : Bool) → decode-fewest bytes at ≡ Read v used fewest → Stands bytes at (v ∷ []) (at + used)
-  unfolding spell
-  number-stands b v used fewest e =
-      let w = fewest-within bytes at e in
-      let same : used ≡ length (encode v) = fewest-width bytes at e in
-      let none : encode v ++ [] ≡ encode v = append-nil (encode v) in record {
-        there = sym (take-append-drop used (drop at bytes)) ∙ ap₂ _++_ (fewest-bytes bytes at e b ∙ sym none) (drop-drop used at bytes);
-        until = omega (arith, ap length none);
-        inside = w .inside;
-      }
-
-  -- Whatever a field gives stands there; a refusal is at the field's own place.
-  pub field-outcome : (R : ℕ → ℕ → Type 0) → Bytes bytes → R unreadable at → R forbidden at
-      → Outcome R (FieldRead allowed bytes at) (read-field decode-fewest unreadable forbidden allowed bytes at)
-  field-outcome R b u f =
-      field-cases decode-fewest unreadable forbidden allowed bytes at R (FieldRead allowed bytes at) (λ e. u) (λ v used fewest e h. f)
-      (λ v used fewest e h. record { holds = h; stands = number-stands b v used fewest e })
-
-  -- Where an allowed number stands, the field gives it.
-  pub field-got : (v : ℕ) (ns : List ℕ) (end : ℕ) → v < 2 ^ 64 → allowed v ≡ true → Stands bytes at (v ∷ ns) end
-      → read-field decode-fewest unreadable forbidden allowed bytes at ≡ got v (after at (v ∷ []))
-  unfolding read-field field-of spell
-  field-got v ns end small h s =
-      let front : take (length (encode v)) (drop at bytes) ≡ encode v =
-      ap (take (length (encode v))) (s .there ∙ append-assoc (encode v) (spell ns) (drop end bytes))
-      ∙ take-append-seam (encode v) (spell ns ++ drop end bytes) in
-      let width : after at (v ∷ []) ≡ at + length (encode v) = ap (λ (l : List ℕ). at + length l) (append-nil (encode v)) in
-      rw (fewest-there bytes at v small front, h, width)
 
 -- ---- several in a row
 

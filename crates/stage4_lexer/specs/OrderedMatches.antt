@@ -14,7 +14,7 @@ use Rattle.stage1_sheet.specs.Sheet.{Rule, Sheet}
 use Rattle.stage1_sheet.specs.WellFormed.{RuleInRange, WithinLimits}
 use Rattle.stage4_lexer.specs.Words.{Word, RuleAt, WordOf, NoEmptyRule}
 use Rattle.stage4_lexer.specs.RuleOrder.{word-rule, by-number, by-kind, WinsOver, lower-rule, word-over-other, lower-of-a-kind}
-use Rattle.stage4_lexer.specs.RuleOrder.{words-first, words-first-sheet, ImageNumber}
+use Rattle.stage4_lexer.specs.RuleOrder.{words-first, image-sheet, ImageNumber}
 use Rattle.stage4_lexer.specs.LongestMatch.{LongestMatch, NoMatch, NonWordAbove}
 use Rattle.stage4_lexer.specs.RuleOrderLaws.{rule-one, number-rule, number-image, image-number-of, of-image-number, lower-wins}
 use Rattle.stage4_lexer.specs.RuleOrderLaws.{winner-lower, lower-number, one-wins}
@@ -114,8 +114,8 @@ module _ (rules : List Rule) where
 -- ---- limits
 
 -- The sheet with its rules in the image's order keeps the limits.
-pub ordered-limits : (s : Sheet) → WithinLimits s → WithinLimits (words-first-sheet s)
-unfolding words-first-sheet words-first
+pub ordered-limits : (s : Sheet) → WithinLimits s → WithinLimits (image-sheet s)
+unfolding image-sheet words-first
 ordered-limits s w =
     let rules = s .rules in
     let many = length-partition word-rule rules in

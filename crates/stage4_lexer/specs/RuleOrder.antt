@@ -42,9 +42,9 @@ pub data WinsOver (rules : List Rule) : Order → ℕ → ℕ → Type 0 where
 unfoldable pub words-first : List Rule → List Rule
 words-first rules = partition word-rule rules
 
--- The sheet with its rules in that order.
-unfoldable pub words-first-sheet : Sheet → Sheet
-words-first-sheet s = record { tokens = s .tokens; rules = words-first (s .rules); expression = s .expression }
+-- The sheet whose rules an image numbers: that with its rules in this order.
+unfoldable pub image-sheet : Sheet → Sheet
+image-sheet s = record { tokens = s .tokens; rules = words-first (s .rules); expression = s .expression }
 
 -- No rule that is no word rule stands above a word rule.
 abbrev pub WordsAbove : List Rule → Type 0

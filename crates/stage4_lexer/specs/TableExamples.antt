@@ -6,14 +6,14 @@ use lib.ListN.{getD}
 use Rattle.stage1_sheet.specs.Regex.{class, concat}
 use Rattle.stage1_sheet.specs.Sheet.{Rule}
 use Rattle.stage1_sheet.specs.SheetD.{sheet-D}
-use Rattle.stage4_lexer.specs.RuleOrder.{words-first-sheet}
+use Rattle.stage4_lexer.specs.RuleOrder.{image-sheet}
 use Rattle.stage4_lexer.specs.Positions.{positions, first-positions}
 use Rattle.stage4_lexer.specs.Match.{no-match, matched}
 use Rattle.stage4_lexer.specs.Table.{table-rows, table-entries, table-winners, match-by-rows}
 use Rattle.stage4_lexer.specs.Computing.{computing-lexer}
 
 abbrev ordered-rules : List Rule
-ordered-rules = words-first-sheet sheet-D .rules
+ordered-rules = image-sheet sheet-D .rules
 
 -- The start, the empty set, then by rising byte the blank, the slash, a first digit, and a digit after it.
 D-rows : table-rows (positions ordered-rules) (first-positions ordered-rules) ≡ 16 ∷ 0 ∷ 2 ∷ 1 ∷ 4 ∷ 8 ∷ []

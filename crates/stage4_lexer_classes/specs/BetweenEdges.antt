@@ -1,4 +1,4 @@
--- Between a class's edges: a byte is in the class iff the edges up to it are odd in number, a byte a turn.
+-- Between a class's edges: a byte is in the class iff the edges up to it are odd in number, a byte a turn. What is toggled there is not asked.
 use mathlib.Core.Path.{_≡_, sym}
 use mathlib.Core.Bool.{Bool, false, xor, _&&_}
 use mathlib.Core.Logic.{_⊎_, inl, inr}

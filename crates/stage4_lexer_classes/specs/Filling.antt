@@ -1,5 +1,5 @@
 -- How the class table is filled: each class toggles its position at its low byte and just past its high byte, and a sweep over the bytes
--- carries the set along. That this gives the class table is shown in proofs/.
+-- carries the set along. That this gives the class table is shown in HoldingLaws.
 use mathlib.Core.Bool.{Bool, xor}
 use mathlib.Core.List.{List}
 use Prim.Native.Nat.{ℕ, zero, suc}

@@ -1,5 +1,6 @@
--- The class table of a list of positions, the steps by which it is filled, and the laws of its sets.
-pub mod ClassTable
+-- How the lexer's part of the machine's tables is filled while an image is read, and that it is then what the scanner relies on.
 pub mod Filling
-pub mod ClassTableLaws
+pub mod Holding
 pub mod BetweenEdges
+pub mod JoiningLaws
+pub mod HoldingLaws

@@ -18,8 +18,8 @@ use Rattle.stage4_lexer.specs.Walk.{has-byte, keep, follows, ended}
 use Rattle.stage4_lexer.specs.SetWalk.{members, members-from, set-walk}
 use Rattle.stage4_lexer.specs.SetWalkLaws.{members-shorter, walk-meets-members}
 use Rattle.stage4_lexer.specs.LowestPosition.{first-ended, ended-first}
-use Rattle.stage4_lexer_classes.specs.ClassTable.{having}
-use Rattle.stage4_lexer_classes.specs.ClassTableLaws.{having-first}
+use Rattle.stage4_lexer_scanner.specs.ClassTable.{having}
+use Rattle.stage4_lexer_scanner.specs.ClassTableLaws.{having-first}
 use Rattle.stage4_lexer_scanner.specs.Meaning.{rule-of, LeadsTo, HeldAt, Prepared}
 use Rattle.stage4_lexer_scanner.specs.Sets.{joined, first-entry}
 use Rattle.stage4_lexer_scanner.specs.declared.Ended.{Ended}

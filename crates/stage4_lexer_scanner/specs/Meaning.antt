@@ -9,7 +9,7 @@ use Rattle.stage4_lexer.specs.Positions.{Position}
 use Rattle.stage4_lexer.specs.Match.{Match, no-match, matched}
 use Rattle.stage4_lexer.specs.Walk.{keep, follows, ended}
 use Rattle.stage4_lexer.specs.PositionBounds.{NeverFalling}
-use Rattle.stage4_lexer_classes.specs.ClassTable.{ClassTable}
+use Rattle.stage4_lexer_scanner.specs.ClassTable.{ClassTable}
 use Rattle.stage4_lexer_scanner.specs.declared.Found.{Found}
 use Rattle.stage4_lexer_scanner.specs.declared.Found.the-variants.{Nothing, Rule}
 use Rattle.stage4_lexer_scanner.specs.declared.Ended.{Ended}

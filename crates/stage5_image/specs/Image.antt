@@ -8,7 +8,7 @@ use Rattle.stage1_sheet.specs.Sheet.{Rule, Sheet}
 use Rattle.stage1_sheet.specs.Spelling.{spell}
 use Rattle.stage3_normal_form.specs.Productions.{Production, Row}
 use Rattle.stage3_normal_form.specs.NormalForm.{normal-form}
-use Rattle.stage4_lexer.specs.RuleOrder.{words-first-sheet}
+use Rattle.stage4_lexer.specs.RuleOrder.{image-sheet}
 use Rattle.stage4_lexer.specs.Positions.{Position, positions, first-positions}
 use Rattle.stage5_image.specs.Fusion.{fused}
 use Rattle.stage5_image.specs.Numbering.{numbered}
@@ -36,7 +36,7 @@ plain-image s = record {
 -- The image of a sheet. "Images number the word rules first, each kind in sheet order, positions and the order of productions and
 -- nonterminals following"
 unfoldable pub image-of : Sheet → Image
-image-of s = plain-image (words-first-sheet s)
+image-of s = plain-image (image-sheet s)
 
 unfoldable pub flag : Bool → ℕ
 flag b = cond b 1 0

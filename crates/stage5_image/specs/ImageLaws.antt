@@ -19,7 +19,7 @@ use Rattle.stage3_normal_form.specs.NormalFormLaws.{normal-form-fits}
 use Rattle.stage3_normal_form.specs.KeptRows.{normal-form-length}
 use Rattle.stage3_normal_form.specs.Expansion.{normalization-sound}
 use Rattle.stage3_normal_form.specs.Tails.{sequence-count-bound, normal-form-in-range, tails-at-most}
-use Rattle.stage4_lexer.specs.RuleOrder.{words-first-sheet, WordsAbove}
+use Rattle.stage4_lexer.specs.RuleOrder.{image-sheet, WordsAbove}
 use Rattle.stage4_lexer.specs.RuleOrderLaws.{order-kept}
 use Rattle.stage4_lexer.specs.OrderedMatches.{ordered-empty-match, ordered-limits}
 use Rattle.stage4_lexer.specs.Positions.{Position, positions, empty-match}
@@ -64,8 +64,8 @@ plain-denotes s c d ks =
 -- The image's start unfolds to exactly the rule sequences that spell a token sequence which the expression denotes.
 pub image-denotes : (s : Sheet) {a : LanguageType} → Closed (s .tokens) 0 (s .expression) → [] ⊢ s .expression ∶ a → (ks : List ℕ)
     → StartUnfolds ((image-of s) .rows) ks ↔ DenotedRules s ks
-unfolding image-of words-first-sheet
-image-denotes s c d ks = plain-denotes (words-first-sheet s) c d ks
+unfolding image-of image-sheet
+image-denotes s c d ks = plain-denotes (image-sheet s) c d ks
 
 -- ---- ranges
 
@@ -107,14 +107,14 @@ plain-in-range s w m d =
 
 pub image-in-range : (s : Sheet) {a : LanguageType} → WithinLimits s → empty-match (s .rules) 0 ≡ none → [] ⊢ s .expression ∶ a
     → InRange (image-of s)
-unfolding image-of words-first-sheet
-image-in-range s w m d = plain-in-range (words-first-sheet s) (ordered-limits s w) (ordered-empty-match (s .rules) m) d
+unfolding image-of image-sheet
+image-in-range s w m d = plain-in-range (image-sheet s) (ordered-limits s w) (ordered-empty-match (s .rules) m) d
 
 -- ---- the order of the rules
 
 -- Where no other rule stands above a word rule, the image is the one with the rules numbered as they stand.
 pub numbering-kept : (s : Sheet) → WordsAbove (s .rules) → image-of s ≡ plain-image s
-unfolding image-of words-first-sheet
+unfolding image-of image-sheet
 numbering-kept s h = ap (λ (rules : List Rule). plain-image (record { tokens = s .tokens; rules = rules; expression = s .expression })) (order-kept (s .rules) h)
 
 -- ---- the bytes

@@ -23,7 +23,7 @@ use Rattle.stage2_types.specs.Types.{LanguageType, _⊢_∶_}
 use Rattle.stage3_normal_form.specs.Productions.{Production, Row, row-of, most-tail}
 use Rattle.stage3_normal_form.specs.NormalForm.{normal-form}
 use Rattle.stage3_normal_form.specs.TailNodes.{tail-nodes, tails-within, tail-nodes-few}
-use Rattle.stage4_lexer.specs.RuleOrder.{words-first-sheet}
+use Rattle.stage4_lexer.specs.RuleOrder.{image-sheet}
 use Rattle.stage4_lexer.specs.OrderedMatches.{ordered-empty-match, ordered-limits}
 use Rattle.stage4_lexer.specs.Positions.{Position, empty-match}
 use Rattle.stage0_laws.specs.DistinctMembers.{distinct-few}
@@ -219,8 +219,8 @@ plain-at-most s w d =
     omega (arith, plain-few s (w .closed), tail-nodes-few d)
 
 pub nonterminals-at-most : (s : Sheet) {a : LanguageType} → WithinLimits s → [] ⊢ s .expression ∶ a → length ((image-of s) .rows) ≤ 32
-unfolding image-of words-first-sheet
-nonterminals-at-most s w d = plain-at-most (words-first-sheet s) (ordered-limits s w) d
+unfolding image-of image-sheet
+nonterminals-at-most s w d = plain-at-most (image-sheet s) (ordered-limits s w) d
 
 -- 1,070 bytes, and so many for each of 32 nonterminals.
 abbrev pub most-image-bytes : ℕ
@@ -233,5 +233,5 @@ plain-fits s w m d = omega (arith, image-width (plain-image s) (plain-in-range s
 
 pub image-fits : (s : Sheet) {a : LanguageType} → WithinLimits s → empty-match (s .rules) 0 ≡ none → [] ⊢ s .expression ∶ a
     → length (image-bytes (image-of s)) ≤ most-image-bytes
-unfolding image-of words-first-sheet
-image-fits s w m d = plain-fits (words-first-sheet s) (ordered-limits s w) (ordered-empty-match (s .rules) m) d
+unfolding image-of image-sheet
+image-fits s w m d = plain-fits (image-sheet s) (ordered-limits s w) (ordered-empty-match (s .rules) m) d

@@ -1,7 +1,7 @@
 -- Which bytes are readable: those that the reader of images accepts, which are those of an image in range; where it stops is the first
 -- offence. Bytes have one answer. Which images are in range is not said here (ImageRanges).
 use mathlib.Core.Path.{_≡_, refl, sym, ap, subst, _∙_}
-use mathlib.Core.Bool.{Bool, true, false, not, cond}
+use mathlib.Core.Bool.{Bool, true, false, cond}
 use mathlib.Core.List.{List, [], _∷_, _++_}
 use mathlib.Core.Logic.{_↔_, ⊎-elim}
 use mathlib.Core.Option.{Option, none, some}

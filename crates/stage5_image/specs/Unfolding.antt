@@ -8,7 +8,7 @@ use Rattle.stage2_types.specs.Denotation.{Denotes}
 use Rattle.stage3_normal_form.specs.Productions.{Row}
 use Rattle.stage3_normal_form.specs.Unfolds.{Unfolds}
 use Rattle.stage4_lexer.specs.Words.{RuleAt}
-use Rattle.stage4_lexer.specs.RuleOrder.{words-first}
+use Rattle.stage4_lexer.specs.RuleOrder.{image-sheet}
 
 -- The start unfolds to the rule sequence.
 abbrev pub StartUnfolds : List Row → List ℕ → Type 0
@@ -31,4 +31,4 @@ SpellDenoted rules e ks = (ts : List ℕ) × Denotes e ts × SpellsTokens rules 
 
 -- By the numbers that the image gives to a sheet's rules.
 abbrev pub DenotedRules : Sheet → List ℕ → Type 0
-DenotedRules s = SpellDenoted (words-first (s .rules)) (s .expression)
+DenotedRules s = SpellDenoted ((image-sheet s) .rules) (s .expression)

@@ -3,7 +3,7 @@
 use Rattle.stage1_sheet.specs.Sheet.{Sheet}
 use Rattle.stage1_sheet_columns.specs.Holds.{RulesOf}
 use Rattle.stage1_sheet_columns.specs.declared.RuleColumns.{RuleColumns}
-use Rattle.stage4_lexer.specs.RuleOrder.{words-first, words-first-sheet}
+use Rattle.stage4_lexer.specs.RuleOrder.{words-first, image-sheet}
 use Rattle.stage4_lexer.specs.OrderedMatches.{ordered-empty-match, ordered-limits}
 use Rattle.stage5_image_checker.specs.Steps.{PassedParts}
 use Rattle.stage5_image_checker.specs.declared.CheckedSheet.{CheckedSheet}
@@ -12,8 +12,8 @@ use Rattle.stage5_image_checker.specs.declared.Verdict.the-variants.{Pas
 module _ (s : Sheet) (k : CheckedSheet) (h : PassedParts s k) where
   -- With the rules in the image's order, the sheet in that order has passed.
   pub ordered-parts : (rules : RuleColumns) → RulesOf rules (words-first (s .rules)) (h .places)
-      → PassedParts (words-first-sheet s) (record { verdict = Passed; rules = rules; links = k .links; types = k .types })
-  unfolding words-first-sheet
+      → PassedParts (image-sheet s) (record { verdict = Passed; rules = rules; links = k .links; types = k .types })
+  unfolding image-sheet
   ordered-parts rules held = record {
     places = h .places;
     limits = ordered-limits s (h .limits);

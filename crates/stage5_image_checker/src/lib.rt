@@ -14,7 +14,7 @@ ghost use Rattle.stage1_sheet.specs.Reading.{Contents};
 ghost use Rattle.stage1_sheet.specs.Sheet.{Sheet};
 ghost use Rattle.stage2_types.specs.Questions.{type-fault};
 ghost use Rattle.stage4_lexer.specs.Positions.{empty-match};
-ghost use Rattle.stage4_lexer.specs.RuleOrder.{words-first-sheet};
+ghost use Rattle.stage4_lexer.specs.RuleOrder.{image-sheet};
 ghost use Rattle.stage5_image.specs.Check.{after-types, after-rules, after-work, check, check-answer, work-after};
 ghost use Rattle.stage5_image_checker.specs.Answer.{answer-of, case-of, Ends};
 ghost use Rattle.stage5_image_checker.specs.Steps.{SheetOf, PassedParts};
@@ -159,7 +159,7 @@ pub fn check(sheet: &[u8], work: &mut [u8]) -> Verdict
 // A sheet that passed, with its rules in the image's order. The questions were asked before, in the order of the sheet.
 pub fn in_image_order(checked: CheckedSheet) -> CheckedSheet
     requires { ⌜ ((s : Sheet) × PassedParts s checked) ⌝ }
-    ensures { λ r. ⌜ ((s : Sheet) → PassedParts s checked → PassedParts (words-first-sheet s) r) ⌝ }
+    ensures { λ r. ⌜ ((s : Sheet) → PassedParts s checked → PassedParts (image-sheet s) r) ⌝ }
 {
     let rules = checked.rules;
     let links = checked.links;

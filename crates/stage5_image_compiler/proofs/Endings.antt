@@ -9,7 +9,7 @@ use Rattle.stage1_sheet.specs.Sheet.{Sheet}
 use Rattle.stage2_types.specs.Typing.{sheet-typed-iff}
 use Rattle.stage3_normal_form.specs.Derives.{derives}
 use Rattle.stage3_normal_form_walk.specs.Columns.{SetOf}
-use Rattle.stage4_lexer.specs.RuleOrder.{words-first-sheet}
+use Rattle.stage4_lexer.specs.RuleOrder.{image-sheet}
 use Rattle.stage4_lexer.specs.PositionBounds.{positions-in-range}
 use Rattle.stage4_lexer_columns.specs.declared.PositionColumns.{PositionColumns}
 use Rattle.stage4_lexer_sets.specs.Answer.{PositionsOf}
@@ -89,7 +89,7 @@ passed-parts (check.failed number at) k h e = let y : _≡_ {A = ℕ} 0 1 = cc i
 passed-parts (check.passed s) k h e = (s, refl, h .1)
 
 pub ends-passed : (v : check.Verdict) (s : Sheet) (room : ℕ) {r : Written} {entry exit : List ℕ} → v ≡ check.passed s
-    → Ends (fitted room (image-bytes (plain-image (words-first-sheet s)))) r entry exit → Ends (after-checking room v) r entry exit
+    → Ends (fitted room (image-bytes (plain-image (image-sheet s)))) r entry exit → Ends (after-checking room v) r entry exit
 unfolding after-checking image-of
 ends-passed v s room e h = rw e h
 

@@ -11,8 +11,8 @@ use Rattle.stage0_laws.specs.Members.{all-append}
 use Rattle.stage0_laws.specs.Bits.{bit}
 use Rattle.stage1_sheet.specs.Field.{got}
 use Rattle.stage4_lexer.specs.Positions.{Position}
-use Rattle.stage4_lexer_tables.specs.Holding.{no-position, Holding, SweptOver}
-use Rattle.stage4_lexer_tables.specs.HoldingLaws.{swept-prepared}
+use Rattle.stage4_lexer_classes.specs.Holding.{no-position, Holding, SweptOver}
+use Rattle.stage4_lexer_classes.specs.HoldingLaws.{swept-prepared}
 use Rattle.stage5_image.specs.ImageReading.{read-position}
 use Rattle.stage5_image_reader.specs.Answers.{after, StepAnswers, with-flag}
 use Rattle.stage5_image_reader.specs.Decoded.{LexerHeld}

@@ -11,7 +11,7 @@ use borrow.Author.Tests.{eq-eqb, ne-eqb}
 use Rattle.stage1_sheet.specs.Field.{Reading, stop, got}
 use Rattle.stage3_normal_form.specs.Productions.{Row, row-of}
 use Rattle.stage4_lexer.specs.Positions.{Position}
-use Rattle.stage4_lexer_tables.specs.Holding.{SweptOver}
+use Rattle.stage4_lexer_classes.specs.Holding.{SweptOver}
 use Rattle.stage5_image.specs.Image.{Image}
 use Rattle.stage5_image.specs.ImageReading.{read-flag, read-list, read-row, image-end, read-image}
 use Rattle.stage5_image_reader.specs.Answers.{after, StepAnswers, positions-in}

@@ -10,7 +10,7 @@ use Rattle.stage0_laws.specs.Bits.{bit}
 use Rattle.stage0_laws.specs.Lists.{All}
 use Rattle.stage3_normal_form.specs.Productions.{Production, Row, row-of, no-productions, most-tail, production-of}
 use Rattle.stage4_lexer.specs.Positions.{Position}
-use Rattle.stage4_lexer_tables.specs.Holding.{no-position, Holding}
+use Rattle.stage4_lexer_classes.specs.Holding.{no-position, Holding}
 
 -- ---- sets of flags
 

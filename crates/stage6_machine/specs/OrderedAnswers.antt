@@ -7,7 +7,7 @@ use mathlib.Core.Option.{none}
 use Prim.Native.Nat.{ℕ, _<_}
 use lib.ListN.{length, drop}
 use Rattle.stage1_sheet.specs.Sheet.{Sheet}
-use Rattle.stage4_lexer.specs.RuleOrder.{by-number, by-kind, words-first, words-first-sheet}
+use Rattle.stage4_lexer.specs.RuleOrder.{by-number, by-kind, words-first, image-sheet}
 use Rattle.stage4_lexer.specs.LongestMatch.{LongestMatch}
 use Rattle.stage4_lexer.specs.Positions.{empty-match}
 use Rattle.stage4_lexer.specs.RuleOrderLaws.{number-rule, of-image-number}
@@ -29,8 +29,8 @@ module _ (s : Sheet) (text : List ℕ) where
     acts : ActionOf s rule action
 
   of-sheet : {rest : List ℕ} {k n action : ℕ} → LongestMatch by-number (words-first (s .rules)) rest k n
-      → ActionOf (words-first-sheet s) k action → MatchOfSheet rest n action
-  unfolding words-first-sheet
+      → ActionOf (image-sheet s) k action → MatchOfSheet rest n action
+  unfolding image-sheet
   of-sheet {rest} {k} {n} m a =
       let h = of-image-number (s .rules) (a .1) in record {
         rule = h .0;
@@ -38,9 +38,9 @@ module _ (s : Sheet) (text : List ℕ) where
         acts = (a .0, number-rule (s .rules) (h .1), a .2);
       }
 
-  ordered-from : {p : ℕ} {tokens : List ℕ} {a : Answer} → AnswersFrom by-number (words-first-sheet s) text p tokens a
+  ordered-from : {p : ℕ} {tokens : List ℕ} {a : Answer} → AnswersFrom by-number (image-sheet s) text p tokens a
       → AnswersFrom by-kind s text p tokens a
-  unfolding words-first-sheet
+  unfolding image-sheet
   ordered-from (accepts e d) = accepts e d
   ordered-from (ends-early e d) = ends-early e d
   ordered-from (no-rule {p = p} l m) = no-rule l (ordered-no-match (s .rules) (drop p text) .0 m)
@@ -48,7 +48,7 @@ module _ (s : Sheet) (text : List ℕ) where
   ordered-from (takes k n t l m a c r) = let x = of-sheet m a in takes (x .rule) n t l (x .longest) (x .acts) c (ordered-from r)
   ordered-from (refuses k n t l m a c) = let x = of-sheet m a in refuses (x .rule) n t l (x .longest) (x .acts) c
 
-  pub ordered-answer : {a : Answer} → OwnAnswerByNumber (words-first-sheet s) text a → OwnAnswer s text a
+  pub ordered-answer : {a : Answer} → OwnAnswerByNumber (image-sheet s) text a → OwnAnswer s text a
   ordered-answer = ordered-from
 
 -- ---- answers of one sheet by both orders

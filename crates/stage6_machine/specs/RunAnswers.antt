@@ -1,7 +1,7 @@
 -- A run gives a sheet's own answer by number, by one induction over the run, from four facts about the image: it finds the longest
 -- match, it knows which rules skip, taking a rule agrees with what the expression still allows, and so does ending.
 -- That the image of a sheet whose rules stand in its order has these facts is shown elsewhere.
-use mathlib.Core.Path.{_≡_, refl, sym, ap, subst, _∙_}
+use mathlib.Core.Path.{_≡_, refl, sym, subst, _∙_}
 use mathlib.Core.Bool.{Bool, true, false, true≢false}
 use mathlib.Core.List.{List, [], _∷_, _++_}
 use mathlib.Core.Option.{Option, none, some}
@@ -10,7 +10,7 @@ use Prim.Native.Nat.{ℕ, zero, suc, _+_, _*_, _≤_, _<_}
 use native.Mathlib.Omega.{arith}
 use lib.ListN.{length, drop, getD, length-append, length-drop}
 use lib.Dec.{eqb}
-use borrow.Author.Tests.{le-ltb, eq-eqb, ne-eqb}
+use borrow.Author.Tests.{eq-eqb, ne-eqb}
 use Rattle.stage1_sheet.specs.Sheet.{Rule, Sheet}
 use Rattle.stage2_types.specs.Denotation.{Denotes}
 use Rattle.stage3_normal_form.specs.Productions.{Taking, most-growth}
@@ -21,7 +21,7 @@ use Rattle.stage4_lexer.specs.Match.{Match, no-match, matched}
 use Rattle.stage4_lexer.specs.Walk.{longest-match}
 use Rattle.stage4_lexer.specs.LongestMatchLaws.{Right}
 use Rattle.stage5_image.specs.Image.{Image}
-use Rattle.stage6_machine.specs.Answer.{Answer, answer}
+use Rattle.stage6_machine.specs.Answer.{Answer}
 use Rattle.stage6_machine.specs.Trace.{match-at, taking, all-nullable, take-of, State, start-state, Ended, answer-of}
 use Rattle.stage6_machine.specs.Lent.{long-enough}
 use Rattle.stage6_machine.specs.Runs.{Matches, Traces, rule-skipped, rule-taken, nothing-matched, rule-untaken, stack-overflowed}

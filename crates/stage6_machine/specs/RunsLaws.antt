@@ -17,7 +17,7 @@ use Rattle.stage5_image.specs.Image.{Image}
 use Rattle.stage5_image.specs.ImageFormat.{ReadableAs, Readable}
 use Rattle.stage5_image.specs.ImageReading.{read-image}
 use Rattle.stage5_image.specs.ReadableImages.{read-refusal, first-offence-one, stop-offends, read-readable, readable-read}
-use Rattle.stage6_machine.specs.Trace.{start-state, Ended, ended}
+use Rattle.stage6_machine.specs.Trace.{Ended}
 use Rattle.stage6_machine.specs.Lent.{most-text-bytes, lent-entries, Scanner, Lent, stack-alone, Ran, rows-of, turned-away, finished}
 use Rattle.stage6_machine.specs.Runs.{Traces, Short, ManyRows, Begins, Runs, short, long-text, unreadable, many-rows, no-entry, started}
 use Rattle.stage6_machine.specs.Run.{trace, is-short, has-many-rows, run-image, run-reading, run}

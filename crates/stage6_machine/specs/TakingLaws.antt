@@ -1,11 +1,11 @@
 -- Taking a rule over an image does what its token does to the nodes that the pending nonterminals stand for, and the ends
 -- agree too. It speaks of any image rows that do what some rows by token do.
-use mathlib.Core.Path.{_≡_, refl, sym, ap, ap₂, subst, _∙_}
-use mathlib.Core.Bool.{Bool, true, false, _&&_, true≢false}
+use mathlib.Core.Path.{_≡_, refl, sym, ap, ap₂, _∙_}
+use mathlib.Core.Bool.{Bool, true, false, _&&_}
 use mathlib.Core.List.{List, [], _∷_, _++_, map, map-append}
 use mathlib.Core.Option.{Option, none, some}
 use mathlib.Core.Logic.{_↔_}
-use Prim.Native.Nat.{ℕ, zero, suc}
+use Prim.Native.Nat.{ℕ}
 use native.Mathlib.Omega.{arith}
 use Rattle.stage0_laws.specs.Lists.{All}
 use Rattle.stage0_laws.specs.Truth.{and-true-first, and-true-second}

@@ -142,13 +142,7 @@ fn replace_by_long(image: &[u8], at: usize, stack: &mut [u8], below: usize) -> T
 
 // Puts the tail that an entry stands for in the place of its taker, behind which so many are pending. The row of the taker starts at
 // `start` in the image's bytes.
-fn replace_taker(
-    image: &[u8],
-    start: usize,
-    entry: u16,
-    stack: &mut [u8],
-    below: usize,
-) -> Taken
+fn replace_taker(image: &[u8], start: usize, entry: u16, stack: &mut [u8], below: usize) -> Taken
     requires { ⌜ (below < length (now stack)) × ((n : ℕ) × (tail : List ℕ) × EntryTail (now image) start n entry tail) ⌝ }
     ensures { λ r.
         ⌜ (r ≡ replaced (now (stack .entry)) below (entry-tail (now (image .entry)) start entry) .outcome)

@@ -1,10 +1,10 @@
 -- Every row of the six tables of worked cases holds: what is computed of a row, and, by the demands, what follows for the sheet that
 -- its bytes spell. The rows themselves stand in `Cases`, `RepetitionCases`, `CheckCases`, `PaddingCases`, `WordCases` and `TableCases`.
-use mathlib.Core.Path.{_≡_, refl, sym, ap, subst, _∙_}
+use mathlib.Core.Path.{_≡_, refl, ap, subst, _∙_}
 use mathlib.Core.Bool.{true, not}
-use mathlib.Core.List.{List, [], _∷_, _++_}
+use mathlib.Core.List.{List, [], _∷_}
 use mathlib.Core.Logic.{_⊎_, ⊎-elim}
-use Prim.Native.Nat.{ℕ, zero, suc, _+_, _*_, _≤_}
+use Prim.Native.Nat.{ℕ, zero, suc, _≤_}
 use native.Mathlib.Omega.{arith}
 use lib.Dec.{T, eqb, leb, leb→le}
 use lib.ListN.{length}
@@ -34,7 +34,7 @@ use Rattle.stage5_image.specs.Checks.{Passable}
 use Rattle.stage5_image.specs.Write.{Written, written, write, written-part}
 use Rattle.stage6_machine.specs.Answer.{Answer, answer}
 use Rattle.stage6_machine.specs.Trace.{start-state, answer-of}
-use Rattle.stage6_machine.specs.Lent.{most-text-bytes, long-enough, stack-alone, rows-of, winners-of}
+use Rattle.stage6_machine.specs.Lent.{most-text-bytes, long-enough, rows-of, winners-of}
 use Rattle.stage6_machine.specs.Run.{trace-from, run}
 use Rattle.stage6_machine.specs.OwnAnswer.{OwnAnswer, OwnAnswerByNumber}
 use Rattle.stage6_machine.specs.OwnAnswerLaws.{by-number-one}
@@ -46,7 +46,7 @@ use Rattle.stage7_demands.specs.Proofs.{demand-1, demand-2}
 use Rattle.stage7_demands.specs.Corollaries.{text-changes-only, own-answer-alone}
 use Rattle.stage7_demands.specs.ImageD.{image-D, D-written}
 use Rattle.stage7_cases.specs.Cases.{Case, writes, writes-with, checks, reads, changes, runs, tables, runs-table, denotes-nothing}
-use Rattle.stage7_cases.specs.Cases.{written-sheet, stack-for, buffers, run-of-sheet, Holds, endless, cases}
+use Rattle.stage7_cases.specs.Cases.{written-sheet, stack-for, buffers, run-of-sheet, Holds, cases}
 use Rattle.stage7_cases.specs.RepetitionCases.{image-of-counts, image-of-numbers, repetition-cases}
 use Rattle.stage7_cases.specs.CheckCases.{check-cases}
 use Rattle.stage7_cases.specs.PaddingCases.{in-ten, padding-cases}

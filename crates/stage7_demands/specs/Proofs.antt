@@ -1,8 +1,7 @@
 -- The demands hold: their parts put together.
 use mathlib.Core.Path.{_≡_, refl, sym, subst}
-use mathlib.Core.Bool.{true}
 use mathlib.Core.List.{List}
-use mathlib.Core.Logic.{_↔_, _⊎_}
+use mathlib.Core.Logic.{_↔_}
 use mathlib.Core.Option.{none}
 use Prim.Native.Nat.{ℕ, _≤_}
 use native.Mathlib.Omega.{arith}
@@ -12,7 +11,7 @@ use Rattle.stage1_sheet.specs.WellFormed.{WithinLimits}
 use Rattle.stage1_sheet.specs.SheetFormat.{Spells}
 use Rattle.stage1_sheet.specs.Spelling.{Bytes}
 use Rattle.stage1_sheet.specs.ReadingLaws.{spelled-once, spelled-limits}
-use Rattle.stage4_lexer.specs.RuleOrder.{words-first-sheet, WordsAbove}
+use Rattle.stage4_lexer.specs.RuleOrder.{image-sheet, WordsAbove}
 use Rattle.stage4_lexer.specs.OrderedMatches.{ordered-empty-match, ordered-limits, match-changes-only}
 use Rattle.stage4_lexer.specs.Positions.{empty-match}
 use Rattle.stage4_lexer.specs.EmptyWord.{none-empty}
@@ -145,14 +144,14 @@ runs-own : (sheet : List ℕ) → Bytes sheet → (work room : ℕ) (image : Lis
     → (s : Sheet) → Spells sheet s
     → (text : List ℕ) (lent : Lent) → length text ≤ most-text-bytes → long-enough text ≤ length (lent .stack)
     → (Short (lent .scanner) → ⊥) → (ManyRows (lent .scanner) (image-of s) → ⊥) → {r : Ran} → Runs image text lent r → OwnAnswer s text (r .answer)
-unfolding image-of words-first-sheet turned-away finished answer-of
+unfolding image-of image-sheet turned-away finished answer-of
 runs-own sheet bytes work room image e s spells text lent within long not-short few runs = by-question runs
   where
     acceptable : Acceptable sheet room s
     acceptable = (accepted-sheet sheet bytes work room image e s spells) .0
 
     -- The image is that of the sheet with its rules in the image's order.
-    limits : WithinLimits (words-first-sheet s)
+    limits : WithinLimits (image-sheet s)
     limits = ordered-limits s (spelled-limits sheet s spells)
 
     readable : ReadableAs image (image-of s)
@@ -167,7 +166,7 @@ runs-own sheet bytes work room image e s spells text lent within long not-short 
     by-question (started i end x z t) =
         let typed = (acceptable .passable .has-type) .1 in
         let same = readable-one image (image-of s) i readable (x .readable) in
-        let ordered = words-first-sheet s in
+        let ordered = image-sheet s in
         let stands = StandsFor ordered limits typed in
         let faithful = image-faithful ordered limits typed (ordered-empty-match (s .rules) (no-empty s sheet room acceptable)) in
         ordered-answer s text

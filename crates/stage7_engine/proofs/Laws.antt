@@ -1,11 +1,11 @@
 -- One law for each way through the engine: what is told, what the stack holds, and that it is the sheet's own answer.
-use mathlib.Core.Path.{_≡_, refl, sym, ap, subst, _∙_}
-use mathlib.Core.Bool.{Bool, true, false, cond}
-use mathlib.Core.List.{List, _++_}
+use mathlib.Core.Path.{_≡_, refl, sym, ap, _∙_}
+use mathlib.Core.Bool.{Bool, cond}
+use mathlib.Core.List.{List}
 use Prim.Native.Nat.{ℕ, _≤_, _<_}
 use native.Mathlib.Omega.{arith}
 use lib.Dec.{ltb}
-use lib.ListN.{length, take, drop, replicate, length-replicate}
+use lib.ListN.{length, take, replicate, length-replicate}
 use borrow.Author.Tests.{lt-ltb, le-ltb, eq-eqb, ne-eqb}
 use Rattle.stage1_sheet.specs.Sheet.{Sheet}
 use Rattle.stage1_sheet.specs.FieldLaws.{Bytes}
@@ -20,7 +20,6 @@ use Rattle.stage5_image.specs.Image.{image-of}
 use Rattle.stage5_image.specs.ReadableImages.{readable-written}
 use Rattle.stage5_image.specs.ImageLength.{image-fits}
 use Rattle.stage4_lexer.specs.EmptyWord.{none-empty}
-use Rattle.stage5_image_compiler.specs.Answer.{case-of}
 use Rattle.stage5_image_compiler.specs.declared.Written.{Written}
 use Rattle.stage5_image_compiler.specs.declared.Written.the-variants.{Done, TooLong, Refused}
 use Rattle.stage6_machine.specs.Answer.{Answer, answer}

@@ -10,7 +10,7 @@ use lib.Seq.{take-all, length-take-le}
 use borrow.Author.Tests.{lt-ltb}
 use Rattle.stage0_laws.specs.Order.{lt-or-le}
 use Rattle.stage1_sheet.specs.Limits.{most-sheet-bytes}
-use Rattle.stage5_image.specs.Check.{work-bytes, failed, after-work, check}
+use Rattle.stage5_image.specs.Check.{work-bytes, after-work, check}
 use Rattle.stage5_image.specs.Write.{Written, refused, too-long, written, after-checking, write}
 use Rattle.stage7_engine.specs.Reading.{answer-within, reading, line-of}
 use Rattle.stage7_engine.specs.Program.{most-program-text, program-room, program-entries, program-line}

@@ -4,7 +4,7 @@ use mathlib.Core.Path.{_≡_}
 use denote.Ref.{now}
 use lib.ListN.{length}
 use Rattle.stage1_sheet.specs.Sheet.{Sheet}
-use Rattle.stage4_lexer.specs.RuleOrder.{words-first-sheet}
+use Rattle.stage4_lexer.specs.RuleOrder.{image-sheet}
 use Rattle.stage5_image.specs.Check as check
 use Rattle.stage5_image.specs.Write.{write}
 use Rattle.stage5_image_checker.specs.Steps.{PassedParts}
@@ -34,14 +34,14 @@ passed c =
     passed-parts _ (k .result) (k .ensures .0) (c .enum-told .given .1)
 
 -- And where its rules are in the image's order.
-ordered : (c : tie.After-in-image-order) → PassedParts (words-first-sheet (passed (c .before) .0)) (c .in-image-order .result)
+ordered : (c : tie.After-in-image-order) → PassedParts (image-sheet (passed (c .before) .0)) (c .in-image-order .result)
 ordered c = let p = passed (c .before) in c .in-image-order .ensures (p .0) (p .2)
 
 in-image-order-requires : tie.Need-in-image-order-requires
 in-image-order-requires c κs = let p = passed c in (p .0, p .2)
 
 write-if-fits-requires : tie.Need-write-if-fits-requires
-write-if-fits-requires c κs = (words-first-sheet (passed (c .before .before) .0), ordered (c .before))
+write-if-fits-requires c κs = (image-sheet (passed (c .before .before) .0), ordered (c .before))
 
 same-length : tie.Need-same-length
 same-length c = search needs
@@ -70,7 +70,7 @@ returns-2 c =
     let p = passed told in
     promised (now (z .args .work))
     (ends-passed (verdict z) (p .0) (length (now (z .args .image))) (p .1)
-    (called .write-if-fits .ensures (words-first-sheet (p .0)) (ordered (called .before .before)))) (k .ensures .1)
+    (called .write-if-fits .ensures (image-sheet (p .0)) (ordered (called .before .before)))) (k .ensures .1)
 
 pub write-spec : {M : Type 1} → statement M
 write-spec =

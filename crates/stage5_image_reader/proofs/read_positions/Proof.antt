@@ -12,6 +12,7 @@ use Rattle.stage4_lexer.specs.Positions.{Position}
 use Rattle.stage5_image.specs.ImageReading.{read-position}
 use Rattle.stage5_image_reader.specs.Answers.{after, positions-in}
 use Rattle.stage5_image_reader.specs.Tables.{PositionsHeld}
+use Rattle.stage4_lexer_classes.specs.JoiningLaws.{holds-more}
 use Rattle.stage5_image_reader.proofs.Positions.{positions-none, positions-more}
 use Rattle.stage5_image_reader.proofs.Turns.{Turns, turns-start, turns-more, turns-refused, turns-end, answers-refused}
 use Rattle.stage5_image_reader.proofs.read_positions.Statement.{statement}
@@ -52,7 +53,7 @@ shl-one-need c = room c
 hold-position-requires : tie.Need-hold-position-requires Inv-loop μ-loop
 hold-position-requires c κs =
     let turn = c .before .before .before .before .before .before in
-    (turn .loop .inv .1, room (c .before), shl-one (turn .loop .i) (room (c .before)))
+    (turn .loop .inv .1, room (c .before))
 
 with-flag-requires : tie.Need-with-flag-requires Inv-loop μ-loop
 with-flag-requires c κs = room (c .before .before)
@@ -75,9 +76,10 @@ loop-again c =
     let ps = l .2 .0 in
     let s = l .2 .2 in
     let held = c .before .before .hold-position .ensures in
-    let more = held .1 ps (eqb (p .result .last) 1) (s .size) (s .held) in (
+    let few = room test in
+    let more = holds-more ps _ _ _ (eqb (p .result .last) 1) _ _ _ _ _ (search needs) (s .size) few (shl-one _ few) held (s .held) in (
       omega arith,
-      held .0,
+      held .size,
       (
         _,
         turns-more (l .2 .1) _ _ (search needs) (p .ensures .0),

@@ -1,6 +1,6 @@
 -- `build` meets its contract: nothing is built where nothing is lent, otherwise what `build_table` builds.
 use borrow.Author.Needs.{needs}
-use mathlib.Core.Path.{sym, ap, subst}
+use mathlib.Core.Path.{subst}
 use Prim.Native.Nat.{ℕ}
 use denote.Ref.{now}
 use Rattle.stage6_machine_lent.proofs.Laws.{none-built, BuiltFrom, some-built, long-both}

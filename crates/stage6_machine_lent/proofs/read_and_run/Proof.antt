@@ -4,7 +4,7 @@ use mathlib.Core.Path.{refl, sym, ap, _∙_}
 use denote.Ref.{now}
 use Rattle.stage1_sheet.specs.FieldLaws.{Bytes}
 use Rattle.stage5_image.specs.ReadableImages.{read-in-range}
-use Rattle.stage4_lexer_tables.specs.HoldingLaws.{holding-none}
+use Rattle.stage4_lexer_classes.specs.HoldingLaws.{holding-none}
 use Rattle.stage5_image_reader.proofs.Whole.{room-whole}
 use Rattle.stage6_machine.specs.RunsLaws.{run-stop, run-got}
 use Rattle.stage6_machine_turn.specs.Steps.{answer-held}

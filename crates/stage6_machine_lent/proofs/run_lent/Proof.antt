@@ -6,7 +6,7 @@ use Rattle.stage6_machine.specs.Lent.{Lent}
 use Rattle.stage6_machine.specs.Runs.{Short}
 use Rattle.stage6_machine.specs.RunsLaws.{short-told, long-told, run-short, run-long}
 use Rattle.stage6_machine_turn.specs.Steps.{answer-held}
-use Rattle.stage6_machine_lent.specs.Lending.{scanner-by, lent-by}
+use Rattle.stage6_machine_lent.specs.Lending.{lent-by}
 use Rattle.stage6_machine_lent.proofs.Laws.{left-alone, none-touched}
 use Rattle.stage6_machine_lent.proofs.run_lent.Statement.{statement}
 use Rattle.stage6_machine_lent.proofs.run_lent.Tie as tie

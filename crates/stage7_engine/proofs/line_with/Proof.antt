@@ -5,7 +5,7 @@ use denote.Ref.{now}
 use lib.ListN.{length}
 use Rattle.stage7_engine.specs.declared.Line.{Line}
 use Rattle.stage5_image.specs.Check.{work-bytes}
-use Rattle.stage7_engine.specs.Program.{program-room, program-entries, program-line, OwnLine}
+use Rattle.stage7_engine.specs.Program.{program-room, program-entries, OwnLine}
 use Rattle.stage7_engine.proofs.Laws.{program-prints}
 use borrow.Author.Needs.{needs}
 use Rattle.stage7_engine.proofs.line_with.Statement.{statement}

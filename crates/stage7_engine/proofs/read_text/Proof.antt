@@ -1,13 +1,13 @@
 -- `stage7_engine::read_text` meets its contract: writing's promise, the machine's, and demand 3.
 use mathlib.Core.Path.{_≡_, sym, ap, subst, _∙_}
 use mathlib.Core.List.{List}
-use Prim.Native.Nat.{ℕ, _≤_}
+use Prim.Native.Nat.{ℕ}
 use native.Mathlib.Omega.{arith}
 use denote.Ref.{now}
 use lib.ListN.{length, take}
 use lib.Seq.{length-take-le}
 use Rattle.stage1_sheet.specs.FieldLaws.{Bytes}
-use Rattle.stage5_image.specs.Write.{write, written}
+use Rattle.stage5_image.specs.Write.{write}
 use Rattle.stage5_image.specs.WriteLaws.{written-passed}
 use Rattle.stage6_machine.specs.Answer.{Answer}
 use Rattle.stage6_machine.specs.Lent.{stack-alone, Ran}

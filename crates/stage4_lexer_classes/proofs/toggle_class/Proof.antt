@@ -1,10 +1,10 @@
--- `stage4_lexer_tables::toggle_class` meets its contract.
+-- `stage4_lexer_classes::toggle_class` meets its contract.
 -- The high byte is not the last one, or it is and has no entry just past it.
 use borrow.Author.Needs.{needs}
 use native.Mathlib.Omega.{arith}
-use Rattle.stage4_lexer_tables.proofs.Toggling.{class-toggled, class-toggled-low}
-use Rattle.stage4_lexer_tables.proofs.toggle_class.Statement.{statement}
-use Rattle.stage4_lexer_tables.proofs.toggle_class.Tie as tie
+use Rattle.stage4_lexer_classes.proofs.Toggling.{class-toggled, class-toggled-low}
+use Rattle.stage4_lexer_classes.proofs.toggle_class.Statement.{statement}
+use Rattle.stage4_lexer_classes.proofs.toggle_class.Tie as tie
 
 mul-tables : tie.Need-mul-tables
 mul-tables c = search needs

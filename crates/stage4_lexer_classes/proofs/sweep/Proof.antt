@@ -1,11 +1,11 @@
--- `stage4_lexer_tables::sweep` meets its contract.
+-- `stage4_lexer_classes::sweep` meets its contract.
 -- The loop's invariant: the sweep has come to `byte`, and carries `set`.
 use mathlib.Core.Path.{refl}
 use Prim.Native.Nat.{_≤_, _-_}
 use native.Mathlib.Omega.{arith}
-use Rattle.stage4_lexer_tables.proofs.Sweeping.{SweptTo, swept-start, swept-more}
-use Rattle.stage4_lexer_tables.proofs.sweep.Statement.{statement}
-use Rattle.stage4_lexer_tables.proofs.sweep.Tie as tie
+use Rattle.stage4_lexer_classes.proofs.Sweeping.{SweptTo, swept-start, swept-more}
+use Rattle.stage4_lexer_classes.proofs.sweep.Statement.{statement}
+use Rattle.stage4_lexer_classes.proofs.sweep.Tie as tie
 
 abbrev Inv-loop : tie.InvT-loop
 Inv-loop tables₀ set₀ byte₀ tables set byte = (byte ≤ 256) × SweptTo tables₀ byte set tables

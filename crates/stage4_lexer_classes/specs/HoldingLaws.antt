@@ -1,14 +1,13 @@
--- After the sweep the tables are what the scanner relies on.
+-- After the sweep the tables are what the scanner relies on. What joins them before is not asked here.
 use mathlib.Core.Path.{_≡_, refl, sym, ap, _∙_}
-use mathlib.Core.Bool.{Bool, true, false, xor, _&&_, _||_}
+use mathlib.Core.Bool.{Bool, true, false, xor, _&&_}
 use mathlib.Core.Bool as B
 use mathlib.Core.List.{List, [], _∷_}
-use mathlib.Core.Logic.{_⊎_, inl, inr}
 use Prim.Native.Nat.{ℕ, zero, suc, _+_, _%_, _≤_, _<_}
 use native.Mathlib.Omega.{arith}
 use native.Mathlib.Nat.{zero-add}
-use lib.Dec.{eqb, ltb, leb·suc-suc}
-use lib.ListN.{length, getD, drop, replicate, getD-replicate}
+use lib.Dec.{ltb, leb·suc-suc}
+use lib.ListN.{length, getD, replicate, getD-replicate}
 use lib.Seq.{getD-drop}
 use borrow.Author.Tests.{eq-eqb, ne-eqb, le-ltb, lt-ltb, ltb-true}
 use Rattle.stage0_laws.specs.Bits.{bit}
@@ -16,12 +15,12 @@ use Rattle.stage0_laws.specs.BitLaws.{bit-xor, bit-zero, bit-ext-all}
 use Rattle.stage4_lexer.specs.Positions.{Position}
 use Rattle.stage4_lexer.specs.Walk.{has-byte}
 use Rattle.stage4_lexer.specs.PositionBounds.{NeverFalling}
-use Rattle.stage4_lexer_classes.specs.ClassTable.{having, ClassTable}
-use Rattle.stage4_lexer_classes.specs.ClassTableLaws.{having-first}
+use Rattle.stage4_lexer_scanner.specs.ClassTable.{having, ClassTable}
+use Rattle.stage4_lexer_scanner.specs.ClassTableLaws.{having-first}
 use Rattle.stage4_lexer_classes.specs.Filling.{edge, swept}
 use Rattle.stage4_lexer_classes.specs.BetweenEdges.{between-first, between-next}
 use Rattle.stage4_lexer_scanner.specs.Meaning.{HeldAt, Prepared}
-use Rattle.stage4_lexer_tables.specs.Holding.{no-position, Holding, SweptOver}
+use Rattle.stage4_lexer_classes.specs.Holding.{no-position, Holding, SweptOver}
 
 -- ---- the positions whose class has a byte, by their places
 

@@ -1,11 +1,8 @@
--- `stage4_lexer_tables::hold_position` meets its contract.
+-- `stage4_lexer_classes::hold_position` meets its contract.
 use borrow.Author.Needs.{needs}
-use native.Mathlib.Omega.{arith}
-use mathlib.Core.Path.{refl}
-use lib.ListN.{length-set}
-use Rattle.stage4_lexer_tables.proofs.Toggling.{holds-more}
-use Rattle.stage4_lexer_tables.proofs.hold_position.Statement.{statement}
-use Rattle.stage4_lexer_tables.proofs.hold_position.Tie as tie
+use Rattle.stage4_lexer_classes.proofs.Toggling.{joined}
+use Rattle.stage4_lexer_classes.proofs.hold_position.Statement.{statement}
+use Rattle.stage4_lexer_classes.proofs.hold_position.Tie as tie
 
 toggle-class-requires : tie.Need-toggle-class-requires
 toggle-class-requires c κs = search needs
@@ -29,12 +26,7 @@ element-write-tables-2 : tie.Need-element-write-tables-2
 element-write-tables-2 c = search needs
 
 returns : tie.Need-returns
-returns c =
-    let s = c .before .before in
-    let g = c .toggle-class .ensures in (
-      simp length-set (g .size),
-      λ ps last size h. holds-more ps _ _ _ last _ _ _ _ _ _ (omega arith) size (s .pre .1) (s .pre .2) g refl h,
-    )
+returns c = joined _ _ _ _ _ _ _ _ (c .before .before .pre .1) (c .toggle-class .ensures)
 
 pub hold-position-spec : {M : Type 1} → statement M
 hold-position-spec =

@@ -1,2 +1,0 @@
-pub mod Toggling
-pub mod Sweeping
