@@ -10,6 +10,7 @@ use lib.ListN.{getD, length, take, length-map}
 use lib.Seq.{length-take-le, getD-take}
 use Rattle.stage0_laws.specs.Bits.{bit}
 use Rattle.stage0_laws.specs.Meeting.{number-of}
+use Rattle.stage0_number.specs.Number.{encode, used-at}
 use Rattle.stage0_number.specs.Splice.{used-at-some, used-at-fits}
 use Rattle.stage3_normal_form_walk.specs.Columns.{tail-held}
 use Rattle.stage3_normal_form_walk.specs.declared.Tail.{Tail}

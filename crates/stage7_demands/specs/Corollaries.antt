@@ -23,7 +23,7 @@ use Rattle.stage2_types.specs.SpelledOutDenotation.{spelled-out-denotes}
 use Rattle.stage2_types.specs.SpelledOutTyping.{spelled-out-has-type}
 use Rattle.stage4_lexer.specs.EmptyWord.{none-empty}
 use Rattle.stage4_lexer.specs.Words.{NoEmptyRule}
-use Rattle.stage4_lexer.specs.RuleOrder.{WordsAbove}
+use Rattle.stage4_lexer.specs.RuleOrder.{WordsAbove, image-sheet}
 use Rattle.stage5_image.specs.Image.{Image, plain-image, image-of, image-bytes}
 use Rattle.stage5_image.specs.ImageFormat.{ReadableAs}
 use Rattle.stage5_image.specs.ImageLength.{image-fits}
@@ -211,6 +211,7 @@ module _ (f : Functions) (demand : Demand2 f) (sheet : List ℕ) (bytes : Bytes 
   -- Its start unfolds to exactly the rule sequences that spell what the spelled-out expression denotes.
   pub spelled-out-unfolds : (image : List ℕ) → f .write sheet work room ≡ written image → (s : Sheet) → Spells sheet s → (rules : List ℕ)
       → StartUnfolds ((image-of s) .rows) rules ↔ DenotedRules (spelled-out-sheet s) rules
+  unfolding image-sheet
   spelled-out-unfolds image h s spells rules =
       let exactly = demand .unfolds-exactly sheet bytes work room image h s spells rules in
       let denotes = spelled-out-denotes (s .expression) in (

@@ -18,7 +18,8 @@ returns c =
     (c .match-by-rows .result) (c .match-by-rows .ensures)
 
 longest-match-requires : tie.Need-longest-match-requires
-longest-match-requires c κs = tt
+longest-match-requires c κs =
+    let w = c .before .before .before .before .pre in (w .2 .positions, w .3 .decoded .positions (w .3 .in-range .never-falling))
 
 returns-2 : tie.Need-returns-2
 returns-2 c =
