@@ -3,7 +3,7 @@
 ghost use mathlib.Core.Path.{_≡_};
 ghost use mathlib.Core.List.{List};
 ghost use Prim.Native.Nat.{ℕ, _≤_};
-ghost use lib.ListN.{length};
+ghost use lib.ListN.{length, replicate};
 ghost use Rattle.stage5_image.specs.Image.{Image};
 ghost use Rattle.stage5_image.specs.ImageRanges.{InRange};
 ghost use Rattle.stage5_image_reader.specs.Decoded.{Decoded, tables-of};
@@ -97,25 +97,26 @@ fn build_and_run<'a>(
     )
 }
 
-// Reads an image and runs it, once no buffer is too short and the text is within the limit.
+// Reads an image into tables that are all zero, and runs it, once no buffer is too short and the text is within the limit.
 fn read_and_run(
     image: &[u8],
     text: &[u8],
+    tables: &mut [u64; 448],
+    productions: &mut [u16; 2048],
     table: &mut [u16],
     winners: &mut [u16],
     by_rows: bool,
     stack: &mut [u8],
 ) -> RunAnswer
-    requires { ⌜ (Short (scanner-by «by_rows» (now table) (now winners)) → ⊥) × (length (now text) ≤ 1048576) ⌝ }
+    requires { ⌜ (Short (scanner-by «by_rows» (now table) (now winners)) → ⊥) × (length (now text) ≤ 1048576)
+        × (now tables ≡ replicate 448 0) × (now productions ≡ replicate 2048 0) ⌝ }
     ensures { λ r.
         ⌜ (ran r (lent-by «by_rows» (now (stack .exit)) (now (table .exit)) (now (winners .exit)))
         ≡ run (now (image .entry)) (now (text .entry))
         (lent-by «by_rows» (now (stack .entry)) (now (table .entry)) (now (winners .entry))))
         × Untouched «by_rows» (now (table .entry)) (now (winners .entry)) (now (table .exit)) (now (winners .exit)) ⌝ }
 {
-    let mut tables = [0u64; 448];
-    let mut productions = [0u16; 2048];
-    let read = stage5_image_reader::read_image(image, &mut tables, &mut productions);
+    let read = stage5_image_reader::read_image(image, tables, productions);
     let outcome = read.outcome;
     if let Outcome::Refused(place) = outcome {
         return stage6_machine_turn::answer(13, place, 0);
@@ -123,8 +124,8 @@ fn read_and_run(
     build_and_run(
         image,
         read,
-        &tables,
-        &productions,
+        tables,
+        productions,
         table,
         winners,
         by_rows,
@@ -133,7 +134,8 @@ fn read_and_run(
     )
 }
 
-// Runs an image over a text. Where `by_rows` is false, the table and the winners are not lent.
+// Runs an image over a text. Where `by_rows` is false, the table and the winners are not lent. Reading is called from two places, as the run is:
+// a function that has the tables among its own locals is slower at all else.
 fn run_lent(
     image: &[u8],
     text: &[u8],
@@ -154,7 +156,30 @@ fn run_lent(
     if 1048576 < text.len() {
         return stage6_machine_turn::answer(12, 0, 0);
     }
-    read_and_run(image, text, table, winners, by_rows, stack)
+    let mut tables = [0u64; 448];
+    let mut productions = [0u16; 2048];
+    if by_rows {
+        return read_and_run(
+            image,
+            text,
+            &mut tables,
+            &mut productions,
+            table,
+            winners,
+            true,
+            stack,
+        );
+    }
+    read_and_run(
+        image,
+        text,
+        &mut tables,
+        &mut productions,
+        table,
+        winners,
+        false,
+        stack,
+    )
 }
 
 // Runs an image over a text with a lent stack, without a table.

@@ -1,10 +1,15 @@
 -- `read_and_run` meets its contract: 13, or the run of the image that was read.
 use borrow.Author.Needs.{needs}
-use mathlib.Core.Path.{refl, sym, ap, _∙_}
+use mathlib.Core.Path.{sym, ap, subst, _∙_}
+use mathlib.Core.List.{List, []}
+use Prim.Native.Nat.{ℕ}
+use lib.ListN.{length, length-replicate}
 use denote.Ref.{now}
 use Rattle.stage1_sheet.specs.FieldLaws.{Bytes}
 use Rattle.stage5_image.specs.ReadableImages.{read-in-range}
+use Rattle.stage4_lexer_classes.specs.Holding.{Holding}
 use Rattle.stage4_lexer_classes.specs.HoldingLaws.{holding-none}
+use Rattle.stage5_image_reader.specs.Tables.{Room}
 use Rattle.stage5_image_reader.proofs.Whole.{room-whole}
 use Rattle.stage6_machine.specs.RunsLaws.{run-stop, run-got}
 use Rattle.stage6_machine_turn.specs.Steps.{answer-held}
@@ -22,7 +27,12 @@ bytes-of : (c : tie.After-read-image) → Bytes (now (start-of c .args .image))
 bytes-of c i = c .before .before .before .before .before .before .before .shared-slice-known .given i .fits
 
 read-image-requires : tie.Need-read-image-requires
-read-image-requires c κs = (refl, holding-none, room-whole)
+read-image-requires c κs =
+    let w = c .before .before .before .before .before .before .before .pre in (
+      ap length (w .2) ∙ length-replicate {A = ℕ} 448 0,
+      subst (Holding []) (sym (w .2)) holding-none,
+      subst (λ (l : List ℕ). Room l 0) (sym (w .3)) room-whole,
+    )
 
 enum-known-outcome : tie.Need-enum-known-outcome
 enum-known-outcome c = search needs

@@ -1,12 +1,17 @@
 -- `run_lent` meets its contract: 18, 12, or the run.
 use borrow.Author.Needs.{needs}
-use mathlib.Core.Path.{sym, ap, _∙_}
+use mathlib.Core.Path.{_≡_, refl, sym, ap, subst, _∙_}
+use mathlib.Core.Bool.{Bool}
+use mathlib.Core.List.{List}
+use Prim.Native.Nat.{ℕ}
 use denote.Ref.{now}
 use Rattle.stage6_machine.specs.Lent.{Lent}
 use Rattle.stage6_machine.specs.Runs.{Short}
+use Rattle.stage6_machine.specs.Run.{run}
 use Rattle.stage6_machine.specs.RunsLaws.{short-told, long-told, run-short, run-long}
 use Rattle.stage6_machine_turn.specs.Steps.{answer-held}
-use Rattle.stage6_machine_lent.specs.Lending.{lent-by}
+use Rattle.stage6_machine_turn.specs.declared.RunAnswer.{RunAnswer}
+use Rattle.stage6_machine_lent.specs.Lending.{scanner-by, lent-by, ran, Untouched}
 use Rattle.stage6_machine_lent.proofs.Laws.{left-alone, none-touched}
 use Rattle.stage6_machine_lent.proofs.run_lent.Statement.{statement}
 use Rattle.stage6_machine_lent.proofs.run_lent.Tie as tie
@@ -67,8 +72,24 @@ returns-2 c =
       none-touched (a .by-rows) _ _,
     )
 
+-- The flag is known once it is asked.
+abbrev Leaves : tie.After-is-short → RunAnswer → List ℕ → List ℕ → List ℕ → Bool → Type 0
+Leaves c r stack' table' winners' b =
+    let a = start-of c .args in
+    (ran r (lent-by b stack' table' winners')
+    ≡ run (now (a .image)) (now (a .text)) (lent-by b (now (a .stack)) (now (a .table)) (now (a .winners))))
+    × Untouched b (now (a .table)) (now (a .winners)) table' winners'
+
 read-and-run-requires : tie.Need-read-and-run-requires
-read-and-run-requires c κs = let passed = c .before .before .before in (long-here (passed .before), passed .if2 .left)
+read-and-run-requires c κs =
+    let then = c .before .before .before .before .before in
+    let passed = then .before in
+    let a = start-of (passed .before .before) .args in (
+      subst (λ (b : Bool). Short (scanner-by b (now (a .table)) (now (a .winners))) → ⊥) (then .if3 .taken) (long-here (passed .before)),
+      passed .if2 .left,
+      refl,
+      refl,
+    )
 
 same-length-5 : tie.Need-same-length-5
 same-length-5 c = search needs
@@ -80,7 +101,32 @@ same-length-7 : tie.Need-same-length-7
 same-length-7 c = search needs
 
 returns-3 : tie.Need-returns-3
-returns-3 c = search needs
+returns-3 c =
+    let read = c .before .before .before .before .before .before in
+    let then = read .before .before .before .before .before .before in
+    let l = read .read-and-run .last .1 .1 .1 .1 in
+    subst (Leaves (then .before .before .before) (read .read-and-run .result) (l .1 .1 .1 .0) (l .0) (l .1 .0)) (sym (then .if3 .taken))
+    (read .read-and-run .ensures)
+
+read-and-run-requires-2 : tie.Need-read-and-run-requires-2
+read-and-run-requires-2 c κs = search needs
+
+same-length-8 : tie.Need-same-length-8
+same-length-8 c = search needs
+
+same-length-9 : tie.Need-same-length-9
+same-length-9 c = search needs
+
+same-length-10 : tie.Need-same-length-10
+same-length-10 c = search needs
+
+returns-4 : tie.Need-returns-4
+returns-4 c =
+    let read = c .before .before .before .before .before .before in
+    let else = read .before .before .before .before .before .before in
+    let l = read .read-and-run2 .last .1 .1 .1 .1 in
+    subst (Leaves (else .before .before .before) (read .read-and-run2 .result) (l .1 .1 .1 .0) (l .0) (l .1 .0)) (sym (else .if3 .left))
+    (read .read-and-run2 .ensures)
 
 pub run-lent-spec : {M : Type 1} → statement M
 run-lent-spec =
@@ -99,4 +145,9 @@ run-lent-spec =
     same-length-5
     same-length-6
     same-length-7
-    returns-3)
+    returns-3
+    read-and-run-requires-2
+    same-length-8
+    same-length-9
+    same-length-10
+    returns-4)
