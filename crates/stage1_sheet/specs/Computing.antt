@@ -1,4 +1,4 @@
--- One name that opens every definition of this stage and of the stages below it, for theorems that compute.
+-- One name that opens every definition that is computed with, of this stage and of those below it, for theorems that compute.
 use Rattle.stage1_sheet.specs.Expression.{size}
 use Rattle.stage1_sheet.specs.Regex.{regex-nodes, class-count}
 use Rattle.stage1_sheet.specs.Spelling.{spell}

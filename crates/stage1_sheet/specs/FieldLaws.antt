@@ -11,8 +11,6 @@ use lib.ListN.{length, drop, length-append}
 use lib.Seq.{drop-length, drop-append-seam, drop-drop}
 use Rattle.stage0_laws.specs.Truth.{holds-true, true-holds, and-both, and-first, and-second, and-true-first, and-true-second}
 use Rattle.stage0_number.specs.Number.{encode}
-use Rattle.stage0_number.specs.declared.Number.{Number}
-use Rattle.stage0_number.specs.declared.Number.the-variants.{Read, Refused}
 use Rattle.stage1_sheet.specs.Spelling.{spell}
 pub use Rattle.stage1_sheet.specs.Spelling.{Bytes}
 use Rattle.stage1_sheet.specs.Field.{Reading, stop, got, and-then, between, read-many}

@@ -1,8 +1,6 @@
 -- Formats: what is written as numbers, one after the other, which question each value fails, and what the numbers make; and the one answer
 -- that bytes have where a format is due. Sheets and images are said so. How bytes are read is not said here.
 use mathlib.Core.Path.{_≡_}
-use mathlib.Core.Bool.{Bool}
-use mathlib.Core.List.{List}
 use mathlib.Core.Option.{Option, none, some}
 use Prim.Native.Nat.{ℕ, _<_}
 use Rattle.stage1_sheet.specs.Field.{Reading, stop, got}

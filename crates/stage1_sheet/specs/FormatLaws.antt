@@ -1,7 +1,6 @@
--- The laws of formats: bytes have exactly one answer, and reading from the left gives it.
+-- The laws of formats: bytes have exactly one answer, and reading from the left gives it. Which formats there are is not asked here.
 use mathlib.Core.Path.{_≡_, refl, sym, ap, subst, subst₂, _∙_}
 use mathlib.Core.Bool.{Bool, true, false, cond}
-use mathlib.Core.List.{List}
 use mathlib.Core.Logic.{_↔_}
 use mathlib.Core.Option.{Option, none, some}
 use Prim.Native.Nat.{ℕ, _+_, _≤_, _<_}

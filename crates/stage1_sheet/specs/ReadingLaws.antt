@@ -10,6 +10,7 @@ use borrow.Author.Tests.{eq-eqb}
 use Rattle.stage0_number.specs.Number.{decode}
 use Rattle.stage0_number.specs.declared.Number.the-variants.{Read, Refused}
 use Rattle.stage1_sheet.specs.Limits.{most-sheet-bytes}
+use Rattle.stage1_sheet.specs.Expression.{size}
 use Rattle.stage1_sheet.specs.Sheet.{Sheet}
 use Rattle.stage1_sheet.specs.Spelling.{Bytes, NumberAt}
 use Rattle.stage1_sheet.specs.WellFormed.{WithinLimits}
@@ -72,6 +73,11 @@ module _ (bytes : List ℕ) where
   -- It keeps the ranges and limits.
   pub contents-limits : (c : Contents) → SpellsContents bytes c → WithinLimits (c .sheet)
   contents-limits c h = made-so (λ p. tt) (h .answered) (sheet-alike (λ p q. Unit)) .1 .limits
+
+  -- There are as many places as rules and as expression nodes.
+  pub contents-places : (c : Contents) → SpellsContents bytes c
+      → (length (c .action-places) ≡ length (c .sheet .rules)) × (length (c .node-places) ≡ size (c .sheet .expression))
+  contents-places c h = let m = made-so (λ p. tt) (h .answered) (sheet-alike (λ p q. Unit)) .1 in (m .actions-many, m .nodes-many)
 
   pub spelled-limits : (s : Sheet) → Spells bytes s → WithinLimits s
   spelled-limits s h = subst WithinLimits (h .2) (contents-limits (h .0) (h .1))

@@ -1,6 +1,6 @@
 -- What the sheet's format makes keeps the page's ranges and limits; and from places that correspond it makes the same sheet, with places that
 -- correspond. Bytes are not named here.
-use mathlib.Core.Path.{_≡_, refl, sym, ap}
+use mathlib.Core.Path.{_≡_, refl, sym, ap, _∙_}
 use mathlib.Core.Bool.{Bool, true, false, not, _||_, cond, true≢false}
 use mathlib.Core.List.{List, [], _∷_, _++_}
 use mathlib.Core.Option.{Option, none, some}
@@ -144,6 +144,7 @@ module _ (S : ℕ → ℕ → Type 0) {A : Type 0} (R : A → A → Type 0) wher
   -- The rules after so many nodes and classes, and their places.
   record RulesMade (tokens count : ℕ) (b : Before) (rs : List Rule) (p q : List ℕ) : Type 0 where
     many : length rs ≡ count
+    placed : length p ≡ count
     allowed : All (RuleInRange tokens) rs
     nodes-most : b .nodes + sum (λ r. regex-nodes (r .regex)) rs ≤ most-regex-nodes
     classes-most : b .classes + sum (λ r. class-count (r .regex)) rs ≤ most-classes
@@ -154,12 +155,13 @@ module _ (S : ℕ → ℕ → Type 0) {A : Type 0} (R : A → A → Type 0) wher
       → Alike S R (rules-format tokens count b next) (rules-format tokens count b then)
   unfolding rules-format
   rules-alike tokens zero b next then k h =
-      h [] [] [] (record { many = refl; allowed = tt; nodes-most = omega (arith, k .0); classes-most = omega (arith, k .1); places = tt })
+      h [] [] [] (record { many = refl; placed = refl; allowed = tt; nodes-most = omega (arith, k .0); classes-most = omega (arith, k .1); places = tt })
   rules-alike tokens (suc count) b next then k h =
       alike-number (between 0 tokens) (λ v. true) (λ v. true) (λ v. refl) (λ action i j a e s.
       regex-alike most-regex-nodes b _ _ k (λ r c x y. rules-alike tokens count c _ _ (y .2) (λ rs p q m.
       h (record { action = action; regex = r } ∷ rs) (i ∷ p) (j ∷ q) (record {
         many = ap suc (m .many);
+        placed = ap suc (m .placed);
         allowed = (
           record { action-allowed = true-between 0 tokens action a .1; bytes-allowed = x },
           m .allowed,
@@ -250,6 +252,8 @@ module _ (S : ℕ → ℕ → Type 0) {A : Type 0} (R : A → A → Type 0) wher
 pub record SameContents (S : ℕ → ℕ → Type 0) (c d : Contents) : Type 0 where
   pub same-sheet : c .sheet ≡ d .sheet
   pub limits : WithinLimits (c .sheet)
+  pub actions-many : length (c .action-places) ≡ length (c .sheet .rules)
+  pub nodes-many : length (c .node-places) ≡ size (c .sheet .expression)
   pub actions : Pairs S (c .action-places) (d .action-places)
   pub nodes : Pairs S (c .node-places) (d .node-places)
 
@@ -272,6 +276,8 @@ sheet-alike S =
         closed = x .closed;
         nodes-most = omega (arith, x .many, x .most);
       };
+      actions-many = r .placed ∙ sym (r .many);
+      nodes-many = omega (arith, x .many);
       actions = r .places;
       nodes = x .places;
     }))))))

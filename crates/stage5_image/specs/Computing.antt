@@ -1,4 +1,4 @@
--- One name that opens every definition of this stage and of the stages below it, for theorems that compute.
+-- One name that opens every definition that is computed with, of this stage and of those below it, for theorems that compute.
 use Rattle.stage5_image.specs.Fusion.{by-rule, fused-from, fused-row, fused}
 use Rattle.stage3_normal_form.specs.Productions.{production-of}
 use Rattle.stage5_image.specs.Numbering.{tail-members, reached, renumbered, renumbered-row, numbered}

@@ -11,7 +11,7 @@ use lib.ListN.{length, getD, take, drop}
 use Rattle.stage0_number.specs.Number.{encode}
 use Rattle.stage1_sheet.specs.Limits.{most-rules, most-byte}
 use Rattle.stage1_sheet.specs.Field.{Reading, stop, got, between}
-use Rattle.stage1_sheet.specs.Format.{Format, done, number, Answer}
+use Rattle.stage1_sheet.specs.Format.{Format, done, number, Asked, Answer}
 use Rattle.stage3_normal_form.specs.Productions.{Production, Row, most-tail}
 use Rattle.stage4_lexer.specs.Positions.{Position}
 use Rattle.stage5_image.specs.Image.{Image}
@@ -82,9 +82,13 @@ pub record FewestAt (bytes : List ℕ) (at n next : ℕ) : Type 0 where
   pub below : n < 2 ^ 64
   pub written : take (next - at) (drop at bytes) ≡ encode n
 
--- The answer to bytes, from a place on, where a format of an image's parts is due: every question is 13.
+-- Every question is 13.
+abbrev pub image-asked : List ℕ → Asked
+image-asked bytes = record { whole = length bytes; missing = 13; leftover = 13 }
+
+-- The answer to bytes, from a place on, where a format of an image's parts is due.
 abbrev pub Answered : List ℕ → {A : Type 0} → Format A → ℕ → Reading A → Type 0
-Answered bytes = Answer (FewestAt bytes) (record { whole = length bytes; missing = 13; leftover = 13 })
+Answered bytes = Answer (FewestAt bytes) (image-asked bytes)
 
 -- The bytes of an image whose values are all in range, "and nothing after".
 abbrev pub ReadableAs : List ℕ → Image → Type 0

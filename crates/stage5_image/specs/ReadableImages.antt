@@ -21,7 +21,7 @@ use Rattle.stage1_sheet.specs.Format.{Format, done, number, Asked, made, left-o
 use Rattle.stage1_sheet.specs.FormatLaws.{judged, asked, read-part, at-end, read, then-same, then-then, answer-one, read-iff}
 use Rattle.stage5_image.specs.Image.{Image, image-numbers, image-bytes}
 use Rattle.stage5_image.specs.ImageReading.{image-field, read-flag, read-list, read-position, read-production, read-row, image-end, read-image}
-use Rattle.stage5_image.specs.ImageFormat.{field, flag-field, many-fields, counted, position-format, production-format, row-format, image-format}
+use Rattle.stage5_image.specs.ImageFormat.{field, flag-field, many-fields, counted, position-format, production-format, row-format, image-format, image-asked}
 use Rattle.stage5_image.specs.ImageFormat.{FewestAt, Answered, ReadableAs, FirstOffence}
 use Rattle.stage5_image.specs.ImageRanges.{InRange}
 use Rattle.stage5_image.specs.FormatParts.{fewest-front, fewest-once, fewest-finds, Leads, unread, through}
@@ -97,17 +97,14 @@ module _ (bytes : List ℕ) where
         over (many-turn (λ least p. suc (p .head)) (production-turn skips count) size 0) _ m₂ _ _ (λ productions m₃. refl)));
   }
 
-  abbrev of-image : Asked
-  of-image = record { whole = length bytes; missing = 13; leftover = 13 }
-
   -- A part, and then what follows it up to the last byte.
   onto : {A X : Type 0} {f : (X : Type 0) → (A → Format X) → Format X} {one : ℕ → Reading A} → InTurn f one → (next : A → Format X) (at : ℕ)
-      (g : A → ℕ → Reading X) → ((a : A) (end : ℕ) → and-then (part (next a) end) (at-end of-image) ≡ g a end)
-      → and-then (part (f X next) at) (at-end of-image) ≡ and-then (one at) g
+      (g : A → ℕ → Reading X) → ((a : A) (end : ℕ) → and-then (part (next a) end) (at-end (image-asked bytes)) ≡ g a end)
+      → and-then (part (f X next) at) (at-end (image-asked bytes)) ≡ and-then (one at) g
   onto {A} {X} {f} {one} t next at g e =
-      ap (λ (r : Reading X). and-then r (at-end of-image)) (t .turn X next at) ∙ then-then (one at) _ (at-end of-image) ∙ then-same (one at) e
+      ap (λ (r : Reading X). and-then r (at-end (image-asked bytes))) (t .turn X next at) ∙ then-then (one at) _ (at-end (image-asked bytes)) ∙ then-same (one at) e
 
-  image-turn : read (decode-fewest bytes) of-image (image-format done) 0 ≡ read-image bytes
+  image-turn : read (decode-fewest bytes) (image-asked bytes) (image-format done) 0 ≡ read-image bytes
   unfolding image-format counted read-image image-end
   image-turn =
       onto (field-turn _) _ 0 _ (λ version m₁. onto (field-turn _) _ m₁ _ (λ rules m₂. onto (list-turn flag-turn rules) _ m₂ _
@@ -119,13 +116,13 @@ module _ (bytes : List ℕ) where
 -- ---- the answer
 
 -- Bytes have one answer: one image or one first offence, and not both.
-image-answer-one : (bytes : List ℕ) {x y : Reading Image} → Answered bytes (image-format done) 0 x → Answered bytes (image-format done) 0 y → x ≡ y
-image-answer-one bytes = answer-one (FewestAt bytes) (of-image bytes) (fewest-once bytes)
+pub image-answer-one : (bytes : List ℕ) {x y : Reading Image} → Answered bytes (image-format done) 0 x → Answered bytes (image-format done) 0 y → x ≡ y
+image-answer-one bytes = answer-one (FewestAt bytes) (image-asked bytes) (fewest-once bytes)
 
 -- The reader gives it.
 pub read-image-iff : (bytes : List ℕ) → Bytes bytes → (x : Reading Image) → (read-image bytes ≡ x) ↔ Answered bytes (image-format done) 0 x
 read-image-iff bytes b x =
-    let iff = read-iff (FewestAt bytes) (of-image bytes) (decode-fewest bytes) (fewest-finds bytes b) (fewest-once bytes) (image-format done) 0 (omega arith) x in
+    let iff = read-iff (FewestAt bytes) (image-asked bytes) (decode-fewest bytes) (fewest-finds bytes b) (fewest-once bytes) (image-format done) 0 (omega arith) x in
     (λ e. iff .0 (image-turn bytes ∙ e), λ a. sym (image-turn bytes) ∙ iff .1 a)
 
 pub readable-one : (bytes : List ℕ) (i j : Image) → ReadableAs bytes i → ReadableAs bytes j → i ≡ j

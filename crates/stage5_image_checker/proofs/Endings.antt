@@ -36,7 +36,7 @@ use Rattle.stage4_lexer_sets.specs.declared.EmptyRule.the-variants as sets
 use Rattle.stage5_image.specs.Check as page
 use Rattle.stage5_image.specs.Check.{work-bytes, after-types, after-rules, after-reading, after-work, check, work-after}
 use Rattle.stage5_image_checker.specs.Answer.{Ends}
-use Rattle.stage5_image_checker.specs.Steps.{SheetOf, PassedParts}
+use Rattle.stage5_image_checker.specs.Steps.{SheetOf}
 use Rattle.stage5_image_checker.specs.declared.CheckedSheet.{CheckedSheet}
 use Rattle.stage5_image_checker.specs.declared.Verdict.the-variants.{Passed, Failed}
 

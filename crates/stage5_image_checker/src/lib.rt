@@ -18,7 +18,7 @@ ghost use Rattle.stage4_lexer.specs.RuleOrder.{image-sheet};
 ghost use Rattle.stage5_image.specs.Check.{after-types, after-rules, after-work, check, check-answer, work-after};
 ghost use Rattle.stage5_image_checker.specs.Answer.{answer-of, case-of, Ends};
 ghost use Rattle.stage5_image_checker.specs.Steps.{SheetOf, PassedParts};
-ghost use Rattle.stage5_image_checker.specs.declared.Verdict.the-variants.{Failed};
+ghost use Rattle.stage5_image_checker.specs.declared.Verdict.the-variants.{Passed, Failed};
 
 const WORK_BYTES: usize = 65536;
 
@@ -156,10 +156,11 @@ pub fn check(sheet: &[u8], work: &mut [u8]) -> Verdict
     checked.verdict
 }
 
-// A sheet that passed, with its rules in the image's order. The questions were asked before, in the order of the sheet.
+// A sheet that passed, with its rules in the image's order. The questions were asked before, in the order of the sheet; what `rules` has as
+// places is left open, since no later step asks for it.
 pub fn in_image_order(checked: CheckedSheet) -> CheckedSheet
     requires { ⌜ ((s : Sheet) × PassedParts s checked) ⌝ }
-    ensures { λ r. ⌜ ((s : Sheet) → PassedParts s checked → PassedParts (image-sheet s) r) ⌝ }
+    ensures { λ r. ⌜ (r .verdict ≡ Passed) × ((s : Sheet) → PassedParts s checked → PassedParts (image-sheet s) r) ⌝ }
 {
     let rules = checked.rules;
     let links = checked.links;

@@ -6,7 +6,6 @@ use stage5_image_numbering::Grammar;
 ghost use mathlib.Core.Path.{_≡_};
 ghost use lib.ListN.{length};
 ghost use Rattle.stage1_sheet.specs.Sheet.{Sheet};
-ghost use Rattle.stage4_lexer.specs.RuleOrder.{image-sheet};
 ghost use Rattle.stage5_image.specs.Image.{plain-image, image-bytes};
 ghost use Rattle.stage5_image.specs.Check.{work-after};
 ghost use Rattle.stage5_image.specs.Write.{fitted, write, write-answer, write-numbers, image-after, written-part};

@@ -1,4 +1,5 @@
 -- `stage5_image_checker::in_image_order` meets its contract.
+use mathlib.Core.Path.{refl}
 use Rattle.stage5_image_checker.proofs.Ordered.{ordered-parts}
 use Rattle.stage5_image_checker.proofs.in_image_order.Statement.{statement}
 use Rattle.stage5_image_checker.proofs.in_image_order.Tie as tie
@@ -9,7 +10,7 @@ words-first-requires c κs = let w = c .before .before .before .pre in (w .0 .ru
 returns : tie.Need-returns
 returns c =
     let k = c .before .before .before .before .args .checked in
-    λ s h. ordered-parts s k h _ (c .words-first .ensures (s .rules) (h .places) (h .rules-held))
+    (refl, λ s h. ordered-parts s k h _ (c .words-first .ensures (s .rules) (h .places) (h .rules-held)))
 
 pub in-image-order-spec : {M : Type 1} → statement M
 in-image-order-spec = tie.close (tie.spec words-first-requires returns)

@@ -35,7 +35,7 @@ passed c =
 
 -- And where its rules are in the image's order.
 ordered : (c : tie.After-in-image-order) → PassedParts (image-sheet (passed (c .before) .0)) (c .in-image-order .result)
-ordered c = let p = passed (c .before) in c .in-image-order .ensures (p .0) (p .2)
+ordered c = let p = passed (c .before) in c .in-image-order .ensures .1 (p .0) (p .2)
 
 in-image-order-requires : tie.Need-in-image-order-requires
 in-image-order-requires c κs = let p = passed c in (p .0, p .2)
