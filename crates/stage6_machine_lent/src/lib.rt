@@ -134,8 +134,8 @@ fn read_and_run(
     )
 }
 
-// Runs an image over a text. Where `by_rows` is false, the table and the winners are not lent. Reading is called from two places, as the run is:
-// a function that has the tables among its own locals is slower at all else.
+// Runs an image over a text. Where `by_rows` is false, the table and the winners are not lent. Reading is called from two
+// places, as the run is, so that the compiler leaves it a function of its own: short texts are read faster then.
 fn run_lent(
     image: &[u8],
     text: &[u8],
