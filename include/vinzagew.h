@@ -1,22 +1,25 @@
 /*
  * Vinzagew: a proved grammar compiler, and the machine that reads by its images.
  *
- * The functions of the static library libvinzagew.a. Their contract is document 01 with requests 1 to 6
- * of document 02; the numbers and places below are the contract's.
+ * The functions of the static library libvinzagew.a. Their contract is docs/REFERENCE.md: section
+ * 11 has the questions with their numbers and places, section 12 what every lent buffer holds at
+ * the end.
  *
- * A sheet and an image are numbers in groups of seven bits, lowest group first, one byte a group, with
- * bit 7 set when another group follows. In a sheet a number may be padded with empty high groups, up to
- * ten bytes. As long as the sheet has at most 4,096 bytes, padding changes neither the number that
- * answers it nor its image; a place counts the bytes of the sheet as it is. In an image every number has
- * the fewest bytes.
+ * A sheet and an image are numbers in groups of seven bits, lowest group first, one byte a group,
+ * with bit 7 set when another group follows. In a sheet a number may be padded with empty high
+ * groups, up to ten bytes. As long as the sheet has at most 4,096 bytes, padding changes neither
+ * the number that answers it nor its image; a place counts the bytes of the sheet as it is. In an
+ * image every number has the fewest bytes.
  *
- * At each place of a text the longest match over all rules wins. Of equally long ones that of a word rule
- * wins over any other, and of two of a kind that of the lower rule in the sheet. A word rule has only
- * empty words, sequences and classes with low = high in its regex, whether it skips or not.
+ * At each place of a text the longest match over all rules wins. Of equally long ones that of a
+ * word rule wins over any other, and of two of a kind that of the lower rule in the sheet. A word
+ * rule has only empty words, sequences and classes with low = high in its regex, whether it skips
+ * or not.
  *
- * Every buffer is a pointer to its first byte (or number) and a length, in bytes (or numbers). All buffers
- * must be valid for their length, pointers must not be null (any address that is not null will do for a
- * length of 0), and no buffer that is written to may overlap another. No function keeps a pointer.
+ * Every buffer is a pointer to its first byte (or number) and a length, in bytes (or numbers). All
+ * buffers must be valid for their length, pointers must not be null (any address that is not null
+ * will do for a length of 0), and no buffer that is written to may overlap another. No function
+ * keeps a pointer.
  */
 #ifndef VINZAGEW_H
 #define VINZAGEW_H
@@ -27,6 +30,9 @@
 #ifdef __cplusplus
 extern "C" {
 #endif
+
+/* The version of the library and of this header. */
+#define VINZAGEW_VERSION "0.1.0"
 
 /* The bytes that the work area must have at least. */
 #define VINZAGEW_WORK_BYTES 65536
@@ -43,7 +49,10 @@ extern "C" {
 /* The most bytes that a text may have. */
 #define VINZAGEW_TEXT_LIMIT 1048576
 
-/* The most members that a production's tail has. A take removes one pending nonterminal at least and adds a tail. */
+/*
+ * The most members that a production's tail has. A take removes one pending nonterminal at least
+ * and adds a tail.
+ */
 #define VINZAGEW_TAIL_LIMIT 32
 
 /* The length of a stack that is enough for every text of n bytes: 1 + 31 times n. */
@@ -62,22 +71,22 @@ extern "C" {
 #define VINZAGEW_SUCCESS 0           /* passed, written or accepted */
 #define VINZAGEW_WORK_TOO_SHORT 1    /* the work area has fewer than 65,536 bytes */
 #define VINZAGEW_SHEET_TOO_LONG 2    /* the sheet has more than 4,096 bytes */
-#define VINZAGEW_BAD_NUMBER 3        /* a number is missing, cut off, over ten bytes long, or 2^64 or more */
+#define VINZAGEW_BAD_NUMBER 3        /* a number is missing, cut off, too long, or 2^64 or more */
 #define VINZAGEW_BAD_VALUE 4         /* a value is not allowed in its field */
 #define VINZAGEW_TOO_MANY_NODES 5    /* a node or class limit is broken with this tag */
 #define VINZAGEW_SHEET_GOES_ON 6     /* bytes are left over after the expression */
 #define VINZAGEW_EMPTY_WORD 7        /* a rule matches the empty word */
 #define VINZAGEW_NOT_GUARDED 8       /* a variable is not guarded */
-#define VINZAGEW_NOT_SEPARABLE 9     /* a sequence is not separable, or a repetition's part from itself */
+#define VINZAGEW_NOT_SEPARABLE 9     /* a sequence, or a repetition's part, is not separable */
 #define VINZAGEW_NOT_APART 10        /* alternatives are not apart */
 #define VINZAGEW_IMAGE_TOO_LONG 11   /* the image does not fit in its buffer */
 #define VINZAGEW_TEXT_TOO_LONG 12    /* the text has more than 1,048,576 bytes */
-#define VINZAGEW_NOT_READABLE 13     /* the image is not readable; one with a padded number is not */
+#define VINZAGEW_NOT_READABLE 13     /* the image is not readable, say by a padded number */
 #define VINZAGEW_NO_MATCH 14         /* no rule matches here */
 #define VINZAGEW_NOT_TAKEN 15        /* no pending nonterminal takes the token */
 #define VINZAGEW_ENDS_EARLY 16       /* at the end, a pending nonterminal is not nullable */
 #define VINZAGEW_STACK_TOO_SHORT 17  /* the stack does not hold all pending nonterminals */
-#define VINZAGEW_TABLE_TOO_SHORT 18  /* `table` has fewer than 65,536 entries, or `winners` fewer than 256 */
+#define VINZAGEW_TABLE_TOO_SHORT 18  /* `table` has under 65,536 entries, or `winners` under 256 */
 #define VINZAGEW_TOO_MANY_ROWS 19    /* the image's table would have more than 256 rows */
 
 /*
@@ -88,14 +97,14 @@ extern "C" {
  *         action, of 8 to 10 the node's tag, otherwise 0
  * out[2]  0
  *
- * A sheet passes (number 0) exactly if there is an image buffer that is long enough for writing it. The
- * first 65,536 bytes of `work` end as zero, except after 1, when none changes; the rest of `work` never
- * changes. Numbers of `out` past the third do not change. If out_len is below 3, nothing happens and
- * nothing changes.
+ * A sheet passes (number 0) exactly if there is an image buffer that is long enough for writing it.
+ * The first 65,536 bytes of `work` end as zero, except after 1, when none changes; the rest of
+ * `work` never changes. Numbers of `out` past the third do not change. If out_len is below 3,
+ * nothing happens and nothing changes.
  */
-void sheet_check(const uint8_t *sheet, size_t sheet_len,
-                 uint8_t *work, size_t work_len,
-                 uint64_t *out, size_t out_len);
+void vinzagew_check(const uint8_t *sheet, size_t sheet_len,
+                    uint8_t *work, size_t work_len,
+                    uint64_t *out, size_t out_len);
 
 /*
  * Writes a sheet's image. The sheet is checked first, whether it was checked before or not.
@@ -105,56 +114,58 @@ void sheet_check(const uint8_t *sheet, size_t sheet_len,
  * out[2]  length: the bytes written on success, the bytes needed after 11, otherwise 0
  *
  * On success the first out[2] bytes of `image` are the image, and the rest are as before; a refusal
- * leaves `image` as it was. The image numbers the word rules first, then all others, each kind in the
- * order of the sheet. `work` ends as after checking. Numbers of `out` past the third do not change. If
- * out_len is below 3, nothing happens and nothing changes.
+ * leaves `image` as it was. The image numbers the word rules first, then all others, each kind in
+ * the order of the sheet. `work` ends as after checking. Numbers of `out` past the third do not
+ * change. If out_len is below 3, nothing happens and nothing changes.
  */
-void sheet_write(const uint8_t *sheet, size_t sheet_len,
-                 uint8_t *work, size_t work_len,
-                 uint8_t *image, size_t image_len,
-                 uint64_t *out, size_t out_len);
+void vinzagew_write(const uint8_t *sheet, size_t sheet_len,
+                    uint8_t *work, size_t work_len,
+                    uint8_t *image, size_t image_len,
+                    uint64_t *out, size_t out_len);
 
 /*
  * Runs an image over a text.
  *
  * out[0]  number, 0 or 12 to 17
- * out[1]  place: on acceptance the text's length; of 13 the place in the image of the first offending
- *         number or leftover byte; of 14 to 17 a place in the text; of 12, 0
+ * out[1]  place: on acceptance the text's length; of 13 the place in the image of the first
+ *         offending number or leftover byte; of 14 to 17 a place in the text; of 12, 0
  * out[2]  count: the tokens taken
  *
- * Of equally long matches that of the image's lowest rule wins: a word rule, if the image is one that
- * sheet_write made and a word rule matches as far. `stack` ends all zero, except after 12 and 13, when it
- * is as it was. Numbers of `out` past the third do not change. If out_len is below 3, nothing happens and
- * nothing changes.
+ * Of equally long matches that of the image's lowest rule wins: a word rule, if the image is one
+ * that vinzagew_write made and a word rule matches as far. `stack` ends all zero, except after 12
+ * and 13, when it is as it was. Numbers of `out` past the third do not change. If out_len is below
+ * 3, nothing happens and nothing changes.
  */
-void image_run(const uint8_t *image, size_t image_len,
-               const uint8_t *text, size_t text_len,
-               uint8_t *stack, size_t stack_len,
-               uint64_t *out, size_t out_len);
+void vinzagew_run(const uint8_t *image, size_t image_len,
+                  const uint8_t *text, size_t text_len,
+                  uint8_t *stack, size_t stack_len,
+                  uint64_t *out, size_t out_len);
 
 /*
- * Runs an image over a text with a table. It is meant for long texts: every run builds its table before it
- * reads the text, and matching then looks up one entry for each byte that it walks. Where no match ends at
- * the last of these bytes, it walks them once more.
+ * Runs an image over a text with a table. It is meant for long texts: every run builds its table
+ * before it reads the text, and matching then looks up one entry for each byte that it walks. Where
+ * no match ends at the last of these bytes, it walks them once more.
  *
- * out[0]  number, 0 or 12 to 19; the order of the questions is 18, 12, 13, 19, then as without a table
+ * out[0]  number, 0 or 12 to 19; the order of the questions is 18, 12, 13, 19, then as without a
+ *         table
  * out[1]  place: as without a table; of 18 and 19, 0
  * out[2]  count: the tokens taken; of 12, 13, 18 and 19, 0
  *
- * Unless 18 or 19 is given, the three numbers and what `stack` holds at the end are those of image_run. After
- * 18, 12, 13 and 19 `stack`, `table` and `winners` are as they were. Otherwise the table stands in the first
- * entries of both, also if the text is refused: for each row and each byte table[row * 256 + byte] is the next
- * row, and winners[row] is the image's rule that wins if a match ends there, or VINZAGEW_NO_WINNER. Row 0 is the
- * start, row 1 the empty set, then comes each set of positions that a byte may keep, in the order first
- * reached, rows in order, bytes rising. Entries past the last row are as they were. Numbers of `out` past the
- * third do not change. If out_len is below 3, nothing happens and nothing changes.
+ * Unless 18 or 19 is given, the three numbers and what `stack` holds at the end are those of
+ * vinzagew_run. After 18, 12, 13 and 19 `stack`, `table` and `winners` are as they were. Otherwise
+ * the table stands in the first entries of both, also if the text is refused: for each row and each
+ * byte table[row * 256 + byte] is the next row, and winners[row] is the image's rule that wins if a
+ * match ends there, or VINZAGEW_NO_WINNER. Row 0 is the start, row 1 the empty set, then comes each
+ * set of positions that a byte may keep, in the order first reached, rows in order, bytes rising.
+ * Entries past the last row are as they were. Numbers of `out` past the third do not change. If
+ * out_len is below 3, nothing happens and nothing changes.
  */
-void image_run_table(const uint8_t *image, size_t image_len,
-                     const uint8_t *text, size_t text_len,
-                     uint16_t *table, size_t table_len,
-                     uint16_t *winners, size_t winners_len,
-                     uint8_t *stack, size_t stack_len,
-                     uint64_t *out, size_t out_len);
+void vinzagew_run_table(const uint8_t *image, size_t image_len,
+                        const uint8_t *text, size_t text_len,
+                        uint16_t *table, size_t table_len,
+                        uint16_t *winners, size_t winners_len,
+                        uint8_t *stack, size_t stack_len,
+                        uint64_t *out, size_t out_len);
 
 #ifdef __cplusplus
 }

@@ -87,11 +87,11 @@ static size_t read_file(const char *name, uint8_t *bytes, size_t room)
 static void run_image(size_t image_length, size_t text_length,
                       uint8_t *stack, size_t stack_length, uint64_t out[3])
 {
-    image_run_table(image, image_length, text, text_length,
-                    table, VINZAGEW_TABLE_ENTRIES, winners, VINZAGEW_WINNER_ENTRIES,
-                    stack, stack_length, out, 3);
+    vinzagew_run_table(image, image_length, text, text_length,
+                       table, VINZAGEW_TABLE_ENTRIES, winners, VINZAGEW_WINNER_ENTRIES,
+                       stack, stack_length, out, 3);
     if (out[0] == VINZAGEW_TOO_MANY_ROWS)
-        image_run(image, image_length, text, text_length, stack, stack_length, out, 3);
+        vinzagew_run(image, image_length, text, text_length, stack, stack_length, out, 3);
 }
 
 /* Writes the image of a sheet that passes, and runs it over a text: number, place and count. */
@@ -104,7 +104,7 @@ static void read_text(size_t sheet_length, size_t text_length, uint64_t out[3])
         fputs("no memory for the stack\n", stderr);
         exit(2);
     }
-    sheet_write(sheet, sheet_length, work, sizeof work, image, sizeof image, out, 3);
+    vinzagew_write(sheet, sheet_length, work, sizeof work, image, sizeof image, out, 3);
     /* With a shorter image buffer this might be 11, and the third number a length and no count. */
     if (out[0] == VINZAGEW_SUCCESS)
         run_image(out[2], text_length, stack, stack_length, out);
@@ -125,7 +125,7 @@ int main(int argc, char **argv)
     size_t sheet_length = read_file(argv[1], sheet, sizeof sheet);
     size_t text_length = argc == 3 ? read_file(argv[2], text, sizeof text) : 0;
 
-    sheet_check(sheet, sheet_length, work, sizeof work, out, 3);
+    vinzagew_check(sheet, sheet_length, work, sizeof work, out, 3);
     if (argc == 3 && out[0] == VINZAGEW_SUCCESS)
         read_text(sheet_length, text_length, out);
 

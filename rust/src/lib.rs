@@ -3,9 +3,9 @@
 //! A *sheet* has lexer rules and one typed context-free expression. [`check`](check()) says whether a
 //! sheet passes, [`write`](write()) turns it into an [`Image`], and [`Image::run`] reads a text by
 //! it; [`Image::run_long`] does so with a table, which is meant for long texts. All four call a static
-//! library whose code is proved to meet its contract, document 01 with requests 1 to 6 of document 02; this
-//! package links it and lends it the buffers that it needs. The places and numbers in this documentation are
-//! those of the contract.
+//! library whose code is proved to meet its contract, which `docs/REFERENCE.md` of the repository has in
+//! words; this package links it and lends it the buffers that it needs. The numbers and places in this
+//! documentation are those of REFERENCE, section 11.
 //!
 //! [`builder`] writes sheets as Rust code. A number of a sheet may be padded with empty high groups, and
 //! [`patch`](patch()) then writes another value into it and moves no byte.
@@ -58,7 +58,7 @@ pub use library::LIBRARY_LINKED;
 pub use patch::{patch, PatchError};
 pub use refusal::{CheckRefusal, Refusal};
 
-use library::{image_run, image_run_table, sheet_check, sheet_write};
+use library::{vinzagew_check, vinzagew_run, vinzagew_run_table, vinzagew_write};
 
 /// The bytes that the work area of [`check_with`] and [`write_into`] must have at least.
 pub const WORK_BYTES: usize = 65_536;
@@ -124,7 +124,7 @@ pub fn check(sheet: &[u8]) -> Result<(), CheckRefusal> {
 /// The first of questions 1 to 10 that is answered with no.
 pub fn check_with(sheet: &[u8], work: &mut [u8]) -> Result<(), CheckRefusal> {
     let mut out = [0; 3];
-    sheet_check(sheet, work, &mut out);
+    vinzagew_check(sheet, work, &mut out);
     let [number, place, _] = out;
     if number == 0 {
         return Ok(());
@@ -171,7 +171,7 @@ pub fn write_into<'a>(
     image: &'a mut [u8],
 ) -> Result<&'a [u8], Refusal> {
     let mut out = [0; 3];
-    sheet_write(sheet, work, image, &mut out);
+    vinzagew_write(sheet, work, image, &mut out);
     let [number, place, length] = out;
     if number == 0 {
         return Ok(&image[..length as usize]);
@@ -194,7 +194,7 @@ pub fn write_into<'a>(
 /// The first of questions 12 to 17 that is answered with no.
 pub fn run_with(image: &[u8], text: &[u8], stack: &mut [u8]) -> Result<usize, Refusal> {
     let mut out = [0; 3];
-    image_run(image, text, stack, &mut out);
+    vinzagew_run(image, text, stack, &mut out);
     ran(out)
 }
 
@@ -219,7 +219,7 @@ pub fn run_with_table(
     stack: &mut [u8],
 ) -> Result<usize, Refusal> {
     let mut out = [0; 3];
-    image_run_table(image, text, table, winners, stack, &mut out);
+    vinzagew_run_table(image, text, table, winners, stack, &mut out);
     ran(out)
 }
 

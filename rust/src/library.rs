@@ -6,13 +6,13 @@
 /// Whether the static library was found when this package was built.
 pub const LIBRARY_LINKED: bool = cfg!(vinzagew_library);
 
-pub use linked::{image_run, image_run_table, sheet_check, sheet_write};
+pub use linked::{vinzagew_check, vinzagew_run, vinzagew_run_table, vinzagew_write};
 
 #[cfg(vinzagew_library)]
 mod linked {
     mod c {
         extern "C" {
-            pub fn sheet_check(
+            pub fn vinzagew_check(
                 sheet: *const u8,
                 sheet_len: usize,
                 work: *mut u8,
@@ -21,7 +21,7 @@ mod linked {
                 out_len: usize,
             );
 
-            pub fn sheet_write(
+            pub fn vinzagew_write(
                 sheet: *const u8,
                 sheet_len: usize,
                 work: *mut u8,
@@ -32,7 +32,7 @@ mod linked {
                 out_len: usize,
             );
 
-            pub fn image_run(
+            pub fn vinzagew_run(
                 image: *const u8,
                 image_len: usize,
                 text: *const u8,
@@ -43,7 +43,7 @@ mod linked {
                 out_len: usize,
             );
 
-            pub fn image_run_table(
+            pub fn vinzagew_run_table(
                 image: *const u8,
                 image_len: usize,
                 text: *const u8,
@@ -61,12 +61,12 @@ mod linked {
     }
 
     /// Checks a sheet: number, place and 0 go to `out[0..3]`.
-    pub fn sheet_check(sheet: &[u8], work: &mut [u8], out: &mut [u64]) {
+    pub fn vinzagew_check(sheet: &[u8], work: &mut [u8], out: &mut [u64]) {
         // SAFETY: each pointer comes from a slice with the length that is passed beside it. The slices
         // that are written to are borrowed for this call alone, so no two overlap. The function keeps
         // no pointer.
         unsafe {
-            c::sheet_check(
+            c::vinzagew_check(
                 sheet.as_ptr(),
                 sheet.len(),
                 work.as_mut_ptr(),
@@ -78,10 +78,10 @@ mod linked {
     }
 
     /// Checks a sheet and writes its image: number, place and length go to `out[0..3]`.
-    pub fn sheet_write(sheet: &[u8], work: &mut [u8], image: &mut [u8], out: &mut [u64]) {
-        // SAFETY: as for `sheet_check`.
+    pub fn vinzagew_write(sheet: &[u8], work: &mut [u8], image: &mut [u8], out: &mut [u64]) {
+        // SAFETY: as for `vinzagew_check`.
         unsafe {
-            c::sheet_write(
+            c::vinzagew_write(
                 sheet.as_ptr(),
                 sheet.len(),
                 work.as_mut_ptr(),
@@ -95,10 +95,10 @@ mod linked {
     }
 
     /// Runs an image over a text: number, place and count go to `out[0..3]`.
-    pub fn image_run(image: &[u8], text: &[u8], stack: &mut [u8], out: &mut [u64]) {
-        // SAFETY: as for `sheet_check`. The image and the text are only read.
+    pub fn vinzagew_run(image: &[u8], text: &[u8], stack: &mut [u8], out: &mut [u64]) {
+        // SAFETY: as for `vinzagew_check`. The image and the text are only read.
         unsafe {
-            c::image_run(
+            c::vinzagew_run(
                 image.as_ptr(),
                 image.len(),
                 text.as_ptr(),
@@ -112,7 +112,7 @@ mod linked {
     }
 
     /// Runs an image over a text with a table: number, place and count go to `out[0..3]`.
-    pub fn image_run_table(
+    pub fn vinzagew_run_table(
         image: &[u8],
         text: &[u8],
         table: &mut [u16],
@@ -120,9 +120,9 @@ mod linked {
         stack: &mut [u8],
         out: &mut [u64],
     ) {
-        // SAFETY: as for `image_run`. The lengths of `table` and `winners` are in entries.
+        // SAFETY: as for `vinzagew_run`. The lengths of `table` and `winners` are in entries.
         unsafe {
-            c::image_run_table(
+            c::vinzagew_run_table(
                 image.as_ptr(),
                 image.len(),
                 text.as_ptr(),
@@ -143,22 +143,22 @@ mod linked {
 #[cfg(not(vinzagew_library))]
 mod linked {
     /// Stands where the library's function would be.
-    pub fn sheet_check(_sheet: &[u8], _work: &mut [u8], _out: &mut [u64]) {
+    pub fn vinzagew_check(_sheet: &[u8], _work: &mut [u8], _out: &mut [u64]) {
         missing();
     }
 
     /// Stands where the library's function would be.
-    pub fn sheet_write(_sheet: &[u8], _work: &mut [u8], _image: &mut [u8], _out: &mut [u64]) {
+    pub fn vinzagew_write(_sheet: &[u8], _work: &mut [u8], _image: &mut [u8], _out: &mut [u64]) {
         missing();
     }
 
     /// Stands where the library's function would be.
-    pub fn image_run(_image: &[u8], _text: &[u8], _stack: &mut [u8], _out: &mut [u64]) {
+    pub fn vinzagew_run(_image: &[u8], _text: &[u8], _stack: &mut [u8], _out: &mut [u64]) {
         missing();
     }
 
     /// Stands where the library's function would be.
-    pub fn image_run_table(
+    pub fn vinzagew_run_table(
         _image: &[u8],
         _text: &[u8],
         _table: &mut [u16],

@@ -1,18 +1,18 @@
--- What is left in `out` and in a buffer: where `out` is short, all as it was; else three stores, and what the engine leaves.
+-- What is left in `out` and in a buffer: where `out` is short, all as it was; else three stores, and what the inner function leaves.
 use mathlib.Core.Path.{_≡_, refl}
 use mathlib.Core.List.{List, [], _∷_}
 use Prim.Native.Nat.{ℕ, _≤_, _<_}
 use native.Mathlib.Omega.{arith}
 use lib.ListN.{length, drop, set}
 use borrow.Author.Tests.{lt-ltb, le-ltb}
-use Rattle.stage5_image.specs.Check.{check-numbers}
-use Rattle.stage5_image.specs.Write.{write-numbers}
-use Rattle.stage5_image_checker.specs.Answer as checker
-use Rattle.stage5_image_checker.specs.declared.Verdict.{Verdict}
-use Rattle.stage5_image_checker.specs.declared.Verdict.the-variants.{Passed, Failed}
-use Rattle.stage5_image_compiler.specs.Answer as compiler
-use Rattle.stage5_image_compiler.specs.declared.Written.{Written}
-use Rattle.stage5_image_compiler.specs.declared.Written.the-variants.{Done, TooLong, Refused}
+use Rattle.image.specs.Answer.{numbers-of}
+use Rattle.sheet_checker.specs.Answer as checker
+use Rattle.sheet_checker.specs.declared.Verdict.{Verdict}
+use Rattle.sheet_checker.specs.declared.Verdict.the-variants.{Passed}
+use Rattle.sheet_checker.specs.declared.Verdict.the-variants as verdict-case
+use Rattle.image_writer.specs.Answer as compiler
+use Rattle.image_writer.specs.declared.Written.{Written}
+use Rattle.image_writer.specs.declared.Written.the-variants.{Done, TooLong, Refused}
 use Rattle.vinzagew.specs.Out.{out-after, if-room}
 
 three-stored : (l : List ℕ) (a b c : ℕ) → 3 ≤ length l → set (set (set l 0 a) 1 b) 2 c ≡ a ∷ b ∷ c ∷ drop 3 l
@@ -39,23 +39,23 @@ module _ (out : List ℕ) where
   after-long after lent h = rw (le-ltb (length out) 3 h)
 
 -- The numbers of each case.
-pub told-passed : (v : Verdict) → v ≡ Passed → 0 ∷ 0 ∷ 0 ∷ [] ≡ check-numbers (checker.answer-of v)
-unfolding check-numbers checker.answer-of
+pub told-passed : (v : Verdict) → v ≡ Passed → 0 ∷ 0 ∷ 0 ∷ [] ≡ numbers-of (checker.answer-of v)
+unfolding numbers-of checker.answer-of
 told-passed v e = rw e
 
-pub told-failed : (v : Verdict) (number place : ℕ) → v ≡ Failed number place → number ∷ place ∷ 0 ∷ [] ≡ check-numbers (checker.answer-of v)
-unfolding check-numbers checker.answer-of
+pub told-failed : (v : Verdict) (number place : ℕ) → v ≡ verdict-case.Refused number place → number ∷ place ∷ 0 ∷ [] ≡ numbers-of (checker.answer-of v)
+unfolding numbers-of checker.answer-of
 told-failed v number place e = rw e
 
 module _ (w : Written) where
-  pub told-done : (length : ℕ) → w ≡ Done length → 0 ∷ 0 ∷ length ∷ [] ≡ write-numbers (compiler.answer-of w)
-  unfolding write-numbers compiler.answer-of
+  pub told-done : (length : ℕ) → w ≡ Done length → 0 ∷ 0 ∷ length ∷ [] ≡ numbers-of (compiler.answer-of w)
+  unfolding numbers-of compiler.answer-of
   told-done length e = rw e
 
-  pub told-long : (needed : ℕ) → w ≡ TooLong needed → 11 ∷ 0 ∷ needed ∷ [] ≡ write-numbers (compiler.answer-of w)
-  unfolding write-numbers compiler.answer-of
+  pub told-long : (needed : ℕ) → w ≡ TooLong needed → 11 ∷ 0 ∷ needed ∷ [] ≡ numbers-of (compiler.answer-of w)
+  unfolding numbers-of compiler.answer-of
   told-long needed e = rw e
 
-  pub told-refused : (number place : ℕ) → w ≡ Refused number place → number ∷ place ∷ 0 ∷ [] ≡ write-numbers (compiler.answer-of w)
-  unfolding write-numbers compiler.answer-of
+  pub told-refused : (number place : ℕ) → w ≡ Refused number place → number ∷ place ∷ 0 ∷ [] ≡ numbers-of (compiler.answer-of w)
+  unfolding numbers-of compiler.answer-of
   told-refused number place e = rw e

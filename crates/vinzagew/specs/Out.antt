@@ -4,16 +4,11 @@ use mathlib.Core.List.{List, [], _∷_, _++_}
 use Prim.Native.Nat.{ℕ}
 use lib.Dec.{ltb}
 use lib.ListN.{length, drop}
-use Rattle.stage6_machine.specs.Answer.{Answer}
 use Rattle.vinzagew.specs.declared.Numbers.{Numbers}
 
 -- The three numbers, one after the other.
 unfoldable pub numbers-held : Numbers → List ℕ
 numbers-held n = n .number ∷ n .place ∷ n .amount ∷ []
-
--- "Running returns number, place, tokens taken"
-unfoldable pub run-numbers : Answer → List ℕ
-run-numbers a = a .number ∷ a .place ∷ a .count ∷ []
 
 -- `out` after three numbers were put there.
 unfoldable pub out-after : List ℕ → List ℕ → List ℕ

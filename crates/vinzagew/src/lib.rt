@@ -1,20 +1,21 @@
 // The library for other languages: checking, writing and running with plain parameters. A buffer passes as a pointer and a length.
 // Nothing is worked out here.
-use stage5_image_checker::Verdict;
-use stage5_image_compiler::Written;
-use stage6_machine_turn::RunAnswer;
+use image_writer::Written;
+use machine_turn::RunAnswer;
+use sheet_checker::Verdict;
 ghost use mathlib.Core.Path.{_≡_};
 ghost use mathlib.Core.List.{[], _∷_};
 ghost use Prim.Native.Nat.{_≤_};
 ghost use lib.ListN.{length};
-ghost use Rattle.stage5_image.specs.Check.{check, check-answer, check-numbers, work-after};
-ghost use Rattle.stage5_image.specs.Write.{write, write-answer, write-numbers, image-after};
-ghost use Rattle.stage5_image_checker.specs.Answer as checker;
-ghost use Rattle.stage5_image_compiler.specs.Answer as compiler;
-ghost use Rattle.stage6_machine.specs.Lent.{stack-alone, with-scanner};
-ghost use Rattle.stage6_machine.specs.Run.{run};
-ghost use Rattle.stage6_machine_turn.specs.Steps.{answer-held};
-ghost use Rattle.vinzagew.specs.Out.{numbers-held, run-numbers, out-after, if-room};
+ghost use Rattle.image.specs.Answer.{numbers-of};
+ghost use Rattle.image.specs.Check.{checked};
+ghost use Rattle.image.specs.Write.{wrote};
+ghost use Rattle.sheet_checker.specs.Answer as checker;
+ghost use Rattle.image_writer.specs.Answer as compiler;
+ghost use Rattle.machine.specs.Lent.{stack-alone, with-scanner};
+ghost use Rattle.machine.specs.Run.{run};
+ghost use Rattle.machine_turn.specs.Steps.{answer-held};
+ghost use Rattle.vinzagew.specs.Out.{numbers-held, out-after, if-room};
 
 // The three numbers of an answer. The third is a length, a count of tokens, or 0 where there is neither.
 struct Numbers {
@@ -35,17 +36,17 @@ fn three(number: u64, place: u64, amount: u64) -> Numbers
 
 // A verdict has no length.
 fn verdict_numbers(verdict: Verdict) -> Numbers
-    ensures { λ r. ⌜ numbers-held r ≡ check-numbers (checker.answer-of verdict) ⌝ }
+    ensures { λ r. ⌜ numbers-held r ≡ numbers-of (checker.answer-of verdict) ⌝ }
 {
     match verdict {
         Verdict::Passed => three(0, 0, 0),
-        Verdict::Failed(number, place) => three(number as u64, place as u64, 0),
+        Verdict::Refused(number, place) => three(number as u64, place as u64, 0),
     }
 }
 
 // Document 01's number, place and length for each way in which writing ends.
 fn written_numbers(written: Written) -> Numbers
-    ensures { λ r. ⌜ numbers-held r ≡ write-numbers (compiler.answer-of written) ⌝ }
+    ensures { λ r. ⌜ numbers-held r ≡ numbers-of (compiler.answer-of written) ⌝ }
 {
     match written {
         Written::Done(length) => three(0, 0, length as u64),
@@ -56,7 +57,7 @@ fn written_numbers(written: Written) -> Numbers
 
 // "Running returns number, place, tokens taken"
 fn run_numbers(ran: RunAnswer) -> Numbers
-    ensures { λ r. ⌜ numbers-held r ≡ run-numbers (answer-held ran) ⌝ }
+    ensures { λ r. ⌜ numbers-held r ≡ numbers-of (answer-held ran) ⌝ }
 {
     three(ran.number as u64, ran.place as u64, ran.count as u64)
 }
@@ -74,17 +75,19 @@ fn put(out: &mut [u64], told: Numbers)
 // Checks a sheet, with a lent work area, and puts number, place and 0 into `out`. Where `out` has fewer than three entries, nothing
 // happens.
 #[no_mangle]
-pub extern "C" fn sheet_check(sheet: &[u8], work: &mut [u8], out: &mut [u64])
+pub extern "C" fn vinzagew_check(sheet: &[u8], work: &mut [u8], out: &mut [u64])
     ensures { λ r.
         ⌜ (now (out .exit) ≡ out-after
-        (check-numbers (check-answer (check (now (sheet .entry)) (length (now (work .entry))))))
+        (numbers-of (checked (now (sheet .entry)) (now (work .entry)) .answer))
         (now (out .entry)))
-        × (now (work .exit) ≡ if-room (now (out .entry)) (work-after (now (work .entry))) (now (work .entry))) ⌝ }
+        × (now (work .exit) ≡ if-room (now (out .entry))
+        (checked (now (sheet .entry)) (now (work .entry)) .work)
+        (now (work .entry))) ⌝ }
 {
     if out.len() < 3 {
         return;
     }
-    let verdict = stage5_image_checker::check(sheet, work);
+    let verdict = sheet_checker::check(sheet, work);
     let told = verdict_numbers(verdict);
     put(out, told);
 }
@@ -92,20 +95,22 @@ pub extern "C" fn sheet_check(sheet: &[u8], work: &mut [u8], out: &mut [u64])
 // Checks a sheet and writes its image into the image buffer, with a lent work area, and puts number, place and length into `out`. Where
 // `out` has fewer than three entries, nothing happens.
 #[no_mangle]
-pub extern "C" fn sheet_write(sheet: &[u8], work: &mut [u8], image: &mut [u8], out: &mut [u64])
+pub extern "C" fn vinzagew_write(sheet: &[u8], work: &mut [u8], image: &mut [u8], out: &mut [u64])
     ensures { λ r.
         ⌜ (now (out .exit) ≡ out-after
-        (write-numbers (write-answer (write (now (sheet .entry)) (length (now (work .entry))) (length (now (image .entry))))))
+        (numbers-of (wrote (now (sheet .entry)) (now (work .entry)) (now (image .entry)) .answer))
         (now (out .entry)))
         × (now (image .exit) ≡ if-room (now (out .entry))
-        (image-after (write (now (sheet .entry)) (length (now (work .entry))) (length (now (image .entry)))) (now (image .entry)))
+        (wrote (now (sheet .entry)) (now (work .entry)) (now (image .entry)) .image)
         (now (image .entry)))
-        × (now (work .exit) ≡ if-room (now (out .entry)) (work-after (now (work .entry))) (now (work .entry))) ⌝ }
+        × (now (work .exit) ≡ if-room (now (out .entry))
+        (wrote (now (sheet .entry)) (now (work .entry)) (now (image .entry)) .work)
+        (now (work .entry))) ⌝ }
 {
     if out.len() < 3 {
         return;
     }
-    let written = stage5_image_compiler::write(sheet, work, image);
+    let written = image_writer::write(sheet, work, image);
     let told = written_numbers(written);
     put(out, told);
 }
@@ -113,10 +118,10 @@ pub extern "C" fn sheet_write(sheet: &[u8], work: &mut [u8], image: &mut [u8], o
 // Runs an image over a text with a lent stack, and puts number, place and count into `out`. Where `out` has fewer than three
 // entries, nothing happens.
 #[no_mangle]
-pub extern "C" fn image_run(image: &[u8], text: &[u8], stack: &mut [u8], out: &mut [u64])
+pub extern "C" fn vinzagew_run(image: &[u8], text: &[u8], stack: &mut [u8], out: &mut [u64])
     ensures { λ r.
         ⌜ (now (out .exit) ≡ out-after
-        (run-numbers (run (now (image .entry)) (now (text .entry)) (stack-alone (now (stack .entry))) .answer))
+        (numbers-of (run (now (image .entry)) (now (text .entry)) (stack-alone (now (stack .entry))) .answer))
         (now (out .entry)))
         × (stack-alone (now (stack .exit)) ≡ if-room (now (out .entry))
         (run (now (image .entry)) (now (text .entry)) (stack-alone (now (stack .entry))) .left)
@@ -125,7 +130,7 @@ pub extern "C" fn image_run(image: &[u8], text: &[u8], stack: &mut [u8], out: &m
     if out.len() < 3 {
         return;
     }
-    let ran = stage6_machine_lent::run(image, text, stack);
+    let ran = image_runner::run(image, text, stack);
     let told = run_numbers(ran);
     put(out, told);
 }
@@ -133,7 +138,7 @@ pub extern "C" fn image_run(image: &[u8], text: &[u8], stack: &mut [u8], out: &m
 // Runs an image over a text with a lent table, winners and stack, and puts number, place and count into `out`. Where `out` has fewer than
 // three entries, nothing happens.
 #[no_mangle]
-pub extern "C" fn image_run_table(
+pub extern "C" fn vinzagew_run_table(
     image: &[u8],
     text: &[u8],
     table: &mut [u16],
@@ -143,7 +148,7 @@ pub extern "C" fn image_run_table(
 )
     ensures { λ r.
         ⌜ (now (out .exit) ≡ out-after
-        (run-numbers (run (now (image .entry)) (now (text .entry))
+        (numbers-of (run (now (image .entry)) (now (text .entry))
         (with-scanner (now (stack .entry)) (now (table .entry)) (now (winners .entry))) .answer))
         (now (out .entry)))
         × (with-scanner (now (stack .exit)) (now (table .exit)) (now (winners .exit)) ≡ if-room (now (out .entry))
@@ -154,7 +159,7 @@ pub extern "C" fn image_run_table(
     if out.len() < 3 {
         return;
     }
-    let ran = stage6_machine_lent::run_table(image, text, table, winners, stack);
+    let ran = image_runner::run_table(image, text, table, winners, stack);
     let told = run_numbers(ran);
     put(out, told);
 }

@@ -1,10 +1,15 @@
-// The program: reads the files `sheet` and `text` of the folder that it runs in, and prints one line. Everything that matters is in
-// the engine, the choice of the line included.
+// The program: reads the files `sheet` and `text` of the folder that it runs in, and prints one
+// line. Its bytes are promised for what was loaded. That the files are loaded and the bytes printed
+// is not, for the contracts of reading and writing do not say it.
 use libc::STDOUT_FILENO;
-use stage7_engine::Line;
+ghost use mathlib.Core.Path.{_≡_};
+ghost use lib.ListN.{take};
 ghost use Rattle.io.specs.Counts.{Counts};
+ghost use Rattle.lines.specs.Lines.{line-bytes};
+ghost use Rattle.text_reader.specs.Program.{program-line, OwnLine};
 
-// Reads a file from its beginning into a buffer, and answers how many bytes it gave; a file that can't be opened counts as empty.
+// Reads a file from its beginning into a buffer, and answers how many bytes it gave; a file that
+// can't be opened counts as empty.
 fn load(name: &[u8], buffer: &mut [u8]) -> usize
     ensures { λ r. ⌜ Counts r (now (buffer .exit)) ⌝ }
 {
@@ -17,31 +22,27 @@ fn load(name: &[u8], buffer: &mut [u8]) -> usize
     count
 }
 
-// A word and two numbers, as a line.
-fn print_two(word: &[u8], number: u64, place: u64) {
-    io::write_all(STDOUT_FILENO, word);
-    io::print_decimal(STDOUT_FILENO, number);
-    io::write_all(STDOUT_FILENO, b" ");
-    io::print_decimal(STDOUT_FILENO, place);
-    io::write_all(STDOUT_FILENO, b"\n");
-}
-
-fn print_line(line: Line) {
-    match line {
-        Line::Sheet(number, place) => print_two(b"sheet ", number as u64, place as u64),
-        Line::Text(number, place) => print_two(b"text ", number as u64, place as u64),
-        Line::Accepted(count) => {
-            io::write_all(STDOUT_FILENO, b"accepted ");
-            io::print_decimal(STDOUT_FILENO, count as u64);
-            io::write_all(STDOUT_FILENO, b"\n");
-        }
-    }
+// Puts the bytes to print at the front of a buffer, and answers how many they are. They are those
+// of the program's line for the sheet and the text; where the sheet is accepted and the text within
+// the limit, that is the line of the sheet's own answer.
+fn put_output(sheet: &[u8], text: &[u8], buffer: &mut [u8; lines::MOST_LINE]) -> usize
+    ensures { λ r.
+        ⌜ (Counts r (now (buffer .exit)))
+        × (take r (now (buffer .exit)) ≡ line-bytes
+        (program-line (now (sheet .entry)) (now (text .entry))))
+        × OwnLine (now (sheet .entry)) (now (text .entry))
+        (program-line (now (sheet .entry)) (now (text .entry))) ⌝ }
+{
+    let line = text_reader::program_line(sheet, text);
+    lines::write_line(line, buffer)
 }
 
 fn main() {
-    let mut sheet = [0u8; stage7_engine::LOADED_SHEET];
-    let mut text = [0u8; stage7_engine::LOADED_TEXT];
+    let mut sheet = [0u8; text_reader::LOADED_SHEET];
+    let mut text = [0u8; text_reader::LOADED_TEXT];
+    let mut line = [0u8; lines::MOST_LINE];
     let sheet_size = load(b"sheet", &mut sheet);
     let text_size = load(b"text", &mut text);
-    print_line(stage7_engine::program_line(&sheet[..sheet_size], &text[..text_size]));
+    let size = put_output(&sheet[..sheet_size], &text[..text_size], &mut line);
+    io::write_all(STDOUT_FILENO, &line[..size]);
 }

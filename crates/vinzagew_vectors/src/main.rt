@@ -1,12 +1,12 @@
-// Outside vectors through the engine: reads the files `sheets` (checked, and then written), `read`, `run`, `table` and `program`, a case a
+// Outside vectors through the library: reads the files `sheets` (checked, and then written), `read`, `run`, `table` and `program`, a case a
 // line, and prints a line for each. Lent buffers are filled with a pattern first, and a line also says whether they ended as they must.
 // Nothing is promised here: what checking, writing and running do is in the contracts of the crates that are called.
+use image_writer::Written;
 use libc::STDOUT_FILENO;
-use stage5_image_checker::Verdict;
-use stage5_image_compiler::Written;
-use stage6_machine_turn::RunAnswer;
-use stage7_engine::Line;
-use stage7_engine::TextRead;
+use lines::Line;
+use machine_turn::RunAnswer;
+use sheet_checker::Verdict;
+use text_reader::TextRead;
 ghost use mathlib.Core.Path.{_≡_};
 ghost use Prim.Native.Nat.{_+_, _*_, _^_, _%_, _≤_, _<_};
 ghost use lib.ListN.{length};
@@ -42,7 +42,7 @@ const NOT_LENT: u8 = 255;
 const MOST_TEXT: usize = 1048576;
 
 // A stack that is long enough for a text of 2,048 bytes.
-const LONG_STACK: usize = 1 + stage3_normal_form::MOST_GROWTH * 2048;
+const LONG_STACK: usize = 1 + normal_form::MOST_GROWTH * 2048;
 
 // The fields of a line: numbers in decimal and bytes in hexadecimal, each with a blank after it. A `-` stands for no bytes. Nothing
 // here judges a file that is written otherwise: its lines are other cases.
@@ -172,13 +172,6 @@ fn show_numbers(first: u64, second: u64, third: u64) {
     io::print_decimal(STDOUT_FILENO, third);
 }
 
-// A word and two numbers, as a line.
-fn show_place(bytes: &[u8], first: u64, second: u64) {
-    io::write_all(STDOUT_FILENO, bytes);
-    show_pair(first, second);
-    io::write_all(STDOUT_FILENO, b"\n");
-}
-
 // The end of a line: whether the lent buffers ended as they must.
 fn show_judgement(right: bool) {
     if right {
@@ -253,7 +246,7 @@ fn buffers_right(number: u8, written: usize, work: &[u8], image: &[u8]) -> bool 
 // What checking answered: number and place, and whether the work area ended as it must.
 fn show_verdict(verdict: Verdict, work: &[u8]) {
     match verdict {
-        Verdict::Failed(number, place) => {
+        Verdict::Refused(number, place) => {
             show_pair(number as u64, place as u64);
             show_judgement(work_right(number, work));
         }
@@ -270,7 +263,7 @@ fn check_with(sheet: &[u8], work_size: usize, work: &mut [u8; WORK]) {
     if work.len() < work_size {
         return;
     }
-    let verdict = stage5_image_checker::check(sheet, &mut work[..work_size]);
+    let verdict = sheet_checker::check(sheet, &mut work[..work_size]);
     show_verdict(verdict, work);
 }
 
@@ -322,11 +315,7 @@ fn write_with(
     if image.len() < image_size {
         return;
     }
-    let written = stage5_image_compiler::write(
-        sheet,
-        &mut work[..work_size],
-        &mut image[..image_size],
-    );
+    let written = image_writer::write(sheet, &mut work[..work_size], &mut image[..image_size]);
     show_written(written, work, image);
 }
 
@@ -379,9 +368,9 @@ fn stack_right(number: u8, size: usize, stack: &[u8]) -> bool {
 // Runs an image over a text with the front of the stack.
 fn run_front(image: &[u8], input: &[u8], stack_size: usize, stack: &mut [u8]) -> RunAnswer {
     if stack.len() < stack_size {
-        return stage6_machine_turn::answer(NOT_LENT, 0, 0);
+        return machine_turn::answer(NOT_LENT, 0, 0);
     }
-    stage6_machine_lent::run(image, input, &mut stack[..stack_size])
+    image_runner::run(image, input, &mut stack[..stack_size])
 }
 
 // And shows the answer, and whether the stack ended as it must.
@@ -578,15 +567,15 @@ fn run_table_front(
     stack: &mut [u8],
 ) -> RunAnswer {
     if table.len() < table_size {
-        return stage6_machine_turn::answer(NOT_LENT, 0, 0);
+        return machine_turn::answer(NOT_LENT, 0, 0);
     }
     if winners.len() < winners_size {
-        return stage6_machine_turn::answer(NOT_LENT, 0, 0);
+        return machine_turn::answer(NOT_LENT, 0, 0);
     }
     if stack.len() < stack_size {
-        return stage6_machine_turn::answer(NOT_LENT, 0, 0);
+        return machine_turn::answer(NOT_LENT, 0, 0);
     }
-    stage6_machine_lent::run_table(
+    image_runner::run_table(
         image,
         input,
         &mut table[..table_size],
@@ -654,7 +643,7 @@ fn table_longest(input: &[u8; 1048576]) {
     table_with(b"", input, 65536, 256, STACK);
 }
 
-// Has the engine read a text by a sheet. The buffers are arrays, so that their lengths are known from their types.
+// Has a text read by a sheet. The buffers are arrays, so that their lengths are known from their types.
 fn read_with(
     sheet: &[u8],
     input: &[u8],
@@ -663,7 +652,7 @@ fn read_with(
     image: &mut [u8; IMAGE],
     stack: &mut [u8; LONG_STACK],
 ) -> TextRead {
-    stage7_engine::read_text(sheet, input, limit, work, image, stack)
+    text_reader::read_text(sheet, input, limit, work, image, stack)
 }
 
 // A case: the sheet, and the text. There is as much room as the program lends.
@@ -711,19 +700,14 @@ fn program_case(text: &[u8], at: usize) -> Line
     let input_at = after_blank(text, at);
     let sheet_size = bytes_field(text, at, &mut sheet);
     let input_size = bytes_field(text, input_at, &mut input);
-    stage7_engine::program_line(&sheet[..sheet_size], &input[..input_size])
+    text_reader::program_line(&sheet[..sheet_size], &input[..input_size])
 }
 
+// A line, as the program prints it.
 fn show_line(line: Line) {
-    match line {
-        Line::Sheet(number, place) => show_place(b"sheet ", number as u64, place as u64),
-        Line::Text(number, place) => show_place(b"text ", number as u64, place as u64),
-        Line::Accepted(count) => {
-            show_word(b"accepted ");
-            io::print_decimal(STDOUT_FILENO, count as u64);
-            show_word(b"\n");
-        }
-    }
+    let mut buffer = [0u8; lines::MOST_LINE];
+    let size = lines::write_line(line, &mut buffer);
+    show_word(&buffer[..size]);
 }
 
 // The files, and what a line of each asks for.

@@ -1,7 +1,8 @@
 //! Measures checking, writing and running beside plain Rust code, in the same process, and prints
 //! Markdown.
 //!
-//! `cargo run --release --bin bench`. Running is measured on accepted texts of up to 1 MiB and of 8 bytes,
+//! `cargo run --release --bin bench`, and with `-- --chart FILE` after it the speeds of running are also drawn
+//! into an SVG file ([`chart`]). Running is measured on accepted texts of up to 1 MiB and of 8 bytes,
 //! and compared with [`baseline`]; [`running`] does this. It is also measured with rules that all skip, so
 //! that nothing but scanning is left. Running with a table is compared with [`baseline::table`], on the same
 //! texts, and on the empty text, so that nothing but building the table is left. Without a table a run over the
@@ -13,6 +14,7 @@
 //! turns; so do the two spellings of a grammar, with fixed points and with repetitions.
 
 mod baseline;
+mod chart;
 #[cfg(test)]
 #[path = "../../tests/common/mod.rs"]
 mod common;
@@ -23,7 +25,10 @@ mod running;
 mod sheets;
 
 use sheets::Case;
+use std::ffi::OsString;
+use std::path::{Path, PathBuf};
 use std::time::{Duration, Instant};
+use std::{env, fs, process};
 use vinzagew::builder::Sheet;
 use vinzagew::{check_with, write_into, IMAGE_BYTES, LIBRARY_LINKED, WORK_BYTES};
 
@@ -38,10 +43,14 @@ fn black_box<T: Copy>(value: T) -> T {
 }
 
 fn main() {
+    let chart_file = chart_file();
     if !LIBRARY_LINKED {
         println!("The library was not linked: only the other side is measured.\n");
     }
-    running::tables();
+    let speeds = running::tables();
+    if let Some(file) = chart_file {
+        write_chart(&file, &chart::chart(running::SMALL_STACK, &speeds));
+    }
 
     println!("\nChecking and writing, {ROUNDS} rounds, median:\n");
     println!(
@@ -55,6 +64,26 @@ fn main() {
         same_verdicts(case, &mut work);
         same_images(case, &mut work, &mut image);
         sheet_row(case, &mut work, &mut image);
+    }
+}
+
+/// The file that the words after the program's name say the chart goes to, if they name one.
+fn chart_file() -> Option<PathBuf> {
+    let words: Vec<OsString> = env::args_os().skip(1).collect();
+    match &words[..] {
+        [] => None,
+        [option, file] if *option == "--chart" => Some(file.into()),
+        _ => {
+            eprintln!("usage: bench [--chart FILE]");
+            process::exit(2)
+        }
+    }
+}
+
+fn write_chart(file: &Path, svg: &str) {
+    if let Err(error) = fs::write(file, svg) {
+        eprintln!("{}: {error}", file.display());
+        process::exit(1);
     }
 }
 

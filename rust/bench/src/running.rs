@@ -5,16 +5,17 @@
 //! pending nonterminals too, and the difference of the two is held against clearing alone.
 
 use crate::baseline::table::Lent;
+use crate::chart::Speeds;
 use crate::grammars::{self, Grammar};
 use crate::{baseline, black_box, image_bytes, median, ratio, sheets, shown, time, ROUNDS};
 use std::time::Duration;
-use vinzagew::library::{image_run, image_run_table};
+use vinzagew::library::{vinzagew_run, vinzagew_run_table};
 use vinzagew::{stack_length, LIBRARY_LINKED, TABLE_ENTRIES, TEXT_LIMIT, WINNER_ENTRIES};
 use vinzagew_reference::image::Image;
 use vinzagew_reference::Table;
 
 /// The entries of the small stack. Every text that is measured is accepted on it.
-const SMALL_STACK: usize = 4_096;
+pub const SMALL_STACK: usize = 4_096;
 
 /// The buffers that are lent to all runs.
 struct Buffers {
@@ -99,9 +100,9 @@ impl<'a> Case<'a> {
         let (table, winners) = (&mut buffers.table, &mut buffers.winners);
         let mut out = [0; 3];
         if self.with_table {
-            image_run_table(image, text, table, winners, stack, &mut out);
+            vinzagew_run_table(image, text, table, winners, stack, &mut out);
         } else {
-            image_run(image, text, stack, &mut out);
+            vinzagew_run(image, text, stack, &mut out);
         }
         black_box(out)
     }
@@ -162,6 +163,11 @@ impl Figures {
         tokens
     }
 
+    /// How fast the library and the baseline read a text, in MiB/s.
+    fn speeds(&self, text: &[u8]) -> [Option<f64>; 2] {
+        [self.library, self.baseline].map(|time| time.map(speed(text)))
+    }
+
     /// The two times in some unit, and the ratio.
     fn columns(&self, in_unit: impl Fn(Duration) -> f64) -> String {
         format!(
@@ -199,20 +205,30 @@ fn measure_alone(case: &Case, repeats: u32, buffers: &mut Buffers) -> Figures {
     figures.remove(0)
 }
 
-/// Prints all tables on running.
-pub fn tables() {
+/// Prints all tables on running, and gives the speeds on the small stack.
+pub fn tables() -> Vec<Speeds> {
     let buffers = &mut Buffers::new();
     let grammars = grammars::all();
-    small_stack_table(&grammars, buffers);
+    let without_table = small_stack_table(&grammars, buffers);
     long_enough_stack_table(&grammars, buffers);
     clearing_table(&grammars, buffers);
-    with_table_table(&grammars, buffers);
+    let with_table = with_table_table(&grammars, buffers);
     scanning_table(&grammars::scanning_alone(), buffers);
     short_table(&grammars, buffers);
     short_with_table_table(&grammars, buffers);
     reading_table(buffers);
     building_table(&grammars, buffers);
     pair_table(&grammars::pairs(), buffers);
+    let speeds = with_table.into_iter().zip(without_table);
+    grammars
+        .iter()
+        .zip(speeds)
+        .map(|(grammar, (with_table, without_table))| Speeds {
+            name: grammar.name,
+            with_table,
+            without_table,
+        })
+        .collect()
 }
 
 /// How many mebibytes of a text are read in a second, if all is read in some time.
@@ -221,13 +237,16 @@ fn speed(text: &[u8]) -> impl Fn(Duration) -> f64 {
     move |time| mebibytes / time.as_secs_f64()
 }
 
-fn small_stack_table(grammars: &[Grammar], buffers: &mut Buffers) {
+/// Gives the two speeds of each grammar.
+fn small_stack_table(grammars: &[Grammar], buffers: &mut Buffers) -> Vec<[Option<f64>; 2]> {
     println!("Running on a stack of {SMALL_STACK} entries, {ROUNDS} rounds, median:\n");
     println!("| Grammar | Image bytes | Positions | Text bytes | Tokens | Library, MiB/s | Baseline, MiB/s | Library time / baseline time |");
     println!("|---|---|---|---|---|---|---|---|");
+    let mut speeds = Vec::new();
     for grammar in grammars {
         let case = Case::small_stack(grammar, &grammar.text);
         let figures = measure_alone(&case, 1, buffers);
+        speeds.push(figures.speeds(case.text));
         println!(
             "| {} | {} | {} | {} | {} | {} |",
             case.name,
@@ -238,6 +257,7 @@ fn small_stack_table(grammars: &[Grammar], buffers: &mut Buffers) {
             figures.columns(speed(case.text)),
         );
     }
+    speeds
 }
 
 fn long_enough_stack_table(grammars: &[Grammar], buffers: &mut Buffers) {
@@ -306,11 +326,12 @@ fn clearing_times(grammar: &Grammar, buffers: &mut Buffers) -> [Option<Duration>
     times.map(|mut times| median(&mut times))
 }
 
-/// Building the table is part of each run.
-fn with_table_table(grammars: &[Grammar], buffers: &mut Buffers) {
+/// Building the table is part of each run. Gives the two speeds of each grammar on the small stack.
+fn with_table_table(grammars: &[Grammar], buffers: &mut Buffers) -> Vec<[Option<f64>; 2]> {
     println!("\nRunning with a table, on a stack of {SMALL_STACK} entries and on a long enough one, {ROUNDS} rounds, median:\n");
     println!("| Grammar | Rows | Stack entries | Library, MiB/s | Baseline, MiB/s | Library time / baseline time |");
     println!("|---|---|---|---|---|---|");
+    let mut speeds = Vec::new();
     for grammar in grammars {
         for case in [
             Case::small_stack(grammar, &grammar.text).with_table(),
@@ -318,6 +339,9 @@ fn with_table_table(grammars: &[Grammar], buffers: &mut Buffers) {
         ] {
             let figures = measure_alone(&case, 1, buffers);
             assert!(figures.tokens() > 0, "{}", case.name);
+            if case.room == SMALL_STACK {
+                speeds.push(figures.speeds(case.text));
+            }
             println!(
                 "| {} | {} | {} | {} |",
                 case.name,
@@ -327,6 +351,7 @@ fn with_table_table(grammars: &[Grammar], buffers: &mut Buffers) {
             );
         }
     }
+    speeds
 }
 
 fn shown_rows(case: &Case) -> String {

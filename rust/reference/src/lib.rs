@@ -1,8 +1,8 @@
 //! A plain implementation of checking sheets, writing their images and running images.
 //!
-//! It was written from the contract (document 01 with requests 1 to 6 of document 02) alone, without a
-//! look at the proved code, and it is made to be read, not to be fast. Its four main functions,
-//! [`sheet_check`], [`sheet_write`], [`image_run`] and [`image_run_table`], have the same results and the
+//! It was written from the owner's contract alone (`docs/REFERENCE.md` renders it), without a look at the
+//! proved code, and it is made to be read, not to be fast. Its four main functions,
+//! [`vinzagew_check`], [`vinzagew_write`], [`vinzagew_run`] and [`vinzagew_run_table`], have the same results and the
 //! same effects on every buffer as the functions of the static library, so that the two can be compared to
 //! the last byte.
 //!
@@ -43,8 +43,8 @@ pub mod table;
 pub mod types;
 
 pub use answer::answer;
-pub use machine::{image_run, run, Ran};
-pub use table::{image_run_table, run_table, Table};
+pub use machine::{run, vinzagew_run, Ran};
+pub use table::{run_table, vinzagew_run_table, Table};
 
 use sheet::Sheet;
 
@@ -137,7 +137,7 @@ pub fn write(sheet: &[u8], work: &mut [u8], image: &mut [u8]) -> Written {
 /// [`check`] with the results of the C interface: number, place and 0 in `out[0..3]`.
 ///
 /// An `out` shorter than 3 is left untouched, and nothing else happens.
-pub fn sheet_check(sheet: &[u8], work: &mut [u8], out: &mut [u64]) {
+pub fn vinzagew_check(sheet: &[u8], work: &mut [u8], out: &mut [u64]) {
     if let Some(out) = out.get_mut(..3) {
         let (number, place) = match check(sheet, work) {
             Ok(_) => (0, 0),
@@ -150,7 +150,7 @@ pub fn sheet_check(sheet: &[u8], work: &mut [u8], out: &mut [u64]) {
 /// [`write`](write()) with the results of the C interface: number, place and length in `out[0..3]`.
 ///
 /// An `out` shorter than 3 is left untouched, and nothing else happens.
-pub fn sheet_write(sheet: &[u8], work: &mut [u8], image: &mut [u8], out: &mut [u64]) {
+pub fn vinzagew_write(sheet: &[u8], work: &mut [u8], image: &mut [u8], out: &mut [u64]) {
     if let Some(out) = out.get_mut(..3) {
         let written = write(sheet, work, image);
         out.copy_from_slice(&[written.number, written.place as u64, written.length as u64]);

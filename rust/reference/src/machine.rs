@@ -39,7 +39,7 @@ pub fn run(image: &[u8], text: &[u8], stack: &mut [u8]) -> Ran {
 /// [`run`] with the results of the C interface: number, place and count in `out[0..3]`.
 ///
 /// An `out` shorter than 3 is left untouched, and nothing else happens.
-pub fn image_run(image: &[u8], text: &[u8], stack: &mut [u8], out: &mut [u64]) {
+pub fn vinzagew_run(image: &[u8], text: &[u8], stack: &mut [u8], out: &mut [u64]) {
     if let Some(out) = out.get_mut(..3) {
         let ran = run(image, text, stack);
         out[0] = ran.number;

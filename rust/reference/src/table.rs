@@ -161,7 +161,7 @@ pub fn run_table(
 /// [`run_table`] with the results of the C interface: number, place and count in `out[0..3]`.
 ///
 /// An `out` shorter than 3 is left untouched, and nothing else happens.
-pub fn image_run_table(
+pub fn vinzagew_run_table(
     image: &[u8],
     text: &[u8],
     table: &mut [u16],

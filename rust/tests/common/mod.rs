@@ -47,18 +47,18 @@ pub struct Engine {
 
 pub const REFERENCE: Engine = Engine {
     name: "reference",
-    check: vinzagew_reference::sheet_check,
-    write: vinzagew_reference::sheet_write,
-    run: vinzagew_reference::image_run,
-    run_table: vinzagew_reference::image_run_table,
+    check: vinzagew_reference::vinzagew_check,
+    write: vinzagew_reference::vinzagew_write,
+    run: vinzagew_reference::vinzagew_run,
+    run_table: vinzagew_reference::vinzagew_run_table,
 };
 
 pub const LIBRARY: Engine = Engine {
     name: "library",
-    check: vinzagew::library::sheet_check,
-    write: vinzagew::library::sheet_write,
-    run: vinzagew::library::image_run,
-    run_table: vinzagew::library::image_run_table,
+    check: vinzagew::library::vinzagew_check,
+    write: vinzagew::library::vinzagew_write,
+    run: vinzagew::library::vinzagew_run,
+    run_table: vinzagew::library::vinzagew_run_table,
 };
 
 /// The reference, and the library if it was linked.

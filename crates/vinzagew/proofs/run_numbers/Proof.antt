@@ -1,7 +1,7 @@
 -- `vinzagew::run_numbers` meets its contract: the three numbers of a run's answer.
 use borrow.Author.Needs.{needs}
-use Rattle.stage6_machine_turn.specs.Steps.{answer-held}
-use Rattle.vinzagew.specs.Out.{run-numbers}
+use Rattle.machine_turn.specs.Steps.{answer-held}
+use Rattle.image.specs.Answer.{numbers-of}
 use Rattle.vinzagew.proofs.run_numbers.Statement.{statement}
 use Rattle.vinzagew.proofs.run_numbers.Tie as tie
 
@@ -12,7 +12,7 @@ three-requires : tie.Need-three-requires
 three-requires c κs = search needs
 
 returns : tie.Need-returns
-unfolding answer-held run-numbers
+unfolding answer-held numbers-of
 returns c = c .three .ensures
 
 pub run-numbers-spec : {M : Type 1} → statement M

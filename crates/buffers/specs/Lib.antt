@@ -1,0 +1,3 @@
+-- Buffers with their front cleared.
+pub mod Cleared
+pub mod laws

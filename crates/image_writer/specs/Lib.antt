@@ -1,0 +1,3 @@
+-- What writing answers.
+pub mod Answer
+pub mod laws

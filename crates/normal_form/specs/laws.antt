@@ -1,0 +1,20 @@
+-- The laws of this crate's definitions, proved; and what only their proofs use.
+pub mod Computing
+pub mod ProductionLaws
+pub mod Places
+pub mod Descent
+pub mod RowEquations
+pub mod NodeLanguages
+pub mod Unfolding
+pub mod Pending
+pub mod DerivesExact
+pub mod KeptRows
+pub mod RowTypes
+pub mod NormalFormLaws
+pub mod NullExact
+pub mod Tails
+pub mod Examples
+pub mod Expansion
+pub mod TailNodes
+pub mod ProductionWalkLaws
+pub mod WalkExamples

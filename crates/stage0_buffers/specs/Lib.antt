@@ -1,2 +1,0 @@
--- Buffers with their front cleared.
-pub mod Cleared

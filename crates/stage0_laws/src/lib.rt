@@ -1,1 +1,0 @@
-// Laws that several stages share: definitions and proofs alone, in specs/. This crate has no code.

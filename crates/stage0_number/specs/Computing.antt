@@ -1,6 +1,0 @@
--- One name that opens every definition of this stage and of the stages below it, for theorems that compute.
-use Rattle.stage0_number.specs.Number.{count, value, highest, followed, front, fewest, judged, number-from, decode, unpadded, decode-fewest, encode-in, encode, splice, used, written, used-at, written-at}
-
-unfoldable pub computing-number : Unit {0}
-unfolding count value highest followed front fewest judged number-from decode unpadded decode-fewest encode-in encode splice used written used-at written-at
-computing-number = tt

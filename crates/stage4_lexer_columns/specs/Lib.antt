@@ -1,2 +1,0 @@
--- The positions that columns hold.
-pub mod Held

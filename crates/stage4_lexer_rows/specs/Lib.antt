@@ -1,4 +1,0 @@
--- What a walk by the rows of a table relies on, and that the table of some positions has it. The walk itself is defined in stage4_lexer,
--- and how a table is filled is not said here.
-pub mod Rows
-pub mod BuiltRows

@@ -1,2 +1,0 @@
--- What writing answers.
-pub mod Answer

@@ -1,3 +1,0 @@
--- What writing numbers leaves, and the numbers of an image part by part.
-pub mod Emitted
-pub mod Parts

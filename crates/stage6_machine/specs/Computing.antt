@@ -1,9 +1,0 @@
--- One name that opens every definition of this stage and of the stages below it, for theorems that compute.
-use Rattle.stage6_machine.specs.Trace.{taking, all-nullable, answer-of}
-use Rattle.stage6_machine.specs.Lent.{built, turned-away, finished}
-use Rattle.stage6_machine.specs.Run.{after-taking, turn, end-number, text-turn, trace-from, trace, is-short, has-many-rows, run-image, run-reading, run}
-use Rattle.stage5_image.specs.Computing.{computing-image}
-
-unfoldable pub computing-machine : Unit {0}
-unfolding taking all-nullable answer-of built turned-away finished after-taking turn end-number text-turn trace-from trace is-short has-many-rows run-image run-reading run computing-image
-computing-machine = tt

@@ -1,0 +1,17 @@
+-- `type_checker::one_if` meets its contract: a shifted one is the power.
+use borrow.Author.Needs.{needs}
+use Rattle.basics.specs.laws.BitLaws.{shl-one}
+use Rattle.type_checker.proofs.one_if.Statement.{statement}
+use Rattle.type_checker.proofs.one_if.Tie as tie
+
+shl-result : tie.Need-shl-result
+shl-result c = search needs
+
+returns : tie.Need-returns
+returns c = rw (c .if1 .taken) (shl-one (c .before .args .i) (c .before .pre))
+
+returns-2 : tie.Need-returns-2
+returns-2 c = search needs
+
+pub one-if-spec : {M : Type 1} → statement M
+one-if-spec = tie.close (tie.spec shl-result returns returns-2)
