@@ -93,8 +93,9 @@ extern "C" {
  * Checks a sheet: questions 1 to 10, without an image buffer.
  *
  * out[0]  number, 0 to 10
- * out[1]  place: of 3 to 5 the number's first byte, of 6 the first byte left over, of 7 the rule's
- *         action, of 8 to 10 the node's tag, otherwise 0
+ * out[1]  place: of 3 to 5 the number's first byte, or of 3 the sheet's length if no byte is left;
+ *         of 6 the first byte left over, of 7 the rule's action, of 8 to 10 the node's tag,
+ *         otherwise 0
  * out[2]  0
  *
  * A sheet passes (number 0) exactly if there is an image buffer that is long enough for writing it.

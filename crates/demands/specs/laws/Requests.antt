@@ -1,5 +1,6 @@
--- What the requests claim of checking, writing and running, request by request: of any functions that meet the demands. What follows for
--- single texts, and that demand 1 leaves no choice of the functions, is in `Corollaries`.
+-- What the requests claim of checking, writing and running, request by request: of any functions that meet the demands. Request [5]
+-- changed no answer and claims nothing here. What follows for single texts, and that demand 1 leaves no choice of the functions, is in
+-- `Corollaries`.
 use mathlib.Core.Path.{_≡_, refl, sym, ap, subst, _∙_}
 use mathlib.Core.Bool.{true, false}
 use mathlib.Core.List.{List, [], _∷_}
@@ -175,17 +176,20 @@ module _ (f : Functions) (demand : Demand1 f) where
         passes-by sheet work bytes .1 (p .0, p .1),
   )
 
-  -- Long enough are those from the image's own length on, and no others.
+  -- Long enough are those from the image's own length on, and no others; all get the same image.
   pub long-buffers : (sheet work buffer : List ℕ) → Bytes sheet → Accepts f sheet work buffer
-      → (other : List ℕ) → Accepts f sheet work other ↔ (length (f .write sheet work buffer .part) ≤ length other)
+      → (other : List ℕ) → (Accepts f sheet work other × (f .write sheet work other .part ≡ f .write sheet work buffer .part))
+      ↔ (length (f .write sheet work buffer .part) ≤ length other)
   long-buffers sheet work buffer bytes h other =
       let e = accepts-by sheet work buffer bytes .0 h in
       let p = writing.written-passed sheet (length work) (length buffer) _ e in (
-        λ k. let q = writing.written-passed sheet (length work) (length other) _ (accepts-by sheet work other bytes .0 k) in
+        λ k. let q = writing.written-passed sheet (length work) (length other) _ (accepts-by sheet work other bytes .0 (k .0)) in
             let same : q .0 ≡ p .0 = let z = sym (q .1) ∙ p .1 in cc in
             let long = subst (λ (s : Sheet). f .write sheet work other .part ≡ image-bytes (image-of s)) same (q .2) in
             omega (arith, q .3, ap length (p .2), ap length long),
-        λ l. accepted-as sheet work other _ bytes (writing.written-from sheet (length work) (length buffer) _ e (length other) .1 l),
+        λ l. let w = writing.written-from sheet (length work) (length buffer) _ e (length other) .1 l in
+            let accepted = accepted-as sheet work other _ bytes w in
+            (accepted, let z = sym (accepts-by sheet work other bytes .0 accepted) ∙ w in cc),
       )
 
   -- "writing, which checks again": it refuses by the question that checking names, whatever the image buffer.
@@ -271,7 +275,9 @@ module _ (f : Functions) (demand : Demand1 f) where
   same-bytes sheet work buffer bytes h s spells above =
       readable-written (f .write sheet work buffer .part) (plain-image s) (same-numbering sheet work buffer bytes h s spells above)
 
--- What running answers is the own answer of the sheet with every repetition spelled out, of any functions that meet demand 3 ([1]).
+-- ---- [1] and [4], of what is read
+
+-- What running answers is the own answer of the sheet with every repetition spelled out, of any functions that meet demand 3.
 pub spelled-out-answered : (f : Functions) → Demand3 f → (sheet work buffer : List ℕ) → Bytes sheet → Accepts f sheet work buffer
     → (s : Sheet) → Spells sheet s → (text : List ℕ) (lent : Lent) → length text ≤ most-text-bytes → long-enough text ≤ length (lent .stack)
     → (Short (lent .scanner) → ⊥) → (ManyRows (lent .scanner) (image-of s) → ⊥)
