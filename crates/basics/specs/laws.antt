@@ -1,5 +1,6 @@
 -- The laws of this crate's definitions, proved; and what only their proofs use.
 pub mod Members
+pub mod Buffers
 pub mod Partitions
 pub mod Settling
 pub mod Order

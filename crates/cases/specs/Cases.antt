@@ -4,6 +4,7 @@ use mathlib.Core.Path.{_≡_}
 use mathlib.Core.List.{List, [], _∷_, _++_}
 use Prim.Native.Nat.{ℕ}
 use lib.ListN.{length, replicate}
+use Rattle.basics.specs.Lists.{written-over}
 use Rattle.sheet.specs.Sheet.{Sheet}
 use Rattle.sheet.specs.SheetFormat.{Spells}
 use Rattle.sheet.specs.SheetD.{with-expression, bytes-of-D}
@@ -18,6 +19,7 @@ use Rattle.machine.specs.Run.{run}
 use Rattle.machine.specs.OwnAnswer.{OwnAnswer, OwnAnswerByNumber}
 use Rattle.machine.specs.Lexes.{ReadingChanges}
 use Rattle.machine.specs.Runs.{Runs}
+use Rattle.recogniser.specs.Recognises.{Recognises}
 use Rattle.demands.specs.ImageD.{rules-of-image-D, image-D}
 
 pub data Case : Type 0 where
@@ -37,6 +39,8 @@ pub data Case : Type 0 where
   tables : List ℕ → ℕ → List ℕ → Case
   -- an image, a text, the lengths of a table, of winners and of a stack, and the answer of a run with a table
   runs-table : List ℕ → List ℕ → ℕ → ℕ → ℕ → Answer → Case
+  -- a sheet, a text, a list, what the recogniser answers, and the list as it leaves it
+  recognises : List ℕ → List ℕ → List ℕ → Answer → List ℕ → Case
   -- a sheet whose expression denotes no token sequence
   denotes-nothing : List ℕ → Case
 
@@ -70,6 +74,8 @@ Holds (changes sheet text a) = (s : Sheet) × Spells sheet s × OwnAnswerByNumbe
 Holds (runs image text a) = Answers image text (stack-for text) a
 Holds (tables image rows winners) = (i : Image) × ReadableAs image i × (length (rows-of i) ≡ rows) × (winners-of i ≡ winners)
 Holds (runs-table image text table winners entries a) = Answers image text (buffers table winners entries) a
+Holds (recognises sheet text list a after) =
+    (tokens : List ℕ) × Recognises sheet text work-bytes (length list) a tokens × (written-over tokens list ≡ after)
 Holds (denotes-nothing sheet) = (s : Sheet) × Spells sheet s × ((tokens : List ℕ) → Denotes (s .expression) tokens → ⊥)
 
 -- μα.N·α, with D's rules

@@ -23,8 +23,9 @@ use Rattle.image.specs.Writes.{Acceptable, Writes}
 use Rattle.machine.specs.Lent.{most-text-bytes, long-enough, Lent, Ran}
 use Rattle.machine.specs.Runs.{Short, ManyRows, Runs}
 use Rattle.machine.specs.OwnAnswer.{OwnAnswer}
+use Rattle.recogniser.specs.Recognises.{Recognises, Recognised}
 
--- Checking, writing and running: of all that is handed over, the answer, and what every lent buffer holds at the end.
+-- Checking, writing, running and recognising: of all that is handed over, the answer, and what every lent buffer holds at the end.
 pub record Functions : Type 0 where
   -- of a sheet and a work area
   pub check : List ℕ → List ℕ → Checked
@@ -32,10 +33,13 @@ pub record Functions : Type 0 where
   pub write : List ℕ → List ℕ → List ℕ → Wrote
   -- of an image, a text, and a stack, with a table and its winners or without
   pub run : List ℕ → List ℕ → Lent → Ran
+  -- of a sheet, a text, a work area and a list (request [7])
+  pub recognise : List ℕ → List ℕ → List ℕ → List ℕ → Recognised
 
 -- "1. A caller may hand over any sheet, image, text and buffers, of any length and content, and always gets an answer that document 01
 -- fixes: a result, or the number and place of the first question that fails, and what every lent buffer then holds."
--- The image buffer holds the part that was written, which is empty on refusal, and then what it held.
+-- The image buffer holds the part that was written, which is empty on refusal, and then what it held; the list holds the tokens that were
+-- written, and then what it held.
 pub record Demand1 (f : Functions) : Type 0 where
   pub checking : (sheet work : List ℕ) → Bytes sheet → (r : Checked)
       → (f .check sheet work ≡ r) ↔ (Checks sheet (length work) (r .answer) × (r .work ≡ work-after work))
@@ -44,6 +48,10 @@ pub record Demand1 (f : Functions) : Type 0 where
       ↔ (Writes sheet (length work) (length buffer) (r .answer) (r .part)
       × (r .image ≡ written-over (r .part) buffer) × (r .work ≡ work-after work))
   pub running : (image text : List ℕ) → Bytes image → (lent : Lent) (r : Ran) → (f .run image text lent ≡ r) ↔ Runs image text lent r
+  pub recognising : (sheet text work list : List ℕ) → Bytes sheet → (r : Recognised)
+      → (f .recognise sheet text work list ≡ r)
+      ↔ (Recognises sheet text (length work) (length list) (r .answer) (r .tokens)
+      × (r .list ≡ written-over (r .tokens) list) × (r .work ≡ work-after work))
 
 -- Writing accepts: it answers with 0. The work area and the image buffer are lent.
 abbrev pub Accepts : Functions → List ℕ → List ℕ → List ℕ → Type 0

@@ -1,10 +1,10 @@
--- What checking, writing and running return, and what the sheet's own answer is: a number, a place and an amount. Which answer is given
--- when is said elsewhere.
+-- What checking, writing, running and recognising return, and what the sheet's own answer is: a number, a place and an amount. Which
+-- answer is given when is said elsewhere.
 use mathlib.Core.List.{List, [], _∷_}
 use Prim.Native.Nat.{ℕ}
 
--- The number is 0, or that of the first question that fails. The amount is the "length" of writing, the "tokens taken" of running; 0 of
--- checking, which is "answered by number and place".
+-- The number is 0, or that of the first question that fails. The amount is the "length" of writing, the "tokens taken" of running, the
+-- "count of tokens written" of recognising; 0 of checking, which is "answered by number and place".
 pub record Answer : Type 0 where
   pub number : ℕ
   pub place : ℕ

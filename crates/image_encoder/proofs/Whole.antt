@@ -2,7 +2,7 @@
 use mathlib.Core.Path.{_≡_, refl, sym, ap, _∙_}
 use mathlib.Core.Bool.{Bool, false}
 use mathlib.Core.List.{List, [], _∷_, _++_, map, append-assoc}
-use Prim.Native.Nat.{ℕ, zero, suc, _+_, _≤_, _<_}
+use Prim.Native.Nat.{ℕ, _≤_, _<_}
 use native.Mathlib.Omega.{arith}
 use native.Mathlib.Nat.{zero-add}
 use lib.Dec.{eqb}
@@ -15,7 +15,8 @@ use Rattle.sheet.specs.Spelling.{spell}
 use Rattle.normal_form.specs.Productions.{Row, no-productions, row-of}
 use Rattle.normal_form.specs.NormalForm.{normal-form}
 use Rattle.lexer.specs.Positions.{Position, positions}
-use Rattle.columns.specs.HeldPositions.{held-position, held-from, held-positions}
+use Rattle.columns.specs.HeldPositions.{held-positions}
+use Rattle.columns.specs.laws.HeldAt.{positions-counted, position-held}
 use Rattle.columns.specs.declared.PositionColumns.{PositionColumns}
 use Rattle.image.specs.Fusion.{fused}
 use Rattle.image.specs.laws.FusionLaws.{fused-row}
@@ -56,23 +57,9 @@ module _ (g : Grammar) (rules : List Rule) (e : Expression) (h : GrammarOf g rul
 
 -- ---- the positions
 
-module _ (low high rule follow : List ℕ) (last : ℕ) where
-  held-length : (i n : ℕ) → length (held-from low high rule follow last i n) ≡ n
-  unfolding held-from
-  held-length i zero = refl
-  held-length i (suc n) = ap suc (held-length (suc i) n)
-
-  held-at : (i n k : ℕ) (other : Position) → k < n
-      → getD (held-from low high rule follow last i n) k other ≡ held-position low high rule follow last (i + k)
-  unfolding held-from
-  held-at i zero k other l = absurd (omega arith)
-  held-at i (suc n) zero other l = ap (held-position low high rule follow last) (omega arith)
-  held-at i (suc n) (suc k) other l = held-at (suc i) n k other (omega arith) ∙ ap (held-position low high rule follow last) (omega arith)
-
 module _ (p : PositionColumns) (ps : List Position) (h : held-positions p ≡ ps) where
   positions-count : p .count ≡ length ps
-  unfolding held-positions
-  positions-count = sym (held-length (p .low) (p .high) (p .rule) (p .follow) (p .last) 0 (p .count)) ∙ ap length h
+  positions-count = sym (positions-counted p ps h)
 
   places-are : concat-below (position-part p) (p .count) ≡ all-numbers position-numbers ps
   places-are =
@@ -84,11 +71,7 @@ module _ (p : PositionColumns) (ps : List Position) (h : held-positions p ≡ ps
       other = record { low = 0; high = 0; rule = 0; last = false; follow = 0 }
 
       one : (k : ℕ) → k < p .count → position-part p k ≡ position-numbers (getD ps k other)
-      one k l = unfold position-part held-positions in
-          ap position-numbers
-          (sym (held-at (p .low) (p .high) (p .rule) (p .follow) (p .last) 0 (p .count) k other l
-          ∙ ap (held-position (p .low) (p .high) (p .rule) (p .follow) (p .last)) (zero-add k))
-          ∙ ap (λ (m : List Position). getD m k other) h)
+      one k l = unfold position-part in ap position-numbers (position-held p ps h k other l)
 
 -- ---- the rows
 

@@ -22,7 +22,6 @@ use Rattle.sheet_checker.specs.Answer as checker
 use Rattle.sheet_checker.specs.laws.AnswerLaws as checker-laws
 use Rattle.sheet_checker.specs.Steps.{PassedParts}
 use Rattle.sheet_checker.specs.declared.CheckedSheet.{CheckedSheet}
-use Rattle.sheet_checker.specs.declared.Verdict.the-variants.{Passed}
 use Rattle.sheet_checker.specs.declared.Verdict.the-variants as verdict-case
 use Rattle.node_numbering.specs.Grammar.{GrammarOf}
 use Rattle.node_numbering.specs.laws.GrammarLaws.{grammar-from, grammar-of}
@@ -79,21 +78,9 @@ module _ (image buffer : List ℕ) where
 -- Checking named a question: writing refuses by it, and leaves the image buffer.
 pub ends-failed : (v : check.Verdict) (k : CheckedSheet) {question place : ℕ} (buffer : List ℕ) → checker.Ends v k
     → k .verdict ≡ verdict-case.Refused question place → Ends (after-checking (length buffer) v) (Refused question place) buffer buffer
-unfolding after-checking case-of image-after checker.case-of
-ends-failed (check.failed number at) k {question} {place} buffer h e =
-    let f = checker-laws.ends-case (check.failed number at) k h in
-    let z : verdict-case.Refused question place ≡ verdict-case.Refused number at = cc in
-    record { answer = cc; image = refl }
-ends-failed (check.passed s) k buffer h e = let z = h .0 in let y : _≡_ {A = ℕ} 0 1 = cc in absurd (omega arith)
-
--- Checking let the sheet pass.
-pub passed-parts : (v : check.Verdict) (k : CheckedSheet) → checker.Ends v k → k .verdict ≡ Passed
-    → (s : Sheet) × (v ≡ check.passed s) × PassedParts s k
-unfolding checker.case-of
-passed-parts (check.failed number at) k h e =
-    let f = checker-laws.ends-case (check.failed number at) k h in
-    let y : _≡_ {A = ℕ} 0 1 = cc in absurd (omega arith)
-passed-parts (check.passed s) k h e = (s, refl, h .1)
+unfolding after-checking case-of image-after
+ends-failed v k {question} {place} buffer h e =
+    rw (checker-laws.failed-by v k h e) (record { answer = refl; image = refl })
 
 pub ends-passed : (v : check.Verdict) (s : Sheet) (room : ℕ) {r : Written} {entry exit : List ℕ} → v ≡ check.passed s
     → Ends (fitted room (image-bytes (plain-image (image-sheet s)))) r entry exit → Ends (after-checking room v) r entry exit

@@ -6,10 +6,11 @@ use native.Mathlib.Omega.{arith}
 use native.Mathlib.Numerals.{add-one}
 use lib.Bits.{bitAnd}
 use lib.ListN.{getD, length, take, drop, set, length-map}
-use lib.Seq.{paste, paste-suc, take-at, take-all, take-length, take-suc, drop-append-add, drop-drop, drop-cons, set-at, append-snoc, getD-take, length-take-le}
+use lib.Seq.{paste, paste-suc, take-at, take-all, take-length, take-suc, drop-append-add, drop-drop, getD-take, length-take-le}
 use borrow.Author.Tests.{ne-eqb}
 use Rattle.basics.specs.laws.BitLaws.{bit-high}
 use Rattle.basics.specs.laws.Members.{all-at}
+use Rattle.basics.specs.laws.Buffers.{written-one}
 use Rattle.basics.specs.Meeting.{number-of}
 use Rattle.basics.specs.laws.Reaching.{flatMap-last}
 use Rattle.lexer.specs.Positions.{Position}
@@ -60,13 +61,6 @@ written-more front new buffer at n e f =
     ∙ ap (λ (l : List ℕ). front ++ l ++ drop (at + n) d) (take-all n new (omega arith))
     ∙ ap (λ (l : List ℕ). (front ++ new) ++ l)
     (ap (λ (k : ℕ). drop (k + n) d) (sym e) ∙ drop-append-add front (drop at buffer) n ∙ drop-drop n at buffer)
-
-pub written-one : (front buffer : List ℕ) (v at : ℕ) → length front ≡ at → at < length buffer
-    → set (front ++ drop at buffer) at v ≡ (front ++ (v ∷ [])) ++ drop (suc at) buffer
-written-one front buffer v at e h =
-    ap (λ (l : List ℕ). set (front ++ l) at v) (drop-cons buffer at 0 h)
-    ∙ set-at front (getD buffer at 0) (drop (suc at) buffer) v at e
-    ∙ sym (append-snoc front v (drop (suc at) buffer))
 
 -- The rows before row i + 1 are written, the entries of each and the winner of each.
 abbrev pub row-numbers : List Position → ℕ → ℕ → List ℕ

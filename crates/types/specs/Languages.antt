@@ -1,7 +1,9 @@
--- Names for languages and what is made of them, as the proofs speak of them. What an expression denotes is said without them.
+-- Names for languages and what is said of them, as the recogniser's definition and the proofs speak of them. What an expression denotes
+-- is said without them.
 use mathlib.Core.Path.{_≡_}
-use mathlib.Core.List.{List, []}
+use mathlib.Core.List.{List, [], _∷_}
 use mathlib.Core.Logic.{_⊎_}
+use Prim.Native.Nat.{ℕ}
 use Rattle.types.specs.Denotation.{Language, followed-by, least-fixed-point}
 
 -- ∅
@@ -23,3 +25,11 @@ any-number-of L = least-fixed-point (none-or-more L)
 -- γ
 abbrev pub Environment : Type 1
 Environment = List Language
+
+-- L has a word.
+abbrev pub HasWord : Language → Type 0
+HasWord L = (w : List ℕ) × L w
+
+-- The token c begins a word of L.
+abbrev pub Begins : Language → ℕ → Type 0
+Begins L c = (v : List ℕ) × L (c ∷ v)

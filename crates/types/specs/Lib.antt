@@ -10,6 +10,7 @@ pub mod TypeFaults
 pub mod Questions
 pub mod SpelledOut
 pub mod Languages
+pub mod NodeLanguages
 pub mod Solutions
 pub mod TypeNames
 pub mod NodeNames

@@ -1,8 +1,9 @@
-// The library for other languages: checking, writing and running with plain parameters. A buffer passes as a pointer and a length.
-// Nothing is worked out here.
+// The library for other languages: checking, writing, running and recognising with plain parameters. A buffer passes as a pointer and
+// a length. Nothing is worked out here.
 use image_writer::Written;
 use machine_turn::RunAnswer;
 use sheet_checker::Verdict;
+use text_recogniser::Recognition;
 ghost use mathlib.Core.Path.{_≡_};
 ghost use mathlib.Core.List.{[], _∷_};
 ghost use Prim.Native.Nat.{_≤_};
@@ -15,6 +16,8 @@ ghost use Rattle.image_writer.specs.Answer as compiler;
 ghost use Rattle.machine.specs.Lent.{stack-alone, with-scanner};
 ghost use Rattle.machine.specs.Run.{run};
 ghost use Rattle.machine_turn.specs.Steps.{answer-held};
+ghost use Rattle.recogniser.specs.Recognise.{recognised};
+ghost use Rattle.text_recogniser.specs.Ends as recogniser;
 ghost use Rattle.vinzagew.specs.Out.{numbers-held, out-after, if-room};
 
 // The three numbers of an answer. The third is a length, a count of tokens, or 0 where there is neither.
@@ -60,6 +63,13 @@ fn run_numbers(ran: RunAnswer) -> Numbers
     ensures { λ r. ⌜ numbers-held r ≡ numbers-of (answer-held ran) ⌝ }
 {
     three(ran.number as u64, ran.place as u64, ran.count as u64)
+}
+
+// "It returns as running does, with the count of tokens written"
+fn recognition_numbers(told: Recognition) -> Numbers
+    ensures { λ r. ⌜ numbers-held r ≡ numbers-of (recogniser.answer-held told) ⌝ }
+{
+    three(told.number as u64, told.place as u64, told.count as u64)
 }
 
 // Puts three numbers at the front of `out`, which has room for them.
@@ -161,5 +171,34 @@ pub extern "C" fn vinzagew_run_table(
     }
     let ran = image_runner::run_table(image, text, table, winners, stack);
     let told = run_numbers(ran);
+    put(out, told);
+}
+
+// Recognises a text by a sheet, with a lent work area and a lent list for the tokens, and puts number, place and count into `out`. Where
+// `out` has fewer than three entries, nothing happens.
+#[no_mangle]
+pub extern "C" fn vinzagew_recognise(
+    sheet: &[u8],
+    text: &[u8],
+    work: &mut [u8],
+    list: &mut [u8],
+    out: &mut [u64],
+)
+    ensures { λ r.
+        ⌜ (now (out .exit) ≡ out-after
+        (numbers-of (recognised (now (sheet .entry)) (now (text .entry)) (now (work .entry)) (now (list .entry)) .answer))
+        (now (out .entry)))
+        × (now (list .exit) ≡ if-room (now (out .entry))
+        (recognised (now (sheet .entry)) (now (text .entry)) (now (work .entry)) (now (list .entry)) .list)
+        (now (list .entry)))
+        × (now (work .exit) ≡ if-room (now (out .entry))
+        (recognised (now (sheet .entry)) (now (text .entry)) (now (work .entry)) (now (list .entry)) .work)
+        (now (work .entry))) ⌝ }
+{
+    if out.len() < 3 {
+        return;
+    }
+    let recognition = text_recogniser::recognise(sheet, text, work, list);
+    let told = recognition_numbers(recognition);
     put(out, told);
 }

@@ -1,6 +1,6 @@
-// Outside vectors through the library: reads the files `sheets` (checked, and then written), `read`, `run`, `table` and `program`, a case a
-// line, and prints a line for each. Lent buffers are filled with a pattern first, and a line also says whether they ended as they must.
-// Nothing is promised here: what checking, writing and running do is in the contracts of the crates that are called.
+// Outside vectors through the library: reads the files `sheets` (checked, and then written), `read`, `run`, `table`, `program` and
+// `recognise`, a case a line, and prints a line for each. Lent buffers are filled with a pattern first, and a line also says whether they
+// ended as they must. Nothing is promised here: what the library does is in the contracts of the crates that are called.
 use image_writer::Written;
 use libc::STDOUT_FILENO;
 use lines::Line;
@@ -235,9 +235,9 @@ fn work_right(number: u8, work: &[u8]) -> bool {
     false
 }
 
-// The image buffer past what was written is as it was, and the work area ends as it must.
-fn buffers_right(number: u8, written: usize, work: &[u8], image: &[u8]) -> bool {
-    if all_are(image, written, IMAGE, PATTERN) {
+// The image buffer, or the list of tokens, past what was written is as it was, and the work area ends as it must.
+fn buffers_right(number: u8, written: usize, work: &[u8], buffer: &[u8]) -> bool {
+    if all_are(buffer, written, IMAGE, PATTERN) {
         return work_right(number, work);
     }
     false
@@ -710,6 +710,60 @@ fn show_line(line: Line) {
     show_word(&buffer[..size]);
 }
 
+// Recognises a text by a sheet with the front of each buffer, and shows the answer, the tokens written, and whether the buffers ended as
+// they must.
+fn recognise_with(
+    sheet: &[u8],
+    input: &[u8],
+    work_size: usize,
+    list_size: usize,
+    work: &mut [u8; WORK],
+    list: &mut [u8; IMAGE],
+) {
+    let work: &mut [u8] = work;
+    let list: &mut [u8] = list;
+    if work.len() < work_size {
+        return;
+    }
+    if list.len() < list_size {
+        return;
+    }
+    let told = text_recogniser::recognise(
+        sheet,
+        input,
+        &mut work[..work_size],
+        &mut list[..list_size],
+    );
+    show_numbers(told.number as u64, told.place as u64, told.count as u64);
+    show_front(list, told.count);
+    show_judgement(buffers_right(told.number, told.count, work, list));
+}
+
+// A case: the lengths of the work area and of the list, the sheet, and the text.
+fn recognise_case(text: &[u8], at: usize)
+    requires { ⌜ length (now text) ≤ 65536 ⌝ }
+{
+    let mut sheet = [0u8; FIELD];
+    let mut input = [0u8; FIELD];
+    let mut work = [PATTERN; WORK];
+    let mut list = [PATTERN; IMAGE];
+    let list_at = after_blank(text, at);
+    let sheet_at = after_blank(text, list_at);
+    let input_at = after_blank(text, sheet_at);
+    let work_size = decimal_field(text, at);
+    let list_size = decimal_field(text, list_at);
+    let sheet_size = bytes_field(text, sheet_at, &mut sheet);
+    let input_size = bytes_field(text, input_at, &mut input);
+    recognise_with(
+        &sheet[..sheet_size],
+        &input[..input_size],
+        work_size,
+        list_size,
+        &mut work,
+        &mut list,
+    );
+}
+
 // The files, and what a line of each asks for.
 enum Kind {
     Check,
@@ -718,6 +772,7 @@ enum Kind {
     Run,
     Table,
     Program,
+    Recognise,
 }
 
 fn show_case(kind: Kind, text: &[u8], at: usize)
@@ -730,6 +785,7 @@ fn show_case(kind: Kind, text: &[u8], at: usize)
         Kind::Run => run_case(text, at),
         Kind::Table => table_case(text, at),
         Kind::Program => show_line(program_case(text, at)),
+        Kind::Recognise => recognise_case(text, at),
     }
 }
 
@@ -769,4 +825,5 @@ fn main() {
     table_too_long(&too_long);
     table_longest(&longest);
     show_file(Kind::Program, b"program");
+    show_file(Kind::Recognise, b"recognise");
 }

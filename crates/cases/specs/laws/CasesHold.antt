@@ -1,5 +1,6 @@
--- Every row of the six tables of worked cases holds: what is computed of a row, and, by the demands, what follows for the sheet that
--- its bytes spell. The rows themselves stand in `Cases`, `RepetitionCases`, `CheckCases`, `PaddingCases`, `WordCases` and `TableCases`.
+-- Every row of the seven tables of worked cases holds: what is computed of a row, and, by the demands, what follows for the sheet that
+-- its bytes spell. The rows themselves stand in `Cases`, `RepetitionCases`, `CheckCases`, `PaddingCases`, `WordCases`, `TableCases` and
+-- `RecogniserCases`.
 use mathlib.Core.Path.{_≡_, refl, ap, subst, _∙_}
 use mathlib.Core.Bool.{true, not}
 use mathlib.Core.List.{List, [], _∷_}
@@ -9,7 +10,7 @@ use native.Mathlib.Omega.{arith}
 use lib.Dec.{T, eqb, leb, leb→le}
 use lib.ListN.{length}
 use borrow.Author.Tests.{eq-eqb}
-use Rattle.basics.specs.Lists.{All}
+use Rattle.basics.specs.Lists.{All, written-over}
 use Rattle.basics.specs.laws.Members.{_&_}
 use Rattle.basics.specs.laws.Truth.{not-holds, true-holds}
 use Rattle.sheet.specs.Limits.{most-sheet-bytes}
@@ -41,11 +42,14 @@ use Rattle.machine.specs.laws.OwnAnswerLaws.{by-number-one}
 use Rattle.machine.specs.Lexes.{ReadingChanges}
 use Rattle.machine.specs.laws.FaithfulImage.{answered-by-number}
 use Rattle.machine.specs.laws.Computing.{computing-machine}
+use Rattle.recogniser.specs.Recognise.{ending, recognise}
+use Rattle.recogniser.specs.laws.Computing.{computing-recogniser}
+use Rattle.recogniser.specs.laws.RecognisesLaws.{recognises-iff}
 use Rattle.demands.specs.Demands.{Demand1}
 use Rattle.demands.specs.laws.Proofs.{demand-1, written-exactly, own-answer-alone}
 use Rattle.demands.specs.laws.Requests.{text-changes-only}
 use Rattle.demands.specs.ImageD.{image-D, D-written}
-use Rattle.cases.specs.Cases.{Case, writes, writes-with, checks, reads, changes, runs, tables, runs-table, denotes-nothing}
+use Rattle.cases.specs.Cases.{Case, writes, writes-with, checks, reads, changes, runs, tables, runs-table, recognises, denotes-nothing}
 use Rattle.cases.specs.Cases.{written-sheet, stack-for, buffers, run-of-sheet, Holds, cases}
 use Rattle.cases.specs.RepetitionCases.{image-of-counts, image-of-numbers, repetition-cases}
 use Rattle.cases.specs.CheckCases.{check-cases}
@@ -53,6 +57,7 @@ use Rattle.cases.specs.PaddingCases.{in-ten, padding-cases}
 use Rattle.cases.specs.WordCases.{image-word-below, image-name-above, image-first-if, image-second-if, image-skipped-if}
 use Rattle.cases.specs.WordCases.{image-equal-words, image-wide-class, image-empty-then-a, word-cases}
 use Rattle.cases.specs.TableCases.{table-cases}
+use Rattle.cases.specs.RecogniserCases.{recogniser-cases}
 
 -- What is computed of a case: for a reading, the sheet's image and what the machine answers over it.
 abbrev Computes : Case → Type 0
@@ -71,6 +76,9 @@ Computes (runs image text a) = (run image text (stack-for text) .answer ≡ a) �
 Computes (tables image rows winners) =
     (i : Image) × (read-image image ≡ got i (length image)) × (length (rows-of i) ≡ rows) × (winners-of i ≡ winners) × T (all-bytes image)
 Computes (runs-table image text table winners entries a) = (run image text (buffers table winners entries) .answer ≡ a) × T (all-bytes image)
+Computes (recognises sheet text list a after) =
+    (tokens : List ℕ) × (recognise sheet text work-bytes (length list) ≡ ending a tokens) × (written-over tokens list ≡ after)
+    × T (all-bytes sheet)
 Computes (denotes-nothing sheet) =
     (c : Contents) × (read-sheet sheet ≡ got c (length sheet)) × T (all-bytes sheet) × T (leb (length sheet) most-sheet-bytes)
     × ((tokens : List ℕ) → Denotes ((c .sheet) .expression) tokens → ⊥)
@@ -128,6 +136,8 @@ holds (runs image text a) h =
 holds (tables image rows winners) h = (h .0, read-readable image (tested-bytes image (h .4)) (h .0) (length image) (h .1), h .2, h .3)
 holds (runs-table image text table winners entries a) h =
     (h .0, demand-1 .running image text (tested-bytes image (h .1)) (buffers table winners entries) _ .0 refl)
+holds (recognises sheet text list a after) h =
+    (h .0, recognises-iff sheet text work-bytes (length list) (tested-bytes sheet (h .3)) a (h .0) .0 (h .1), h .2)
 holds (denotes-nothing sheet) h =
     let read = read-accepted sheet (tested-bytes sheet (h .2)) (leb→le (length sheet) most-sheet-bytes (h .3)) (h .1) in
     (h .0 .sheet, (h .0, read, refl), h .4)
@@ -279,6 +289,23 @@ table-computed =
     & (refl, tt)
     & tt
 
+recogniser-computed : All Computes recogniser-cases
+unfolding recogniser-cases written-over computing-recogniser
+recogniser-computed =
+    (_, refl, refl, tt)
+    & (_, refl, refl, tt)
+    & (_, refl, refl, tt)
+    & (_, refl, refl, tt)
+    & (_, refl, refl, tt)
+    & (_, refl, refl, tt)
+    & (_, refl, refl, tt)
+    & (_, refl, refl, tt)
+    & (_, refl, refl, tt)
+    & (_, refl, refl, tt)
+    & (_, refl, refl, tt)
+    & (_, refl, refl, tt)
+    & tt
+
 -- Every row holds.
 pub cases-hold : All Holds cases
 cases-hold = all-hold cases all-computed
@@ -297,6 +324,9 @@ word-cases-hold = all-hold word-cases word-computed
 
 pub table-cases-hold : All Holds table-cases
 table-cases-hold = all-hold table-cases table-computed
+
+pub recogniser-cases-hold : All Holds recogniser-cases
+recogniser-cases-hold = all-hold recogniser-cases recogniser-computed
 
 -- ---- sheet D and a twin
 

@@ -18,7 +18,7 @@ use Rattle.machine.specs.Runs.{Short, ManyRows}
 use Rattle.machine.specs.OwnAnswer.{OwnAnswer}
 use Rattle.machine.specs.Lexes.{Lexeme, tokens-of, Lexes, AnswerOfReading}
 use Rattle.machine.specs.laws.AcceptanceLaws.{accepted-iff, accepted-answer, answered-reading, own-answer-not-17}
-use Rattle.demands.specs.Demands.{Functions, Accepts, Demand1, Demand2, Demand3}
+use Rattle.demands.specs.Demands.{Functions, Accepts, Demand1, Demand3}
 use Rattle.demands.specs.laws.Proofs.{cited, demand-1}
 
 -- Any two functions that meet demand 1 are the same: those that the code's contracts cite.
@@ -31,6 +31,11 @@ module _ (f : Functions) (demand : Demand1 f) where
 
   pub one-run : (image text : List ℕ) → Bytes image → (lent : Lent) → f .run image text lent ≡ cited .run image text lent
   one-run image text bytes lent = demand .running image text bytes lent _ .1 (demand-1 .running image text bytes lent _ .0 refl)
+
+  pub one-recognition : (sheet text work list : List ℕ) → Bytes sheet
+      → f .recognise sheet text work list ≡ cited .recognise sheet text work list
+  one-recognition sheet text work list bytes =
+      demand .recognising sheet text work list bytes _ .1 (demand-1 .recognising sheet text work list bytes _ .0 refl)
 
 -- Of any functions that meet demand 3: a sheet that writing accepted, its image, a text within the limit, a long enough stack, and, where a
 -- table is lent, one that is not short and holds the image's rows.

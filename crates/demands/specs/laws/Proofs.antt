@@ -28,7 +28,6 @@ use Rattle.image.specs.Writes.{Acceptable, Writes}
 use Rattle.image.specs.laws.WriteLaws.{written-passed}
 use Rattle.image.specs.laws.WriteQuestions.{passable-readable, write-answers, writes-only, written-iff, acceptable-written, written-acceptable}
 use Rattle.image.specs.laws.BufferLaws.{image-buffer}
-use Rattle.image.specs.Answer.{Answer}
 use Rattle.machine.specs.Trace.{answer-of}
 use Rattle.machine.specs.Lent.{most-text-bytes, long-enough, Lent, stack-alone, Ran, turned-away, finished}
 use Rattle.machine.specs.Runs.{Short, ManyRows, Runs, short, long-text, unreadable, many-rows, no-entry, started}
@@ -39,13 +38,16 @@ use Rattle.machine.specs.laws.OrderedAnswers.{ordered-answer}
 use Rattle.machine.specs.laws.OwnAnswerLaws.{own-answer-one}
 use Rattle.machine.specs.laws.RunAnswers.{Faithful, runs-own-answer}
 use Rattle.machine.specs.laws.FaithfulImage.{StandsFor, start-stands, image-faithful}
+use Rattle.recogniser.specs.Recognises.{Recognises, Recognised}
+use Rattle.recogniser.specs.Recognise.{recognised-with, recognised}
+use Rattle.recogniser.specs.laws.RecognisesLaws.{recognises-iff}
 use Rattle.demands.specs.Demands.{Functions, Accepts, Demand1, Demand2, Demand3}
 use Rattle.normal_form.specs.Unfolds.{Unfolds}
 use Rattle.basics.specs.Lists.{written-over}
 
 -- The functions that the code's contracts cite.
 abbrev pub cited : Functions
-cited = record { check = checked; write = wrote; run = run }
+cited = record { check = checked; write = wrote; run = run; recognise = recognised }
 
 -- An answer that is fixed: what is given is so, and whatever is so is what is given.
 fixed : {A : Type 0} {P : A → Type 0} (a : A) → P a → ((r : A) → P r → a ≡ r) → (r : A) → (a ≡ r) ↔ P r
@@ -71,11 +73,22 @@ writing sheet work buffer bytes =
     let i = image-buffer w buffer ∙ (ap (λ (part : List ℕ). written-over part buffer) (e .1) ∙ sym (h .1)) in
     rw (e .0, e .1, i, sym (h .2)))
 
+recognising : (sheet text work list : List ℕ) → Bytes sheet → (r : Recognised)
+    → (recognised sheet text work list ≡ r)
+    ↔ (Recognises sheet text (length work) (length list) (r .answer) (r .tokens)
+    × (r .list ≡ written-over (r .tokens) list) × (r .work ≡ work-after work))
+recognising sheet text work list bytes =
+    let iff = recognises-iff sheet text (length work) (length list) bytes in
+    fixed (recognised sheet text work list) (iff _ _ .0 refl, refl, refl)
+    (λ r h. let e = iff (r .answer) (r .tokens) .1 (h .0) in
+    ap (recognised-with work list) e ∙ rw (sym (h .1), sym (h .2)))
+
 pub demand-1 : Demand1 cited
 demand-1 = record {
   checking = checking;
   writing = writing;
   running = λ image text bytes lent. runs-iff image text lent bytes;
+  recognising = recognising;
 }
 
 -- An image buffer keeps its length.

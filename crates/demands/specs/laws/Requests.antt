@@ -1,20 +1,26 @@
--- What the requests claim of checking, writing and running, request by request: of any functions that meet the demands. Request [5]
--- changed no answer and claims nothing here. What follows for single texts, and that demand 1 leaves no choice of the functions, is in
--- `Corollaries`.
+-- What the requests claim of checking, writing, running and recognising, request by request: of any functions that meet the demands.
+-- Request [5] changed no answer and claims nothing here. What follows for single texts, and that demand 1 leaves no choice of the
+-- functions, is in `Corollaries`.
 use mathlib.Core.Path.{_≡_, refl, sym, ap, subst, _∙_}
 use mathlib.Core.Bool.{true, false}
 use mathlib.Core.List.{List, [], _∷_}
-use mathlib.Core.Logic.{_↔_, _⊎_}
-use Prim.Native.Nat.{ℕ, _≤_, _<_}
+use mathlib.Core.Logic.{_↔_, _⊎_, inl, inr, ⊎-map}
+use Prim.Native.Nat.{ℕ, suc, _-_, _≤_, _<_}
 use native.Mathlib.Omega.{arith}
-use lib.ListN.{length, replicate, length-replicate}
+use lib.ListN.{length, take, drop, getD, replicate, length-replicate, length-append, length-drop, length-map}
+use lib.Seq.{take-at}
+use Rattle.basics.specs.Lists.{written-over}
+use Rattle.sheet.specs.Expression.{Expression}
 use Rattle.sheet.specs.Limits.{most-sheet-bytes}
 use Rattle.sheet.specs.Sheet.{Rule, Sheet}
 use Rattle.sheet.specs.SheetFormat.{Spells}
-use Rattle.sheet.specs.laws.ReadingLaws.{spelled-limits}
+use Rattle.sheet.specs.laws.ReadingLaws.{spelled-limits, spelled-once}
 use Rattle.sheet.specs.Spelling.{Bytes}
 use Rattle.sheet.specs.Twins.{Twins, SamePlace}
 use Rattle.sheet.specs.laws.TwinLaws.{twins-back}
+use Rattle.types.specs.Denotation.{Denotes}
+use Rattle.types.specs.Languages.{HasWord}
+use Rattle.types.specs.NodeLanguages.{language-of}
 use Rattle.types.specs.Types.{HasType}
 use Rattle.types.specs.SpelledOut.{spelled-out, spelled-out-sheet}
 use Rattle.types.specs.laws.SpelledOutDenotation.{spelled-out-denotes}
@@ -32,11 +38,10 @@ use Rattle.image.specs.laws.ImageLaws.{numbering-kept}
 use Rattle.image.specs.laws.ImageLength.{image-fits}
 use Rattle.image.specs.laws.ReadableImages.{readable-written}
 use Rattle.image.specs.Unfolding.{DenotedRules}
-use Rattle.image.specs.Check.{work-bytes, Verdict, failed, passed, check, check-answer, Checked}
-use Rattle.image.specs.Checks.{Passable}
-use Rattle.image.specs.laws.CheckQuestions.{failed-by, failed-numbered, passable-passes, passed-passable}
+use Rattle.image.specs.Check.{work-bytes, Verdict, failed, passed, check, check-answer, work-after, Checked}
+use Rattle.image.specs.Checks.{Passable, Checks}
+use Rattle.image.specs.laws.CheckQuestions.{checks-only, failed-by, failed-numbered, passable-passes, passed-passable}
 use Rattle.image.specs.Write.{Written, refused, too-long, written, write, write-answer, written-part, Wrote, wrote-with}
-use Rattle.image.specs.Writes.{Acceptable}
 use Rattle.image.specs.laws.WriteLaws as writing
 use Rattle.image.specs.laws.WriteQuestions.{written-iff}
 use Rattle.image.specs.laws.TwinAnswers.{twins-refused, twins-written}
@@ -45,13 +50,24 @@ use Rattle.machine.specs.Runs.{Short, ManyRows, Begins, Runs}
 use Rattle.machine.specs.laws.LentLaws as lent-laws
 use Rattle.machine.specs.laws.LentLaws.{turns-away, begins-left, begun-left}
 use Rattle.machine.specs.OwnAnswer.{OwnAnswer, OwnAnswerByNumber}
-use Rattle.machine.specs.Lexes.{ReadingChanges}
+use Rattle.machine.specs.Lexes.{Lexeme, tokens-of, Lexes, ReadingChanges}
 use Rattle.machine.specs.laws.OrderedAnswers.{answer-changes-only}
 use Rattle.machine.specs.laws.FaithfulImage.{answered-by-number}
 use Rattle.machine.specs.laws.SpelledOutAnswers.{spelled-out-own-answer}
+use Rattle.recogniser.specs.Recognises as recogniser
+use Rattle.recogniser.specs.Recognises.{most-recognised-bytes, Recognises, not-passed, long-text, short-list, Recognised}
+use Rattle.recogniser.specs.Descends.{Descent, left, stuck, Enters, DescendsFromStart, not-entered, rest-of, number-for, place-for}
+use Rattle.recogniser.specs.ReadingStops.{starts-of, Unmatched, MatchedThroughout, TurnedAway, TextRead, TokensFound}
+use Rattle.recogniser.specs.laws.ListingLaws.{list-tokens-reads, matched-read-to-end}
+use Rattle.recogniser.specs.laws.Reading.{read-to-end-matched}
+use Rattle.recogniser.specs.laws.RecognisesNumbers.{not-both-ways, recognises-ways, refused-checks, tokens-counted, tokens-fit, number-12, number-20}
+use Rattle.recogniser.specs.laws.DescentAnswers.{descent-own-answer}
+use Rattle.recogniser.specs.laws.DescentRuns.{entered-denotes}
+use Rattle.recogniser.specs.laws.RecognisesLaws as recogniser-laws
+use Rattle.recogniser.specs.laws.RecognisesLaws.{one-descent, recognises-one, no-rule-first, as-own-answer, unless-15}
 use Rattle.demands.specs.Demands.{Functions, Accepts, Demand1, Demand3}
 use Rattle.demands.specs.laws.Proofs.{written-exactly, accepted-normal-form, unfolds-exactly}
-use Rattle.demands.specs.laws.Corollaries.{one-check, one-write}
+use Rattle.demands.specs.laws.Corollaries.{one-check, one-write, own}
 
 -- Of any functions that meet demand 1, the sheet is accepted by checking: it passes.
 abbrev pub Passes : Functions → List ℕ → List ℕ → Type 0
@@ -334,3 +350,199 @@ module _ (f : Functions) (demand : Demand1 f) (image text : List ℕ) (bytes : B
   as-without-table =
       let alone = stack-alone (lent .stack) in
       lent-laws.as-without-table image text lent bytes runs (demand .running image text bytes alone _ .0 refl)
+
+-- ---- [7] "document 001's recogniser as a yardstick"
+
+-- Of any functions that meet demand 1, whatever the sheet, the text, the work area and the list hold.
+module _ (f : Functions) (demand : Demand1 f) (sheet text work list : List ℕ) (bytes : Bytes sheet) where
+  abbrev recognition : Recognised
+  recognition = f .recognise sheet text work list
+
+  fixed-by : Recognises sheet text (length work) (length list) (recognition .answer) (recognition .tokens)
+      × (recognition .list ≡ written-over (recognition .tokens) list) × (recognition .work ≡ work-after work)
+  fixed-by = demand .recognising sheet text work list bytes recognition .0 refl
+
+  -- "put after questions 1 to 10": with these it answers as checking does.
+  pub questions-first : (question place : ℕ) → 1 ≤ question → question ≤ 10
+      → (recognition .answer ≡ answer question place 0) ↔ (f .check sheet work .answer ≡ answer question place 0)
+  questions-first question place some few =
+      let checks = demand .checking sheet work bytes (f .check sheet work) .0 refl .0 in (
+        λ h. let z : recognition .answer .number ≡ question = ap (λ (a : Answer). a .number) h in
+            let same = refused-checks (fixed-by .0) (omega (arith, z, some), omega (arith, z, few)) in
+            sym (checks-only bytes checks) ∙ (checks-only bytes same ∙ h),
+        λ h. recognises-one sheet text (length work) (length list) bytes (fixed-by .0)
+            (not-passed (answer question place 0) (subst (Checks sheet (length work)) h checks) some) .0,
+      )
+
+  -- "The work area ends as after checking."
+  pub work-as-checking : recognition .work ≡ f .check sheet work .work
+  work-as-checking = fixed-by .2 ∙ sym (demand .checking sheet work bytes (f .check sheet work) .0 refl .1)
+
+  -- "with the count of tokens written", and they fit in the list, which keeps its length.
+  pub counted : recognition .answer .amount ≡ length (recognition .tokens)
+  counted = tokens-counted (fixed-by .0)
+
+  pub list-length-kept : length (recognition .list) ≡ length list
+  unfolding written-over
+  list-length-kept =
+      let tokens = recognition .tokens in
+      let fits = tokens-fit (fixed-by .0) .1 in
+      ap (λ (l : List ℕ). length l) (fixed-by .1)
+      ∙ omega (arith, fits, length-append tokens (drop (length tokens) list), length-drop (length tokens) list)
+
+  -- The tokens stand at the list's front, as many as are counted.
+  pub tokens-in-list : take (recognition .answer .amount) (recognition .list) ≡ recognition .tokens
+  unfolding written-over
+  tokens-in-list =
+      let tokens = recognition .tokens in
+      ap (λ (n : ℕ). take n (recognition .list)) counted
+      ∙ (ap (take (length tokens)) (fixed-by .1) ∙ take-at tokens (drop (length tokens) list) (length tokens) refl)
+
+  -- There are these numbers and no others.
+  pub recognition-numbers : TurnedAway (recognition .answer .number) ⊎ TextRead (recognition .answer .number)
+  recognition-numbers = ⊎-map (λ h. h .0) (λ h. h .0) (recognises-ways sheet text (length work) (length list) (fixed-by .0))
+
+  -- "after it [20] and all before it the list is untouched": 1 to 10, 12 and 20.
+  pub list-untouched : TurnedAway (recognition .answer .number) → recognition .list ≡ list
+  unfolding written-over
+  list-untouched away = elim (recognises-ways sheet text (length work) (length list) (fixed-by .0)) [
+    | inl h ↦ fixed-by .1 ∙ ap (λ (tokens : List ℕ). written-over tokens list) (h .1)
+    | inr h ↦ absurd (not-both-ways away (h .0))
+  ]
+
+  -- Else, with 0, 14, 15 and 16, the list has the tokens that longest match finds, "one an entry, the rest of the list unchanged".
+  pub tokens-written : TextRead (recognition .answer .number)
+      → (found : TokensFound sheet text (length work) (length list) (recognition .tokens))
+      × (recognition .list ≡ written-over (tokens-of (found .lexemes)) list) × (recognition .answer .amount ≡ length (found .lexemes))
+  tokens-written read = elim (recognises-ways sheet text (length work) (length list) (fixed-by .0)) [
+    | inl h ↦ absurd (not-both-ways (h .0) read)
+    | inr h ↦ let r = h .1 in (
+      r,
+      fixed-by .1 ∙ ap (λ (tokens : List ℕ). written-over tokens list) (r .tokens-are),
+      counted ∙ (ap (λ (tokens : List ℕ). length tokens) (r .tokens-are) ∙ length-map (r .lexemes) (λ l. l .token)),
+    )
+  ]
+
+  module _ (passes : Passes f sheet work) (s : Sheet) (spells : Spells sheet s) where
+    enough : work-bytes ≤ length work
+    enough = let p = passes-by f demand sheet work bytes .0 passes in passed-passable sheet bytes (length work) (p .0) (p .1) .0
+
+    passable : Passable sheet s
+    passable =
+        let p = passes-by f demand sheet work bytes .0 passes in
+        let q = passed-passable sheet bytes (length work) (p .0) (p .1) in
+        subst (Passable sheet) (spelled-once sheet (p .0) s (q .1 .well-formed) spells) (q .1)
+
+    -- "Texts over 2,048 bytes are 12"
+    pub text-too-long : (recognition .answer ≡ answer 12 0 0) ↔ (most-recognised-bytes < length text)
+    text-too-long = (
+      (λ h. number-12 (fixed-by .0) (ap (λ (a : Answer). a .number) h)),
+      λ l. recognises-one sheet text (length work) (length list) bytes (fixed-by .0) (long-text s enough passable l) .0,
+    )
+
+    -- "a list shorter than the text is 20, after 12"
+    pub list-too-short : (recognition .answer ≡ answer 20 0 0) ↔ ((length text ≤ most-recognised-bytes) × (length list < length text))
+    list-too-short = (
+      (λ h. number-20 (fixed-by .0) (ap (λ (a : Answer). a .number) h)),
+      λ l. recognises-one sheet text (length work) (length list) bytes (fixed-by .0) (short-list s enough passable (l .0) (l .1)) .0,
+    )
+
+  -- "On every sheet that passes, a text that meets neither 12 nor 20":
+  module _ (passes : Passes f sheet work) (s : Sheet) (spells : Spells sheet s) (within : length text ≤ most-recognised-bytes)
+      (list-holds : length text ≤ length list) where
+    read-by : recogniser.NotTurnedAway sheet text (length work) (length list) s
+    read-by = record {
+      enough-work = enough passes s spells;
+      passable = passable passes s spells;
+      within = within;
+      list-holds = list-holds;
+    }
+
+    -- It "gets 14 at the first place where no rule matches", whatever the machine says, and the tokens before it.
+    pub unmatched-first : (p : ℕ) (lexemes : List Lexeme) → Lexes by-kind s text p lexemes → Unmatched s text p
+        → (recognition .answer ≡ answer 14 p (length lexemes)) × (recognition .tokens ≡ tokens-of lexemes)
+    unmatched-first p lexemes = no-rule-first sheet text (length work) (length list) bytes (fixed-by .0) s read-by
+
+    -- No place that reading reaches is without a match exactly if reading comes to the text's end.
+    pub read-through : MatchedThroughout s text ↔ ((lexemes : List Lexeme) × Lexes by-kind s text (length text) lexemes)
+    read-through = (matched-read-to-end s text (read-by .passable .no-empty-text), λ x. read-to-end-matched s text (x .1))
+
+    -- "where there is none", the number and the place of the sheet's own answer;
+    pub as-own : MatchedThroughout s text → (a : Answer) → OwnAnswer s text a
+        → (recognition .answer .number ≡ a .number) × (recognition .answer .place ≡ a .place)
+    as-own throughout a own =
+        let e = as-own-answer sheet text (length work) (length list) bytes (fixed-by .0) s read-by (read-through .0 throughout .1) a own .0 in
+        (ap (λ (b : Answer). b .number) e, ap (λ (b : Answer). b .place) e)
+
+    -- "it gets the machine's number and place on a long enough stack", with a table that fits or without one.
+    pub as-machine : MatchedThroughout s text → Demand3 f → (other buffer : List ℕ) → Accepts f sheet other buffer
+        → (lent : Lent) → long-enough text ≤ length (lent .stack) → (Short (lent .scanner) → ⊥)
+        → (ManyRows (lent .scanner) (image-of s) → ⊥)
+        → let a = f .run (f .write sheet other buffer .part) text lent .answer in
+        (recognition .answer .number ≡ a .number) × (recognition .answer .place ≡ a .place)
+    as-machine throughout demand-3 other buffer accepted lent long not-short few =
+        as-own throughout _ (own f demand-3 sheet other buffer bytes accepted s spells text lent (omega (arith, within)) long not-short few)
+
+    -- Unless that is 15, the count is the same too.
+    pub whole-as-machine : MatchedThroughout s text → Demand3 f → (other buffer : List ℕ) → Accepts f sheet other buffer
+        → (lent : Lent) → long-enough text ≤ length (lent .stack) → (Short (lent .scanner) → ⊥)
+        → (ManyRows (lent .scanner) (image-of s) → ⊥)
+        → let a = f .run (f .write sheet other buffer .part) text lent .answer in (a .number ≡ 15 → ⊥) → recognition .answer ≡ a
+    whole-as-machine throughout demand-3 other buffer accepted lent long not-short few =
+        unless-15 sheet text (length work) (length list) bytes (fixed-by .0) s read-by (read-through .0 throughout .1) _
+        (own f demand-3 sheet other buffer bytes accepted s spells text lent (omega (arith, within)) long not-short few)
+
+    by-descent : (lexemes : List Lexeme) → Lexes by-kind s text (length text) lexemes
+        → (o : Descent) → DescendsFromStart (s .expression) (tokens-of lexemes) o
+        → recognition .answer ≡ answer (number-for o) (place-for (starts-of lexemes) o (length text)) (length lexemes)
+    by-descent lexemes x = recogniser-laws.descent-decides sheet text (length work) (length list) bytes (fixed-by .0) s read-by x
+
+    -- 14 is given for no other reason.
+    pub unmatched-only : recognition .answer .number ≡ 14 → (p : ℕ) × (lexemes : List Lexeme) × Lexes by-kind s text p lexemes × Unmatched s text p
+    unmatched-only h =
+        let r = list-tokens-reads s text (read-by .passable .no-empty-text) in elim (r .stops) [
+          | inl e ↦ absurd (never (one-descent (read-by .passable) (tokens-of (r .lexemes)) .0)
+              (sym (ap (λ (a : Answer). a .number) (by-descent (r .lexemes) (subst (λ (p : ℕ). Lexes by-kind s text p (r .lexemes)) e (r .reads)) _
+              (one-descent (read-by .passable) (tokens-of (r .lexemes)) .1))) ∙ h))
+          | inr u ↦ (_, r .lexemes, r .reads, u)
+        ]
+      where
+        never : (o : Descent) → number-for o ≡ 14 → ⊥
+        never (left []) z = omega (arith, z)
+        never (left (t ∷ rest)) z = omega (arith, z)
+        never (stuck []) z = omega (arith, z)
+        never (stuck (t ∷ rest)) z = omega (arith, z)
+
+    -- The one descent over the tokens ends with what is answered.
+    pub descent-decides : (lexemes : List Lexeme) → Lexes by-kind s text (length text) lexemes
+        → (o : Descent) × DescendsFromStart (s .expression) (tokens-of lexemes) o
+        × ((r : Descent) → DescendsFromStart (s .expression) (tokens-of lexemes) r → r ≡ o)
+        × (recognition .answer ≡ answer (number-for o) (place-for (starts-of lexemes) o (length text)) (length lexemes))
+    descent-decides lexemes x =
+        let d = one-descent (read-by .passable) (tokens-of lexemes) in
+        (d .0, d .1, d .2, by-descent lexemes x (d .0) (d .1))
+
+    -- If the whole expression denotes nothing, the first token is refused, or the end.
+    module _ (none-denoted : (tokens : List ℕ) → Denotes (s .expression) tokens → ⊥) where
+      pub nothing-denoted : (l : Lexeme) (ls : List Lexeme) → Lexes by-kind s text (length text) (l ∷ ls)
+          → recognition .answer ≡ answer 15 (l .start) (suc (length ls))
+      nothing-denoted l ls x =
+          by-descent (l ∷ ls) x (stuck (tokens-of (l ∷ ls))) (not-entered (λ w. none-denoted (w .0) (w .1)))
+          ∙ ap (λ (i : ℕ). answer 15 (getD (l .start ∷ starts-of ls) i (length text)) (suc (length ls)))
+          (let z : suc (length (starts-of ls)) - suc (length (tokens-of ls)) ≡ 0 =
+          omega (arith, length-map ls (λ m. m .start), length-map ls (λ m. m .token)) in z)
+
+      pub nothing-denoted-at-end : Lexes by-kind s text (length text) [] → recognition .answer ≡ answer 16 (length text) 0
+      nothing-denoted-at-end x = by-descent [] x (stuck []) (not-entered (λ w. none-denoted (w .0) (w .1)))
+
+-- ---- [7], of the descent itself, whatever functions there are
+
+-- "then descends the expression itself": over the tokens of a text that is read to its end, the descent ends with the sheet's own answer.
+pub descent-is-right : (sheet : List ℕ) (s : Sheet) → Passable sheet s → (text : List ℕ) (lexemes : List Lexeme)
+    → Lexes by-kind s text (length text) lexemes → (o : Descent) → DescendsFromStart (s .expression) (tokens-of lexemes) o
+    → OwnAnswer s text (answer (number-for o) (place-for (starts-of lexemes) o (length text)) (length lexemes - length (rest-of o)))
+descent-is-right sheet s p text lexemes x o d = descent-own-answer s text ((p .has-type) .1) x d
+
+-- "So a branch that denotes nothing is not entered."
+pub only-denoting-entered : (e : Expression) (g g' c : ℕ) → Enters e g g' c → HasWord (language-of e g)
+only-denoting-entered = entered-denotes

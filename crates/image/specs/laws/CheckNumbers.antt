@@ -33,3 +33,12 @@ check-cases {bytes} (not-a-sheet question place l m r) = let a = refused-number 
 check-cases (empty-rule c k l m w) = inr (omega arith, omega arith)
 check-cases (untyped c node q l m n x) = let z = fault-number (x .fails) in inr (omega arith, omega arith)
 check-cases (passes s l a) = inl (refl, l, (s, a))
+
+-- Checking counts nothing.
+pub check-amount : {bytes : List ℕ} {work : ℕ} {a : Answer} → Checks bytes work a → a .amount ≡ 0
+check-amount (short-work l) = refl
+check-amount (long-sheet l m) = refl
+check-amount (not-a-sheet question place l m r) = refl
+check-amount (empty-rule c k l m w) = refl
+check-amount (untyped c node q l m n x) = refl
+check-amount (passes s l a) = refl

@@ -8,7 +8,8 @@ use Rattle.lexer.specs.RuleOrder.{image-sheet}
 use Rattle.image.specs.Check as check
 use Rattle.image.specs.Write.{write}
 use Rattle.sheet_checker.specs.Steps.{PassedParts}
-use Rattle.image_writer.proofs.Endings.{ends-failed, passed-parts, ends-passed, promised}
+use Rattle.sheet_checker.specs.laws.AnswerLaws.{passed-parts}
+use Rattle.image_writer.proofs.Endings.{ends-failed, ends-passed, promised}
 use Rattle.image_writer.proofs.write.Statement.{statement}
 use Rattle.image_writer.proofs.write.Tie as tie
 

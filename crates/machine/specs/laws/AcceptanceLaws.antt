@@ -2,8 +2,8 @@
 -- is never an answer.
 use mathlib.Core.Path.{_≡_, refl, sym, ap, subst, _∙_}
 use mathlib.Core.List.{List, [], _∷_, _++_, append-nil, append-assoc}
-use mathlib.Core.Logic.{_↔_}
-use Prim.Native.Nat.{ℕ, suc, _+_, _<_}
+use mathlib.Core.Logic.{_↔_, _⊎_, inl, inr}
+use Prim.Native.Nat.{ℕ, suc, _+_, _≤_, _<_}
 use native.Mathlib.Omega.{arith}
 use lib.ListN.{length, drop, length-map}
 use Rattle.sheet.specs.Sheet.{Sheet}
@@ -107,12 +107,16 @@ module _ (s : Sheet) (text : List ℕ) where
   accepted-answer a own lexemes l d =
       own-answer-one s text own (accepting l d) ∙ ap (λ (n : ℕ). answer 0 (length text) n) (length-map lexemes (λ l. l .token))
 
-  not-seventeen : {p n : ℕ} {tokens : List ℕ} → ReadingEnds s text p tokens n → n ≡ 17 → ⊥
-  not-seventeen (denoted e d) z = omega arith
-  not-seventeen (no-rule-matches l m) z = omega arith
-  not-seventeen (token-not-allowed k n t l m c f) z = omega arith
-  not-seventeen (not-denoted e d) z = omega arith
+  -- The numbers of the own answer: 0, 14, 15 and 16.
+  reading-number : {p n : ℕ} {tokens : List ℕ} → ReadingEnds s text p tokens n → (n ≡ 0) ⊎ ((14 ≤ n) × (n ≤ 16))
+  reading-number (denoted e d) = inl refl
+  reading-number (no-rule-matches l m) = inr (omega arith, omega arith)
+  reading-number (token-not-allowed k n t l m c f) = inr (omega arith, omega arith)
+  reading-number (not-denoted e d) = inr (omega arith, omega arith)
+
+  pub own-answer-number : (a : Answer) → OwnAnswer s text a → (a .number ≡ 0) ⊎ ((14 ≤ a .number) × (a .number ≤ 16))
+  own-answer-number a own = reading-number (answered-reading a own .ends)
 
   -- The sheet's own answer is never 17.
   pub own-answer-not-17 : (a : Answer) → OwnAnswer s text a → a .number ≡ 17 → ⊥
-  own-answer-not-17 a own = not-seventeen (answered-reading a own .ends)
+  own-answer-not-17 a own z = elim (own-answer-number a own) [ inl h ↦ omega (arith, h, z) | inr h ↦ omega (arith, h .1, z) ]

@@ -17,7 +17,7 @@ use Rattle.types.specs.Denotation.{Language, Denotes}
 use Rattle.types.specs.Types.{LanguageType, _⊢_∶_}
 use Rattle.normal_form.specs.Productions.{Row, row-of, Taking, most-growth}
 use Rattle.normal_form.specs.NormalForm.{normal-form}
-use Rattle.normal_form.specs.laws.NodeLanguages.{language-of}
+use Rattle.types.specs.NodeLanguages.{language-of}
 use Rattle.normal_form.specs.laws.Unfolding.{concatenation}
 use Rattle.normal_form.specs.laws.Pending.{Ready, TokenStep, StepWords, step-words, end-exact, GrowsBy, ready-one}
 use Rattle.normal_form.specs.laws.NormalFormLaws.{normal-form-fits, start-words}

@@ -23,12 +23,12 @@ use Rattle.machine.specs.laws.AcceptanceLaws.{ReadSoFar, nothing-read, a
 
 module _ (s : Sheet) (text : List ℕ) where
   -- A match of the image's order by number, with its action, is one of the sheet by kind.
-  record MatchOfSheet (rest : List ℕ) (n action : ℕ) : Type 0 where
-    rule : ℕ
-    longest : LongestMatch by-kind (s .rules) rest rule n
-    acts : ActionOf s rule action
+  pub record MatchOfSheet (rest : List ℕ) (n action : ℕ) : Type 0 where
+    pub rule : ℕ
+    pub longest : LongestMatch by-kind (s .rules) rest rule n
+    pub acts : ActionOf s rule action
 
-  of-sheet : {rest : List ℕ} {k n action : ℕ} → LongestMatch by-number (words-first (s .rules)) rest k n
+  pub of-sheet : {rest : List ℕ} {k n action : ℕ} → LongestMatch by-number (words-first (s .rules)) rest k n
       → ActionOf (image-sheet s) k action → MatchOfSheet rest n action
   unfolding image-sheet
   of-sheet {rest} {k} {n} m a =

@@ -14,7 +14,7 @@ use Rattle.machine.specs.OwnAnswer.{Allowed, ActionOf, AnswersFrom, acce
 
 module _ (order : Order) (s : Sheet) (text : List ℕ) where
   -- One longest match, and so one action.
-  same-action : {rest : List ℕ} {k n a j m b : ℕ} → LongestMatch order (s .rules) rest k n → ActionOf s k a
+  pub same-action : {rest : List ℕ} {k n a j m b : ℕ} → LongestMatch order (s .rules) rest k n → ActionOf s k a
       → LongestMatch order (s .rules) rest j m → ActionOf s j b → (n ≡ m) × (a ≡ b)
   same-action {rest} {k} {n} {a} {j} {m} {b} x u y v =
       let e = longest-one x y in

@@ -5,7 +5,7 @@ use mathlib.Core.List.{List, []}
 use Prim.Native.Nat.{ℕ, suc, _+_, _-_, _≤_, _<_}
 use native.Mathlib.Omega.{arith}
 use lib.ListN.{length, drop, take, length-drop}
-use lib.Seq.{take-all}
+use Rattle.basics.specs.laws.Buffers.{rest-from}
 use Rattle.lexer.specs.Walk.{longest-match}
 use Rattle.lexer.specs.laws.LongestMatchLaws.{match-within, match-rule-below}
 use Rattle.scanner.specs.Meaning.{match-of}
@@ -42,14 +42,10 @@ abbrev pub TurnsLead : Image → List ℕ → ImageTables → List ℕ → ℕ �
 TurnsLead i bytes t text stop whole stack (Done a) = answer-held a ≡ answer-of whole
 TurnsLead i bytes t text stop whole stack (Next s) = Going i bytes t text stack s whole × (stop ≤ s .place)
 
--- What the scanner sees of a text is the rest from the place on.
-pub rest-of : (text : List ℕ) (p : ℕ) → take (length text - p) (drop p text) ≡ drop p text
-rest-of text p = take-all (length text - p) (drop p text) (simp length-drop (omega arith))
-
--- What it finds there is the image's longest match at the place.
+-- The scanner sees the rest of a text from the place on, and finds the image's longest match there.
 pub scanned : (i : Image) (text : List ℕ) (p : ℕ) (f : Found)
     → match-of f ≡ longest-match (i .positions) (i .first) (take (length text - p) (drop p text)) → match-of f ≡ match-at i text p
-scanned i text p f e = e ∙ ap (λ (l : List ℕ). longest-match (i .positions) (i .first) l) (rest-of text p)
+scanned i text p f e = e ∙ ap (λ (l : List ℕ). longest-match (i .positions) (i .first) l) (rest-from text p)
 
 -- At the start: 0 alone is pending.
 going-start : (i : Image) (bytes : List ℕ) (t : ImageTables) → Decoded bytes t i → (text stack : List ℕ) → 1 ≤ length stack

@@ -13,17 +13,15 @@ use Rattle.basics.specs.Settle.{least-solution}
 use Rattle.basics.specs.laws.RoundLaws.{Equations, round-at, solution-rounds, solution-every, solution-unique, solution-solves}
 use Rattle.sheet.specs.Expression.{Expression, epsilon, bottom, token, sequence, alternative, fixed-point, variable, repetition, size}
 use Rattle.types.specs.Denotation.{Language, iterate, language-at, denotation}
-use Rattle.types.specs.Languages.{Environment}
+use Rattle.types.specs.Languages.{Environment, HasWord}
 use Rattle.types.specs.Types.{LanguageType, _⊢_∶_}
 use Rattle.types.specs.laws.SetOrder.{_⇒_, implied-both, and-rises, or-rises, flag, flag-rises, flag-most, flag-implies}
 use Rattle.types.specs.Nodes.{Node, epsilon-node, bottom-node, token-node, sequence-node, alternative-node, fixed-point-node, variable-node, repetition-node, nodes, node-at}
 use Rattle.normal_form.specs.Derives.{node-derives, derives}
 use Rattle.normal_form.specs.RowNames.{derives-at}
 use Rattle.normal_form.specs.laws.Places.{Placed, Everywhere, everywhere-all}
-use Rattle.normal_form.specs.laws.NodeLanguages.{language-of, languages-past, PartsDenote, whole-site, node-language, language-equation}
-
-abbrev pub HasWord : Language → Type 0
-HasWord L = (w : List ℕ) × L w
+use Rattle.normal_form.specs.laws.NodeLanguages.{languages-past, PartsDenote, whole-site, node-language, language-equation}
+use Rattle.types.specs.NodeLanguages.{language-of}
 
 -- ---- the equations can be solved by rounds
 

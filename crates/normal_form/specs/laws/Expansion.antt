@@ -13,7 +13,7 @@ use Rattle.types.specs.Types.{LanguageType, _⊢_∶_}
 use Rattle.normal_form.specs.Productions.{Row, row-of}
 use Rattle.normal_form.specs.Unfolds.{Unfolds, none-pending, unfold-epsilon, unfold-production}
 use Rattle.normal_form.specs.NormalForm.{normal-form}
-use Rattle.normal_form.specs.laws.NodeLanguages.{language-of}
+use Rattle.types.specs.NodeLanguages.{language-of}
 use Rattle.normal_form.specs.laws.Unfolding.{_of_, concatenation, ByRow, by-epsilon, by-production, UnfoldsOnce, concatenation-append, concatenation-split, production-word, null-exact}
 use Rattle.normal_form.specs.laws.NormalFormLaws.{normal-form-fits, start-words}
 

@@ -10,27 +10,13 @@ use lib.ListN.{getD, length, length-append, List·getD-eq-default}
 use Rattle.sheet.specs.Expression.{Expression, epsilon, bottom, token, sequence, alternative, fixed-point, variable, repetition, size}
 use Rattle.types.specs.Denotation.{Language, followed-by, language-at, denotation, Denotes}
 use Rattle.types.specs.Languages.{no-words, either, none-or-more, Environment}
+use Rattle.types.specs.NodeLanguages.{languages-from, language-of}
 use Rattle.types.specs.laws.DenotationLaws.{Pointwise, pointwise-nil, pointwise-cons, fixed-point-unrolls, repetition-unrolls}
 use Rattle.types.specs.Types.{LanguageType, bottom-type, all-usable, Usable, here, there, _⊢_∶_, type-epsilon, type-bottom, type-token, type-variable, type-sequence, type-alternative, type-fixed-point, type-repetition}
 use Rattle.types.specs.TypeNames.{Context}
 use Rattle.types.specs.laws.Soundness.{Satisfies, SatisfiesHypothesis, satisfies-usable, sound}
 use Rattle.types.specs.Nodes.{Node, epsilon-node, bottom-node, token-node, sequence-node, alternative-node, fixed-point-node, variable-node, repetition-node, nodes, node-at}
 use Rattle.normal_form.specs.laws.Places.{Segment, segment-left, segment-right, segment-all, Placed, nodes-placed, nodes-count, Everywhere, everywhere-all, usable-still, usable-again, none-usable}
-
--- The languages of all nodes of g, in sheet order.
-unfoldable pub languages-from : Expression → Environment → List Language
-languages-from epsilon γ = denotation epsilon γ ∷ []
-languages-from bottom γ = denotation bottom γ ∷ []
-languages-from (token k) γ = denotation (token k) γ ∷ []
-languages-from (sequence g h) γ = denotation (sequence g h) γ ∷ (languages-from g γ ++ languages-from h γ)
-languages-from (alternative g h) γ = denotation (alternative g h) γ ∷ (languages-from g γ ++ languages-from h γ)
-languages-from (fixed-point g) γ = denotation (fixed-point g) γ ∷ languages-from g (denotation (fixed-point g) γ ∷ γ)
-languages-from (variable n) γ = denotation (variable n) γ ∷ []
-languages-from (repetition g) γ = denotation (repetition g) γ ∷ languages-from g γ
-
--- L(n), for the node n of a sheet's expression.
-unfoldable pub language-of : Expression → ℕ → Language
-language-of e n = getD (languages-from e []) n no-words
 
 languages-length : (g : Expression) (γ : Environment) → length (languages-from g γ) ≡ size g
 unfolding languages-from size

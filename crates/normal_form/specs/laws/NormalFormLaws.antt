@@ -9,7 +9,7 @@ use lib.ListN.{getD, List·getD-eq-default}
 use Rattle.basics.specs.laws.BitLaws.{∈-disjoint}
 use Rattle.sheet.specs.Expression.{Expression, fixed-point, size}
 use Rattle.types.specs.Denotation.{Language, followed-by, denotation, Denotes}
-use Rattle.types.specs.Languages.{either, Environment}
+use Rattle.types.specs.Languages.{either, Environment, HasWord}
 use Rattle.types.specs.Types.{LanguageType, bottom-type, Separable, Usable, there, _⊢_∶_, type-epsilon, type-bottom, type-token, type-variable, type-sequence, type-alternative, type-fixed-point, type-repetition}
 use Rattle.types.specs.TypeNames.{Context}
 use Rattle.types.specs.laws.TypeLaws.{separable-from-repetition}
@@ -22,8 +22,9 @@ use Rattle.normal_form.specs.RowNames.{derives-at}
 use Rattle.normal_form.specs.NormalForm.{normal-form}
 use Rattle.normal_form.specs.laws.KeptRows.{staying-row, normal-form-solves, normal-form-length}
 use Rattle.normal_form.specs.laws.RowTypes.{normal-form-distinct}
-use Rattle.normal_form.specs.laws.NodeLanguages.{language-of, languages-past, start-language, node-language, Site, at-left, at-right, at-first, at-second, at-body, at-part, site-sound, site-equation, at-every-node}
-use Rattle.normal_form.specs.laws.DerivesExact.{HasWord, derives-exact}
+use Rattle.normal_form.specs.laws.NodeLanguages.{languages-past, start-language, node-language, Site, at-left, at-right, at-first, at-second, at-body, at-part, site-sound, site-equation, at-every-node}
+use Rattle.types.specs.NodeLanguages.{language-of}
+use Rattle.normal_form.specs.laws.DerivesExact.{derives-exact}
 use Rattle.normal_form.specs.laws.Unfolding.{epsilon-row, token-row, sequence-row, alternative-row, _of_, concatenation, UnfoldsOnce, one-node, epsilon-unfolds, bottom-unfolds, token-unfolds, sequence-unfolds, alternative-unfolds, production-word}
 use Rattle.normal_form.specs.laws.Pending.{Good, HaveWords, good-append, good-one, have-words-append, Fits}
 

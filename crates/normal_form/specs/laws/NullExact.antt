@@ -24,7 +24,8 @@ use Rattle.normal_form.specs.laws.Places.{nodes-count}
 use Rattle.normal_form.specs.laws.RowEquations.{row-solves}
 use Rattle.normal_form.specs.laws.KeptRows.{normal-form-epsilon}
 use Rattle.normal_form.specs.laws.RowTypes.{rows-within}
-use Rattle.normal_form.specs.laws.NodeLanguages.{language-of, Site, at-left, at-part, site-sound, at-every-node}
+use Rattle.normal_form.specs.laws.NodeLanguages.{Site, at-left, at-part, site-sound, at-every-node}
+use Rattle.types.specs.NodeLanguages.{language-of}
 use Rattle.normal_form.specs.laws.Unfolding.{null-exact}
 use Rattle.normal_form.specs.laws.NormalFormLaws.{normal-form-fits}
 
@@ -39,7 +40,7 @@ LeftNotNull rs (fixed-point-node b) = Unit
 LeftNotNull rs (variable-node f guarded) = Unit
 LeftNotNull rs (repetition-node b self) = (row-of rs b) .has-epsilon ≡ false
 
-not-true : (b : Bool) → (b ≡ true → ⊥) → b ≡ false
+pub not-true : (b : Bool) → (b ≡ true → ⊥) → b ≡ false
 not-true true h = absurd (h refl)
 not-true false h = refl
 

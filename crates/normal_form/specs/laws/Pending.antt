@@ -11,13 +11,10 @@ use lib.Dec.{T}
 use lib.ListN.{length, length-append}
 use Rattle.basics.specs.laws.Truth.{true-holds}
 use Rattle.types.specs.Denotation.{Language}
+use Rattle.types.specs.Languages.{Begins}
 use Rattle.normal_form.specs.Productions.{Production, Row, Taking}
 use Rattle.normal_form.specs.RowNames.{taken-by}
 use Rattle.normal_form.specs.laws.Unfolding.{_of_, concatenation, ByRow, by-epsilon, by-production, UnfoldsOnce, concatenation-append, concatenation-split, production-word, null-exact}
-
--- The token c begins a word of L.
-abbrev pub Begins : Language → ℕ → Type 0
-Begins L c = (v : List ℕ) × L (c ∷ v)
 
 -- The token c may follow a word of L inside L. The word may be empty: so it is FLAST, and FIRST too where L has the empty word.
 abbrev pub Follows : Language → ℕ → Type 0

@@ -1,0 +1,4 @@
+-- Laws that only the proofs of this crate's functions use.
+mod Storing
+mod Asking
+mod Rows

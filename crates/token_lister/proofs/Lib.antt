@@ -1,0 +1,5 @@
+-- The laws that the functions' proofs cite.
+pub mod Rules
+pub mod Tables
+pub mod Writing
+pub mod Reading
