@@ -58,6 +58,15 @@ extern "C" {
 /* The length of a stack that is enough for every text of n bytes: 1 + 31 times n. */
 #define VINZAGEW_STACK_LENGTH(n) (1 + (VINZAGEW_TAIL_LIMIT - 1) * (size_t)(n))
 
+/* The most bytes that a text for the recogniser may have. Its list must be as long as the text. */
+#define VINZAGEW_RECOGNISER_TEXT_LIMIT 2048
+
+/*
+ * The bytes of the processor's stack that a call of the recogniser needs at most. This is measured,
+ * not proved, for the library as `rt staticlib` builds it.
+ */
+#define VINZAGEW_RECOGNISER_STACK_BYTES 131072
+
 /* The entries that the table must have at least: at row times 256 plus byte stands the next row. */
 #define VINZAGEW_TABLE_ENTRIES 65536
 
@@ -80,14 +89,15 @@ extern "C" {
 #define VINZAGEW_NOT_SEPARABLE 9     /* a sequence, or a repetition's part, is not separable */
 #define VINZAGEW_NOT_APART 10        /* alternatives are not apart */
 #define VINZAGEW_IMAGE_TOO_LONG 11   /* the image does not fit in its buffer */
-#define VINZAGEW_TEXT_TOO_LONG 12    /* the text has more than 1,048,576 bytes */
+#define VINZAGEW_TEXT_TOO_LONG 12    /* the text has over 1,048,576 bytes, or 2,048 to recognise */
 #define VINZAGEW_NOT_READABLE 13     /* the image is not readable, say by a padded number */
 #define VINZAGEW_NO_MATCH 14         /* no rule matches here */
-#define VINZAGEW_NOT_TAKEN 15        /* no pending nonterminal takes the token */
-#define VINZAGEW_ENDS_EARLY 16       /* at the end, a pending nonterminal is not nullable */
+#define VINZAGEW_NOT_TAKEN 15        /* no pending nonterminal takes the token: it is not allowed */
+#define VINZAGEW_ENDS_EARLY 16       /* at the end, a pending one is not nullable: more is needed */
 #define VINZAGEW_STACK_TOO_SHORT 17  /* the stack does not hold all pending nonterminals */
 #define VINZAGEW_TABLE_TOO_SHORT 18  /* `table` has under 65,536 entries, or `winners` under 256 */
 #define VINZAGEW_TOO_MANY_ROWS 19    /* the image's table would have more than 256 rows */
+#define VINZAGEW_LIST_TOO_SHORT 20   /* the list for the tokens is shorter than the text */
 
 /*
  * Checks a sheet: questions 1 to 10, without an image buffer.
@@ -166,6 +176,35 @@ void vinzagew_run_table(const uint8_t *image, size_t image_len,
                         uint16_t *table, size_t table_len,
                         uint16_t *winners, size_t winners_len,
                         uint8_t *stack, size_t stack_len,
+                        uint64_t *out, size_t out_len);
+
+/*
+ * Recognises a text by a sheet, with no image: a yardstick for the machine. The sheet is checked
+ * first. The text's tokens are written into a list, and then the expression itself is descended, as
+ * in Figure 6 of "A Typed, Algebraic Approach to Parsing" (docs/REFERENCE.md, section 16).
+ *
+ * out[0]  number, 0 to 10, 12, 14, 15, 16 or 20; the order of the questions is 1 to 10, 12, 20, 14,
+ *         then 15 or 16
+ * out[1]  place: on acceptance the text's length; of 1 to 10 that of checking; of 14 the first
+ *         place that reading reaches where no rule matches; of 15 the token's first byte; of 16 the
+ *         text's length; of 12 and 20, 0
+ * out[2]  count: the tokens written, all of them with 0, 15 and 16, those before the place with 14;
+ *         of 1 to 10, 12 and 20, 0
+ *
+ * If the number is none of 1 to 10, 12 and 20: where a rule matches at every place that reading
+ * reaches, number and place are those of vinzagew_run with the sheet's image and a long enough
+ * stack; so is the count, unless the number is 15. Otherwise the number is 14, also where the run
+ * meets 15 at an earlier place.
+ *
+ * The first out[2] bytes of `list` are the tokens, token k as byte k, and the rest are as before;
+ * after 1 to 10, 12 and 20 all of `list` is as it was. `work` ends as after checking. Numbers of
+ * `out` past the third do not change. If out_len is below 3, nothing happens and nothing changes.
+ * A call needs up to VINZAGEW_RECOGNISER_STACK_BYTES of the processor's stack.
+ */
+void vinzagew_recognise(const uint8_t *sheet, size_t sheet_len,
+                        const uint8_t *text, size_t text_len,
+                        uint8_t *work, size_t work_len,
+                        uint8_t *list, size_t list_len,
                         uint64_t *out, size_t out_len);
 
 #ifdef __cplusplus

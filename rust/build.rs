@@ -30,7 +30,7 @@ fn main() {
         );
     } else {
         println!(
-            "cargo:warning={} was not found: checking, writing and running will panic, and the tests that need them are left out",
+            "cargo:warning={} was not found: checking, writing, running and recognising will panic, and the tests that need them are left out",
             archive.display()
         );
     }

@@ -1,12 +1,19 @@
 /*
  * Checks a sheet, and reads a text by it: read SHEET [TEXT]
  *
- * Checks the sheet in the first file. If it passes and a second file is named, writes the sheet's image
- * and runs it over the text in that file: with a table, or without one if the table would have over 256
- * rows, which gives the same. Prints number, place and count: of the check if the sheet is refused or no
- * text is named, with count 0, otherwise of the run. The exit status is 0 if the sheet passed and the text
- * was accepted, 1 if the sheet or the text was refused, and 2, with nothing printed but an error, if a file
- * could not be read, there was no memory or the usage was wrong.
+ * Checks the sheet in the first file. If it passes and a second file is named, writes the sheet's
+ * image and runs it over the text in that file: with a table, or without one if the table would
+ * have over 256 rows, which gives the same. Prints number, place and count: of the check if the
+ * sheet is refused or no text is named, with count 0, otherwise of the run.
+ *
+ * After a run a second line has what the recogniser says of the same sheet and text, to compare
+ * the two: number, place and count, and the tokens that it found. Number and place must be those
+ * of the run, unless the recogniser gives 14, which it looks for before 15, or 12: it takes texts
+ * of up to 2,048 bytes.
+ *
+ * The exit status is 0 if the sheet passed and the text was accepted, 1 if the sheet or the text
+ * was refused, 2, with nothing printed but an error, if a file could not be read, there was no
+ * memory or the usage was wrong, and 3 if run and recogniser differ where they must not.
  *
  * A sheet for numbers between slashes, with its numbers in octal for printf: version and counts; the
  * rules for a number N, a slash S and a blank that is skipped; the expression, N and then any number
@@ -21,8 +28,9 @@
  *   ./read sheet
  *   ./read sheet text
  *
- * prints `0 0 0` and `0 4 3`. A number of the sheet may be padded: with '\201\200\0' for a '\1' it
- * prints the same.
+ * prints `0 0 0`, and then `0 4 3` above `recogniser 0 4 3: 0 1 0`. A number of the sheet may be
+ * padded: with '\201\200\0' for a '\1' it prints the same. With the text 12//7 it prints `15 3 2`
+ * above `recogniser 15 3 4: 0 1 1 0`, and with 12//7h `15 3 2` above `recogniser 14 5 4: 0 1 1 0`.
  *
  * A sheet for the word `if` and a name. The name pattern stands above the word and matches it too, and
  * the word wins; a longer name wins over the word:
@@ -35,7 +43,7 @@
  *   printf 'if iffy' >text
  *   ./read sheet text
  *
- * prints `0 7 2`.
+ * prints `0 7 2` above `recogniser 0 7 2: 1 0`.
  *
  * A sheet for a word of `a` and `b` whose eighth letter from the end is an `a`. The table of its image would
  * have over 256 rows, so the text is read without one:
@@ -48,7 +56,7 @@
  *   printf 'abababab' >text
  *   ./read sheet text
  *
- * prints `0 8 1`.
+ * prints `0 8 1` above `recogniser 0 8 1: 0`.
  */
 #include <inttypes.h>
 #include <stdio.h>
@@ -63,6 +71,8 @@ static uint8_t work[VINZAGEW_WORK_BYTES];
 static uint8_t image[VINZAGEW_IMAGE_BYTES];
 static uint16_t table[VINZAGEW_TABLE_ENTRIES];
 static uint16_t winners[VINZAGEW_WINNER_ENTRIES];
+/* A longer text is refused before the list is looked at. */
+static uint8_t list[VINZAGEW_RECOGNISER_TEXT_LIMIT];
 
 /* Reads at most `room` bytes of a file. */
 static size_t read_file(const char *name, uint8_t *bytes, size_t room)
@@ -113,9 +123,40 @@ static void read_text(size_t sheet_length, size_t text_length, uint64_t out[3])
     free(stack);
 }
 
+/* Prints three numbers. */
+static void print(const uint64_t out[3])
+{
+    printf("%" PRIu64 " %" PRIu64 " %" PRIu64, out[0], out[1], out[2]);
+}
+
+/*
+ * Recognises a text by a sheet that passes, and prints that. Gives whether it agrees with a run:
+ * number and place are the same, or it has 14 and the run met 15 before. A long text is left out.
+ */
+static int recognise_text(size_t sheet_length, size_t text_length, const uint64_t run[3])
+{
+    uint64_t out[3];
+
+    vinzagew_recognise(sheet, sheet_length, text, text_length, work, sizeof work,
+                       list, sizeof list, out, 3);
+    printf("recogniser ");
+    print(out);
+    if (out[2] > 0)
+        putchar(':');
+    for (size_t token = 0; token < out[2]; token++)
+        printf(" %d", list[token]);
+    putchar('\n');
+    if (out[0] == VINZAGEW_TEXT_TOO_LONG)
+        return 1;
+    if (out[0] == VINZAGEW_NO_MATCH && run[0] == VINZAGEW_NOT_TAKEN)
+        return run[1] < out[1];
+    return out[0] == run[0] && out[1] == run[1];
+}
+
 int main(int argc, char **argv)
 {
     uint64_t out[3];
+    int passed;
 
     if (argc != 2 && argc != 3) {
         fprintf(stderr, "usage: %s SHEET [TEXT]\n", argv[0]);
@@ -126,9 +167,14 @@ int main(int argc, char **argv)
     size_t text_length = argc == 3 ? read_file(argv[2], text, sizeof text) : 0;
 
     vinzagew_check(sheet, sheet_length, work, sizeof work, out, 3);
-    if (argc == 3 && out[0] == VINZAGEW_SUCCESS)
+    passed = out[0] == VINZAGEW_SUCCESS;
+    if (argc == 3 && passed)
         read_text(sheet_length, text_length, out);
-
-    printf("%" PRIu64 " %" PRIu64 " %" PRIu64 "\n", out[0], out[1], out[2]);
+    print(out);
+    putchar('\n');
+    if (argc == 3 && passed && !recognise_text(sheet_length, text_length, out)) {
+        fputs("run and recogniser differ\n", stderr);
+        return 3;
+    }
     return out[0] == VINZAGEW_SUCCESS ? 0 : 1;
 }

@@ -1,11 +1,13 @@
 //! A proved grammar compiler, and the machine that reads by its images.
 //!
-//! A *sheet* has lexer rules and one typed context-free expression. [`check`](check()) says whether a
-//! sheet passes, [`write`](write()) turns it into an [`Image`], and [`Image::run`] reads a text by
-//! it; [`Image::run_long`] does so with a table, which is meant for long texts. All four call a static
-//! library whose code is proved to meet its contract, which `docs/REFERENCE.md` of the repository has in
-//! words; this package links it and lends it the buffers that it needs. The numbers and places in this
-//! documentation are those of REFERENCE, section 11.
+//! A *sheet* has lexer rules and one typed context-free expression. [`check`](check()) says whether
+//! a sheet passes, [`write`](write()) turns it into an [`Image`], and [`Image::run`] reads a text
+//! by it; [`Image::run_long`] does so with a table, which is meant for long texts.
+//! [`recognise`](recognise()) reads a text by the sheet itself, with a published method, to compare
+//! a surprise with. All five call a static library whose code is proved to meet its contract, which
+//! `docs/REFERENCE.md` of the repository has in words; this package links it and lends it the
+//! buffers that it needs. The numbers and places in this documentation are those of REFERENCE,
+//! section 11.
 //!
 //! [`builder`] writes sheets as Rust code. A number of a sheet may be padded with empty high groups, and
 //! [`patch`](patch()) then writes another value into it and moves no byte.
@@ -52,10 +54,14 @@ pub mod builder;
 pub mod library;
 mod number;
 mod patch;
+mod recogniser;
 mod refusal;
 
 pub use library::LIBRARY_LINKED;
 pub use patch::{patch, PatchError};
+pub use recogniser::{
+    recognise, recognise_with, Recognised, RECOGNISER_STACK_BYTES, RECOGNISER_TEXT_LIMIT,
+};
 pub use refusal::{CheckRefusal, Refusal};
 
 use library::{vinzagew_check, vinzagew_run, vinzagew_run_table, vinzagew_write};

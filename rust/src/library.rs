@@ -1,4 +1,4 @@
-//! The four functions of the static library, over slices.
+//! The five functions of the static library, over slices.
 //!
 //! They have all results and all effects of the C functions: an `out` shorter than 3 is left untouched,
 //! and nothing else happens then. Without the library they panic.
@@ -6,7 +6,9 @@
 /// Whether the static library was found when this package was built.
 pub const LIBRARY_LINKED: bool = cfg!(vinzagew_library);
 
-pub use linked::{vinzagew_check, vinzagew_run, vinzagew_run_table, vinzagew_write};
+pub use linked::{
+    vinzagew_check, vinzagew_recognise, vinzagew_run, vinzagew_run_table, vinzagew_write,
+};
 
 #[cfg(vinzagew_library)]
 mod linked {
@@ -54,6 +56,19 @@ mod linked {
                 winners_len: usize,
                 stack: *mut u8,
                 stack_len: usize,
+                out: *mut u64,
+                out_len: usize,
+            );
+
+            pub fn vinzagew_recognise(
+                sheet: *const u8,
+                sheet_len: usize,
+                text: *const u8,
+                text_len: usize,
+                work: *mut u8,
+                work_len: usize,
+                list: *mut u8,
+                list_len: usize,
                 out: *mut u64,
                 out_len: usize,
             );
@@ -138,6 +153,31 @@ mod linked {
             );
         }
     }
+
+    /// Checks a sheet and recognises a text by it: number, place and count go to `out[0..3]`.
+    pub fn vinzagew_recognise(
+        sheet: &[u8],
+        text: &[u8],
+        work: &mut [u8],
+        list: &mut [u8],
+        out: &mut [u64],
+    ) {
+        // SAFETY: as for `vinzagew_check`. The sheet and the text are only read.
+        unsafe {
+            c::vinzagew_recognise(
+                sheet.as_ptr(),
+                sheet.len(),
+                text.as_ptr(),
+                text.len(),
+                work.as_mut_ptr(),
+                work.len(),
+                list.as_mut_ptr(),
+                list.len(),
+                out.as_mut_ptr(),
+                out.len(),
+            );
+        }
+    }
 }
 
 #[cfg(not(vinzagew_library))]
@@ -164,6 +204,17 @@ mod linked {
         _table: &mut [u16],
         _winners: &mut [u16],
         _stack: &mut [u8],
+        _out: &mut [u64],
+    ) {
+        missing();
+    }
+
+    /// Stands where the library's function would be.
+    pub fn vinzagew_recognise(
+        _sheet: &[u8],
+        _text: &[u8],
+        _work: &mut [u8],
+        _list: &mut [u8],
         _out: &mut [u64],
     ) {
         missing();

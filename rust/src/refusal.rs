@@ -49,17 +49,17 @@ impl From<CheckRefusal> for Refusal {
     }
 }
 
-/// A refusal by writing or running: which question was answered with no, and where.
+/// A refusal by writing, running or recognising: which question was answered with no, and where.
 #[derive(Clone, Copy, Debug, PartialEq, Eq, Hash)]
 pub struct Refusal {
-    /// The number of the question, 1 to 19.
+    /// The number of the question, 1 to 20.
     pub number: u64,
     /// The place in the sheet (3 to 10), in the image (13) or in the text (14 to 17); 0 if the refusal
     /// names none.
     pub place: usize,
-    /// After 11 the bytes that the image needs, otherwise 0.
+    /// After 11 the bytes that the image needs, after 20 those that the list needs, otherwise 0.
     pub needed: usize,
-    /// The tokens that running took before the refusal, 0 for writing.
+    /// The tokens that running took before the refusal, or that recognising wrote; 0 for writing.
     pub tokens: usize,
 }
 
@@ -83,14 +83,15 @@ impl Refusal {
             9 => "Is the sequence separable, or the repetition's part separable from itself?",
             10 => "Are the alternatives apart?",
             11 => "Does the image fit in its buffer?",
-            12 => "Is the text within 1,048,576 bytes?",
+            12 => "Is the text within 1,048,576 bytes, or within 2,048 for the recogniser?",
             13 => "Is the image readable?",
             14 => "Does a rule match here?",
-            15 => "Does a pending nonterminal take it?",
-            16 => "At the end, are the pending nonterminals nullable?",
+            15 => "Does a pending nonterminal, or the descent, take the token?",
+            16 => "At the end, are the pending nonterminals nullable, or is the descent done?",
             17 => "Does the stack hold all pending nonterminals?",
             18 => "Has the table at least 65,536 entries, and the buffer for the winners at least 256?",
             19 => "Has the image's table at most 256 rows?",
+            20 => "Has the list for the tokens at least as many bytes as the text?",
             _ => "There is no question with this number.",
         }
     }
@@ -114,8 +115,8 @@ impl fmt::Display for Refusal {
         }
         write!(formatter, ": {} No", self.question())?;
         match self.number {
-            11 => write!(formatter, ": it needs {} bytes", self.needed),
-            14..=17 => write!(formatter, ", after {} tokens", self.tokens),
+            11 | 20 => write!(formatter, ": it needs {} bytes", self.needed),
+            14..=17 => write!(formatter, ", with {} tokens counted", self.tokens),
             _ => Ok(()),
         }
     }
@@ -153,8 +154,12 @@ mod tests {
             "refused with 11: Does the image fit in its buffer? No: it needs 48 bytes"
         );
         assert_eq!(
+            words(12, 0, 0, 0),
+            "refused with 12: Is the text within 1,048,576 bytes, or within 2,048 for the recogniser? No"
+        );
+        assert_eq!(
             words(15, 3, 0, 2),
-            "refused with 15 at place 3 of the text: Does a pending nonterminal take it? No, after 2 tokens"
+            "refused with 15 at place 3 of the text: Does a pending nonterminal, or the descent, take the token? No, with 2 tokens counted"
         );
         assert_eq!(
             words(18, 0, 0, 0),
@@ -163,6 +168,11 @@ mod tests {
         assert_eq!(
             words(19, 0, 0, 0),
             "refused with 19: Has the image's table at most 256 rows? No"
+        );
+        assert_eq!(
+            words(20, 0, 5, 0),
+            "refused with 20: Has the list for the tokens at least as many bytes as the text? \
+             No: it needs 5 bytes"
         );
     }
 

@@ -47,7 +47,7 @@ fn defined(header: &str, name: &str) -> usize {
 }
 
 /// The names of the numbers from 0 on, each with words of its question.
-const NUMBERS: [(&str, &str); 20] = [
+const NUMBERS: [(&str, &str); 21] = [
     ("SUCCESS", "no question"),
     ("WORK_TOO_SHORT", "work area"),
     ("SHEET_TOO_LONG", "sheet within"),
@@ -63,11 +63,12 @@ const NUMBERS: [(&str, &str); 20] = [
     ("TEXT_TOO_LONG", "text within"),
     ("NOT_READABLE", "readable"),
     ("NO_MATCH", "rule match"),
-    ("NOT_TAKEN", "take it"),
+    ("NOT_TAKEN", "take the token"),
     ("ENDS_EARLY", "At the end"),
     ("STACK_TOO_SHORT", "stack"),
     ("TABLE_TOO_SHORT", "table at least"),
     ("TOO_MANY_ROWS", "at most 256 rows"),
+    ("LIST_TOO_SHORT", "list for the tokens"),
 ];
 
 /// The header's numbers are those of this package's questions.
@@ -97,6 +98,14 @@ fn the_header_has_the_same_limits() {
     assert_eq!(limit("WIDTH_LIMIT"), vinzagew::WIDTH_LIMIT);
     assert_eq!(limit("TEXT_LIMIT"), vinzagew::TEXT_LIMIT);
     assert_eq!(limit("TAIL_LIMIT"), vinzagew::TAIL_LIMIT);
+    assert_eq!(
+        limit("RECOGNISER_TEXT_LIMIT"),
+        vinzagew::RECOGNISER_TEXT_LIMIT
+    );
+    assert_eq!(
+        limit("RECOGNISER_STACK_BYTES"),
+        vinzagew::RECOGNISER_STACK_BYTES
+    );
     assert_eq!(limit("TABLE_ENTRIES"), vinzagew::TABLE_ENTRIES);
     assert_eq!(limit("WINNER_ENTRIES"), vinzagew::WINNER_ENTRIES);
     assert_eq!(limit("NO_WINNER"), vinzagew::NO_WINNER.into());
@@ -132,6 +141,11 @@ fn call(folder: &Path, arguments: &[&str]) -> (String, Option<i32>) {
     (line.trim_end().to_owned(), output.status.code())
 }
 
+/// Lines as the example prints them, with this exit status.
+fn printed(lines: &[&str], status: i32) -> (String, Option<i32>) {
+    (lines.join("\n"), Some(status))
+}
+
 /// What the example prints for a sheet and a text, if there is one, and its exit status.
 fn read(folder: &Path, sheet: &[u8], text: Option<&[u8]>) -> (String, Option<i32>) {
     fs::write(folder.join("sheet"), sheet).expect("a sheet");
@@ -159,21 +173,33 @@ fn the_example_reads_numbers_between_slashes() {
     let sheet_d = [&rules[..], &own].concat();
     let padded: Vec<u8> = sheet_d.iter().flat_map(|byte| [byte | 0x80, 0]).collect();
     for sheet in [&sheet, &sheet_d, &padded] {
-        assert_eq!(check(sheet), ("0 0 0".to_owned(), Some(0)));
-        assert_eq!(read(sheet, b"12/7"), ("0 4 3".to_owned(), Some(0)));
-        assert_eq!(read(sheet, b"12//7"), ("15 3 2".to_owned(), Some(1)));
-        assert_eq!(read(sheet, b"12h"), ("14 2 1".to_owned(), Some(1)));
+        assert_eq!(check(sheet), printed(&["0 0 0"], 0));
+        for (text, run, recognised, status) in [
+            (&b"12/7"[..], "0 4 3", "recogniser 0 4 3: 0 1 0", 0),
+            (b"12//7", "15 3 2", "recogniser 15 3 4: 0 1 1 0", 1),
+            (b"12//7h", "15 3 2", "recogniser 14 5 4: 0 1 1 0", 1),
+            (b"12h", "14 2 1", "recogniser 14 2 1: 0", 1),
+            (b"", "16 0 0", "recogniser 16 0 0", 1),
+        ] {
+            let expected = printed(&[run, recognised], status);
+            assert_eq!(read(sheet, text), expected);
+        }
     }
     for (sheet, refusal) in [(&rules[..], "3 20 0"), (&[0; 4_097], "2 0 0")] {
-        assert_eq!(check(sheet), (refusal.to_owned(), Some(1)));
-        assert_eq!(read(sheet, b""), (refusal.to_owned(), Some(1)));
+        assert_eq!(check(sheet), printed(&[refusal], 1));
+        assert_eq!(read(sheet, b""), printed(&[refusal], 1));
     }
     let long = vec![b'1'; 1_048_577];
-    assert_eq!(read(&sheet, &long), ("12 0 0".to_owned(), Some(1)));
-    assert_eq!(
-        read(&sheet, &long[1..]),
-        ("0 1048576 1".to_owned(), Some(0))
-    );
+    let too_long = "recogniser 12 0 0";
+    for (length, run, recognised, status) in [
+        (2_048, "0 2048 1", "recogniser 0 2048 1: 0", 0),
+        (2_049, "0 2049 1", too_long, 0),
+        (1_048_576, "0 1048576 1", too_long, 0),
+        (1_048_577, "12 0 0", too_long, 1),
+    ] {
+        let expected = printed(&[run, recognised], status);
+        assert_eq!(read(&sheet, &long[..length]), expected);
+    }
 }
 
 /// The second sheet of the example's comment: a word below a name pattern is read as the word.
@@ -186,9 +212,13 @@ fn the_example_reads_a_word_below_a_name_pattern() {
         2, 1, 2, 0,
     ];
     let read = |text: &[u8]| read(&folder, &sheet, Some(text));
-    assert_eq!(read(b"if iffy"), ("0 7 2".to_owned(), Some(0)));
-    assert_eq!(read(b"if if"), ("15 3 1".to_owned(), Some(1)));
-    assert_eq!(read(b"iffy"), ("15 0 0".to_owned(), Some(1)));
+    for (text, run, recognised, status) in [
+        (&b"if iffy"[..], "0 7 2", "recogniser 0 7 2: 1 0", 0),
+        (b"if if", "15 3 1", "recogniser 15 3 2: 1 1", 1),
+        (b"iffy", "15 0 0", "recogniser 15 0 1: 0", 1),
+    ] {
+        assert_eq!(read(text), printed(&[run, recognised], status));
+    }
 }
 
 /// The third sheet of the example's comment: a table of its image would have over 256 rows, and the text is read
@@ -208,11 +238,15 @@ fn the_example_reads_without_a_table() {
     ]
     .concat();
     let read = |text: &[u8]| read(&folder, &sheet, Some(text));
-    assert_eq!(read(b"abababab"), ("0 8 1".to_owned(), Some(0)));
-    assert_eq!(read(b"babababa"), ("14 0 0".to_owned(), Some(1)));
-    assert_eq!(read(b""), ("16 0 0".to_owned(), Some(1)));
     let long = vec![b'a'; 1_048_577];
-    assert_eq!(read(&long), ("12 0 0".to_owned(), Some(1)));
+    for (text, run, recognised, status) in [
+        (&b"abababab"[..], "0 8 1", "recogniser 0 8 1: 0", 0),
+        (b"babababa", "14 0 0", "recogniser 14 0 0", 1),
+        (b"", "16 0 0", "recogniser 16 0 0", 1),
+        (&long, "12 0 0", "recogniser 12 0 0", 1),
+    ] {
+        assert_eq!(read(text), printed(&[run, recognised], status));
+    }
 }
 
 /// The status is 2, and nothing is printed, if a file is missing and if the usage is wrong.

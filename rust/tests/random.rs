@@ -45,10 +45,13 @@ fn every_number_comes_up() {
     let runs = [0].into_iter().chain(12..=17).map(|number| ("run", number));
     let numbers_with_a_table = [0].into_iter().chain(12..=19);
     let with_a_table = numbers_with_a_table.map(|number| ("run with a table", number));
+    let numbers_of_recognising = (0..=10).chain([12, 14, 15, 16, 20]);
+    let recognisings = numbers_of_recognising.map(|number| ("recognise", number));
     let expected: Vec<(&str, u64)> = checks
         .chain(writes)
         .chain(runs)
         .chain(with_a_table)
+        .chain(recognisings)
         .collect();
     let missing: Vec<&(&str, u64)> = expected
         .iter()

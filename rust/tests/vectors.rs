@@ -13,6 +13,7 @@ mod common;
 
 use common::json_lines::{self, Object};
 use common::numbers::{fewest_twin, place_in_twin};
+use common::recognised::{self, full_recognise, recognised};
 use common::tables::{full_run_table, Lent};
 use common::words::{pattern_above_word, without_words};
 use common::{
@@ -29,9 +30,11 @@ use vinzagew_reference::Table;
 struct File {
     name: &'static str,
     lines: &'static str,
-    /// How many of its vectors are of each kind of [`KINDS`], and how many are runs with a table.
+    /// How many of its vectors are of each kind of [`KINDS`], how many are runs with a table, and
+    /// how many are calls of the recogniser.
     of_each_kind: usize,
     tables: usize,
+    recognised: usize,
     /// How many of its vectors refuse a padded number of a sheet with 3, which request 3 changes.
     padded: usize,
     /// Whether it was written when word rules won over patterns.
@@ -44,15 +47,17 @@ struct File {
     changed: usize,
 }
 
-/// The files of vectors: of the base; of request 1, which has sheets with tag 7; of request 2, from which on
-/// sheets come with the verdict of checking; of request 3, which has sheets with padded numbers; of request 4, by
-/// which word rules win over patterns; and of request 6, which has runs with a table.
-const FILES: [File; 6] = [
+/// The files of vectors: of the base; of request 1, which has sheets with tag 7; of request 2, from
+/// which on sheets come with the verdict of checking; of request 3, which has sheets with padded
+/// numbers; of request 4, by which word rules win over patterns; of request 6, which has runs with
+/// a table; and of request 7, which has calls of the recogniser.
+const FILES: [File; 7] = [
     File {
         name: "base",
         lines: include_str!("data/base.jsonl"),
         of_each_kind: 375,
         tables: 0,
+        recognised: 0,
         padded: 5,
         words_win: false,
         order_matters: [88, 30, 16, 8],
@@ -63,6 +68,7 @@ const FILES: [File; 6] = [
         lines: include_str!("data/request-01.jsonl"),
         of_each_kind: 375,
         tables: 0,
+        recognised: 0,
         padded: 3,
         words_win: false,
         order_matters: [91, 25, 12, 4],
@@ -73,6 +79,7 @@ const FILES: [File; 6] = [
         lines: include_str!("data/request-02.jsonl"),
         of_each_kind: 375,
         tables: 0,
+        recognised: 0,
         padded: 3,
         words_win: false,
         order_matters: [82, 25, 9, 5],
@@ -83,6 +90,7 @@ const FILES: [File; 6] = [
         lines: include_str!("data/request-03.jsonl"),
         of_each_kind: 375,
         tables: 0,
+        recognised: 0,
         padded: 0,
         words_win: false,
         order_matters: [96, 41, 14, 14],
@@ -93,6 +101,7 @@ const FILES: [File; 6] = [
         lines: include_str!("data/request-04.jsonl"),
         of_each_kind: 375,
         tables: 0,
+        recognised: 0,
         padded: 0,
         words_win: true,
         order_matters: [91, 20, 11, 8],
@@ -103,22 +112,36 @@ const FILES: [File; 6] = [
         lines: include_str!("data/request-06.jsonl"),
         of_each_kind: 300,
         tables: 304,
+        recognised: 0,
         padded: 0,
         words_win: true,
         order_matters: [66, 22, 6, 2],
         changed: 0,
     },
+    File {
+        name: "request 7",
+        lines: include_str!("data/request-07.jsonl"),
+        of_each_kind: 250,
+        tables: 250,
+        recognised: 250,
+        padded: 0,
+        words_win: true,
+        order_matters: [52, 19, 9, 6],
+        changed: 0,
+    },
 ];
 
-/// The kinds of vectors that every file has. That of runs with a table is `table`.
+/// The kinds of vectors that every file has. That of runs with a table is `table`, that of calls of
+/// the recogniser `recognise`.
 const KINDS: [&str; 4] = ["compile", "read", "run", "program"];
 
 /// All vectors of a kind.
 fn vectors(file: &File, kind: &str) -> Vec<Object> {
-    let of_all_kinds = KINDS.len() * file.of_each_kind + file.tables;
+    let of_all_kinds = KINDS.len() * file.of_each_kind + file.tables + file.recognised;
     assert_eq!(file.lines.lines().count(), of_all_kinds);
     let of_this_kind = match kind {
         "table" => file.tables,
+        "recognise" => file.recognised,
         _ => file.of_each_kind,
     };
     let vectors: Vec<Object> = file
@@ -608,6 +631,91 @@ fn answers_and_rows_of_request_6() {
         assert!(some("number", number), "{number}");
     }
     assert!(some("rows", 255) && some("rows", 256));
+}
+
+/// A vector of the recogniser: its answer, and the list to the last byte. Where the list is long
+/// enough, it is also held against a longer one.
+#[test]
+fn recognise() {
+    compare("recognise", |_, engine, vector| {
+        let (sheet, text) = (vector.bytes("sheet"), vector.bytes("text"));
+        let length = |key| vector.number(key) as usize;
+        let found = |list| full_recognise(engine, &sheet, &text, length("work_len"), list);
+        let tokens = vector.numbers("tokens").expect("tokens").iter();
+        let tokens: Vec<u8> = tokens.map(|&token| token as u8).collect();
+        let own = length("list_len");
+        let difference = unequal(found(own), (three(vector, "count"), tokens));
+        if difference.is_none() && vector.number("number") != 20 {
+            return unequal(found(own + 300), found(own));
+        }
+        difference
+    });
+}
+
+#[test]
+fn recognise_with_a_short_out() {
+    compare("recognise", |_, engine, vector| {
+        let (sheet, text) = (vector.bytes("sheet"), vector.bytes("text"));
+        recognised::short_out_changes_nothing(engine, &sheet, &text);
+        None
+    });
+}
+
+/// The vectors of the recogniser against the machine: where every byte is in some match, number and
+/// place are those of a run of the sheet's image. After 14 the run may have met 15 before.
+#[test]
+fn run_of_the_recognisers_sheets() {
+    compare("recognise", |_, engine, vector| {
+        let expected @ [number, place, count] = three(vector, "count");
+        let (sheet, text) = (vector.bytes("sheet"), vector.bytes("text"));
+        if !matches!(number, 0 | 14..=16) {
+            return None;
+        }
+        let (_, image) = full_write(engine, &sheet, 65_536, 65_536);
+        let run = full_run(engine, &image, &text, stack_length(text.len()));
+        match (number, run) {
+            (14, [15, earlier, fewer]) if earlier < place && fewer < count => None,
+            (14, _) => unequal(run, expected),
+            _ => unequal([run[0], run[1]], [number, place]),
+        }
+    });
+}
+
+/// Every text of all files is recognised as it is read, but for a place after 15 where no rule
+/// matches.
+#[test]
+fn recognise_the_texts_that_are_read() {
+    compare("read", |file, engine, vector| {
+        let text = vector.bytes("text");
+        let (found, _) = recognised(engine, &held_against(file, vector), &text);
+        let [number, place, count] = three(vector, "count");
+        match (found, number) {
+            ([14, later, more], 15) if later > place && more > count => None,
+            (_, 14) => unequal(found, [number, place, count]),
+            _ => unequal([found[0], found[1]], [number, place]),
+        }
+    });
+}
+
+/// Every answer comes up in the calls of the recogniser but 2 and 6, and so do 14 after a 15 of the
+/// machine, lists that are longer than the text, and texts of 2,049 bytes.
+#[test]
+fn answers_of_request_7() {
+    let vectors = vectors(&FILES[6], "recognise");
+    let some = |holds: &dyn Fn(&Object) -> bool| vectors.iter().any(holds);
+    for number in [0, 1, 3, 4, 5, 7, 8, 9, 10, 12, 14, 15, 16, 20] {
+        assert!(some(&|own| own.number("number") == number), "{number}");
+    }
+    assert!(some(
+        &|own| own.number("list_len") as usize > own.bytes("text").len()
+    ));
+    assert!(some(&|own| own.bytes("text").len() == 2_049));
+    assert!(some(&|own| {
+        let text = own.bytes("text");
+        let (_, image) = full_write(REFERENCE, &own.bytes("sheet"), 65_536, 65_536);
+        let run = || full_run(REFERENCE, &image, &text, stack_length(text.len()));
+        own.number("number") == 14 && run()[0] == 15
+    }));
 }
 
 #[test]

@@ -12,8 +12,8 @@ use common::{
 use vinzagew::builder::{Expression, Field, PartKind, Regex, Sheet, SheetBuilder, Token};
 #[cfg(vinzagew_library)]
 use vinzagew::{
-    check, check_with, run_with, run_with_table, write, write_into, Image, Refusal, TABLE_ENTRIES,
-    WINNER_ENTRIES,
+    check, check_with, recognise, recognise_with, run_with, run_with_table, write, write_into,
+    Image, Recognised, Refusal, RECOGNISER_TEXT_LIMIT, TABLE_ENTRIES, WINNER_ENTRIES,
 };
 use vinzagew::{patch, stack_length, CheckRefusal, PatchError};
 use vinzagew_reference::image::Image as Parts;
@@ -796,6 +796,88 @@ fn the_wrapper_runs_long_texts() {
     assert_eq!(image.run_long(&words), Ok(100_000));
     assert_eq!(image.run_long(b"abbbbbbb b").unwrap_err().place, 9);
     assert_eq!(image.run_long(&long).unwrap_err().number, 12);
+}
+
+/// The wrapper gives the tokens, also if the text is refused by them or after some of them.
+#[cfg(vinzagew_library)]
+#[test]
+fn the_wrapper_recognises() {
+    let sheet = sheet_d();
+    let refused = |number, place, tokens: &[u8]| Recognised {
+        tokens: tokens.to_vec(),
+        answer: Err(Refusal {
+            number,
+            place,
+            needed: 0,
+            tokens: tokens.len(),
+        }),
+    };
+    let accepted = Recognised {
+        tokens: vec![0, 1, 0],
+        answer: Ok(3),
+    };
+    for (text, expected) in [
+        (&b"12 /7"[..], accepted),
+        (b"12//7h", refused(14, 5, &[0, 1, 1, 0])),
+        (b"12//7", refused(15, 3, &[0, 1, 1, 0])),
+        (b"12/", refused(16, 3, &[0, 1])),
+        (b"", refused(16, 0, &[])),
+        (&[b'1'; RECOGNISER_TEXT_LIMIT + 1], refused(12, 0, &[])),
+    ] {
+        assert_eq!(recognise(sheet.as_bytes(), text), expected);
+    }
+    let longest = recognise(sheet.as_bytes(), &[b'1'; RECOGNISER_TEXT_LIMIT]);
+    assert_eq!(longest.answer, Ok(1));
+    let cut = &sheet.as_bytes()[..30];
+    assert_eq!(recognise(cut, b"12"), refused(3, 30, &[]));
+}
+
+/// The wrapper recognises with buffers that are lent, and says how long the list must be.
+#[cfg(vinzagew_library)]
+#[test]
+fn the_wrapper_recognises_with_lent_buffers() {
+    let sheet = sheet_d();
+    let mut work = pattern(65_540);
+    let mut list = [77; 6];
+    let mut call = |text: &[u8], length: usize| {
+        let answer = recognise_with(sheet.as_bytes(), text, &mut work, &mut list[..length]);
+        assert!(work[..65_536].iter().all(|&byte| byte == 0));
+        assert_eq!(work[65_536..], pattern(65_540)[65_536..]);
+        (answer, list)
+    };
+    let needs_5 = Refusal {
+        needed: 5,
+        ..nowhere(20, 0)
+    };
+    assert_eq!(call(b"12 /7", 4), (Err(needs_5), [77; 6]));
+    assert_eq!(call(b"12 /7", 5), (Ok(3), [0, 1, 0, 77, 77, 77]));
+    let (answer, list) = call(b"//", 6);
+    let refusal = answer.unwrap_err();
+    assert_eq!((refusal.number, refusal.place, refusal.tokens), (15, 0, 2));
+    assert_eq!(list, [1, 1, 0, 77, 77, 77]);
+    let mut short = pattern(65_535);
+    let refusal = recognise_with(sheet.as_bytes(), b"", &mut short, &mut []).unwrap_err();
+    assert_eq!(refusal, nowhere(1, 0));
+    assert_eq!(short, pattern(65_535));
+}
+
+/// A surprise is compared with the published method: where no 14 comes up, number and place are the
+/// same.
+#[cfg(vinzagew_library)]
+#[test]
+fn the_wrapper_recognises_what_it_runs() {
+    let sheet = sheet_with_words();
+    let image = write(sheet.as_bytes()).unwrap();
+    for text in [&b"if iffy rem if"[..], b"iffy", b"if if", b"if", b""] {
+        let found = recognise(sheet.as_bytes(), text);
+        match (image.run(text), found.answer) {
+            (Ok(run), Ok(count)) => assert_eq!((run, run), (count, found.tokens.len())),
+            (Err(run), Err(other)) => {
+                assert_eq!((run.number, run.place), (other.number, other.place));
+            }
+            (run, other) => panic!("{run:?} and {other:?}"),
+        }
+    }
 }
 
 /// A refusal of writing or running that names no place.

@@ -1,9 +1,10 @@
-//! The grammars that are measured, each with a long and a short text that it accepts. Nothing is measured here.
+//! The grammars that are measured, each with a long, a middling and a short text that it accepts.
+//! Nothing is measured here.
 
 use vinzagew::builder::{Expression, Regex, Sheet, SheetBuilder, Token};
-use vinzagew::TEXT_LIMIT;
+use vinzagew::{RECOGNISER_TEXT_LIMIT, TEXT_LIMIT};
 
-/// A grammar with two texts.
+/// A grammar with three texts.
 pub struct Grammar {
     /// What the grammar reads.
     pub name: &'static str,
@@ -11,6 +12,8 @@ pub struct Grammar {
     pub sheet: Sheet,
     /// A text of at most [`TEXT_LIMIT`] bytes that it accepts, and not many fewer.
     pub text: Vec<u8>,
+    /// The same, but of at most [`RECOGNISER_TEXT_LIMIT`] bytes.
+    pub middling_text: Vec<u8>,
     /// A text of 8 bytes that it accepts.
     pub short_text: &'static [u8; 8],
 }
@@ -54,13 +57,13 @@ fn varied(state: &mut u32) -> u32 {
 }
 
 /// Repeats items between a start and an end until the limit is near.
-fn fill(start: &str, end: &str, mut item: impl FnMut(&mut u32, bool) -> String) -> Vec<u8> {
+fn fill(limit: usize, [start, end]: [&str; 2], item: &dyn Fn(&mut u32, bool) -> String) -> Vec<u8> {
     let mut text = start.as_bytes().to_vec();
     let mut state = 1;
     let mut first = true;
     loop {
         let next = item(&mut state, first);
-        if text.len() + next.len() + end.len() > TEXT_LIMIT {
+        if text.len() + next.len() + end.len() > limit {
             break;
         }
         text.extend(next.as_bytes());
@@ -68,6 +71,11 @@ fn fill(start: &str, end: &str, mut item: impl FnMut(&mut u32, bool) -> String) 
     }
     text.extend(end.as_bytes());
     text
+}
+
+/// The long text and the middling one, each of items between a start and an end.
+fn texts(start: &str, end: &str, item: impl Fn(&mut u32, bool) -> String) -> [Vec<u8>; 2] {
+    [TEXT_LIMIT, RECOGNISER_TEXT_LIMIT].map(|limit| fill(limit, [start, end], &item))
 }
 
 /// The contract's sheet D: numbers between slashes.
@@ -79,10 +87,12 @@ fn sheet_d() -> Grammar {
     builder.rule(slash, Regex::byte(b'/'));
     builder.skip(Regex::byte(b' '));
     let more = Expression::fix(|more| Expression::epsilon().or(slash.then(number.then(more))));
+    let [text, middling_text] = texts("7", "", |state, _| format!(" /{}", varied(state) % 10_000));
     Grammar {
         name: "sheet D",
         sheet: builder.finish(number.then(more)).expect("bound"),
-        text: fill("7", "", |state, _| format!(" /{}", varied(state) % 10_000)),
+        text,
+        middling_text,
         short_text: b"12/3/456",
     }
 }
@@ -102,13 +112,15 @@ fn s_expressions() -> Grammar {
         let rest = Expression::fix(|rest| Expression::from(close).or(expression.then(rest)));
         atom.or(open.then(rest))
     });
+    let [text, middling_text] = texts("(", ")", |state, _| {
+        let (one, other) = (varied(state), varied(state));
+        format!("(define f{one} (lambda (x y) (plus x (times y {other}))))\n")
+    });
     Grammar {
         name: "s-expressions",
         sheet: builder.finish(expression).expect("bound"),
-        text: fill("(", ")", |state, _| {
-            let (one, other) = (varied(state), varied(state));
-            format!("(define f{one} (lambda (x y) (plus x (times y {other}))))\n")
-        }),
+        text,
+        middling_text,
         short_text: b"(ab (c))",
     }
 }
@@ -161,10 +173,12 @@ fn json_with_lists(
             .label("array");
         Expression::alternative([string.into(), scalar.into(), object, array])
     });
+    let [text, middling_text] = json_texts();
     Grammar {
         name,
         sheet: builder.finish(value).expect("bound"),
-        text: json_text(),
+        text,
+        middling_text,
         short_text: b"[1,\"ab\"]",
     }
 }
@@ -211,8 +225,8 @@ fn json_number() -> Regex {
     ])
 }
 
-fn json_text() -> Vec<u8> {
-    fill("[", "]", |state, first| {
+fn json_texts() -> [Vec<u8>; 2] {
+    texts("[", "]", |state, first| {
         let comma = if first { "" } else { "," };
         let (one, other) = (varied(state), varied(state) % 1_000);
         format!(
@@ -270,13 +284,15 @@ fn csv_with_lines(
     builder.rule(field, Regex::sequence([quote(), quoted.star(), quote()]));
     builder.rule(comma, Regex::byte(b','));
     builder.rule(end, Regex::byte(b'\r').optional().then(Regex::byte(b'\n')));
+    let [text, middling_text] = texts("number,name,place,count\n", "", |state, _| {
+        let (one, other) = (varied(state), varied(state) % 1_000);
+        format!("{one},\"plot {other}, \"\"north\"\"\",,{other}\r\n")
+    });
     Grammar {
         name,
         sheet: builder.finish(file(field, comma, end)).expect("bound"),
-        text: fill("number,name,place,count\n", "", |state, _| {
-            let (one, other) = (varied(state), varied(state) % 1_000);
-            format!("{one},\"plot {other}, \"\"north\"\"\",,{other}\r\n")
-        }),
+        text,
+        middling_text,
         short_text: b"ab,\"c\",\n",
     }
 }

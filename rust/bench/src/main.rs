@@ -1,5 +1,5 @@
-//! Measures checking, writing and running beside plain Rust code, in the same process, and prints
-//! Markdown.
+//! Measures checking, writing and running beside plain Rust code, and the recogniser beside the
+//! machine, in the same process, and prints Markdown.
 //!
 //! `cargo run --release --bin bench`, and with `-- --chart FILE` after it the speeds of running are also drawn
 //! into an SVG file ([`chart`]). Running is measured on accepted texts of up to 1 MiB and of 8 bytes,
@@ -21,6 +21,7 @@ mod common;
 mod grammars;
 mod plain_check;
 mod plain_write;
+mod recognising;
 mod running;
 mod sheets;
 
@@ -51,6 +52,7 @@ fn main() {
     if let Some(file) = chart_file {
         write_chart(&file, &chart::chart(running::SMALL_STACK, &speeds));
     }
+    recognising::table();
 
     println!("\nChecking and writing, {ROUNDS} rounds, median:\n");
     println!(

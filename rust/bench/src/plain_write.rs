@@ -600,13 +600,14 @@ mod tests {
     use crate::sheets;
 
     /// All files of vectors. Request 5 changed no answer and has none.
-    const FILES: [&str; 6] = [
+    const FILES: [&str; 7] = [
         include_str!("../../tests/data/base.jsonl"),
         include_str!("../../tests/data/request-01.jsonl"),
         include_str!("../../tests/data/request-02.jsonl"),
         include_str!("../../tests/data/request-03.jsonl"),
         include_str!("../../tests/data/request-04.jsonl"),
         include_str!("../../tests/data/request-06.jsonl"),
+        include_str!("../../tests/data/request-07.jsonl"),
     ];
 
     /// The plain writer and the reference agree on a sheet: on their results, and on what they leave in the work
@@ -633,8 +634,8 @@ mod tests {
         number
     }
 
-    /// They agree on the sheets of all vectors. What the vectors of the last two files say of writing holds; those of
-    /// the others are from before word rules won.
+    /// They agree on the sheets of all vectors. What the vectors of the last three files say of
+    /// writing holds; those of the others are from before word rules won.
     #[test]
     fn vectors() {
         let mut met = [0; 12];

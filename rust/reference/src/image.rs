@@ -30,7 +30,7 @@ pub struct Row {
 
 /// The rules in the order in which an image numbers them: the word rules, then all others, each kind in
 /// sheet order.
-fn numbered(sheet: &Sheet) -> Vec<&Rule> {
+pub fn numbered(sheet: &Sheet) -> Vec<&Rule> {
     let (words, others): (Vec<&Rule>, Vec<&Rule>) =
         sheet.rules.iter().partition(|rule| rule.regex.is_word());
     [words, others].concat()

@@ -1,10 +1,11 @@
-//! A plain implementation of checking sheets, writing their images and running images.
+//! A plain implementation of checking sheets, writing their images, running images and recognising
+//! texts.
 //!
-//! It was written from the owner's contract alone (`docs/REFERENCE.md` renders it), without a look at the
-//! proved code, and it is made to be read, not to be fast. Its four main functions,
-//! [`vinzagew_check`], [`vinzagew_write`], [`vinzagew_run`] and [`vinzagew_run_table`], have the same results and the
-//! same effects on every buffer as the functions of the static library, so that the two can be compared to
-//! the last byte.
+//! It was written from the owner's contract alone (`docs/REFERENCE.md` renders it), without a look
+//! at the proved code, and it is made to be read, not to be fast. Its five main functions,
+//! [`vinzagew_check`], [`vinzagew_write`], [`vinzagew_run`], [`vinzagew_run_table`] and
+//! [`vinzagew_recognise`], have the same results and the same effects on every buffer as the
+//! functions of the static library, so that the two can be compared to the last byte.
 //!
 //! [`answer()`] works out the sheet's own answer in another way: from the words of the regexes and from
 //! what the expression denotes, with no image and no machine.
@@ -38,12 +39,14 @@ pub mod lexer;
 pub mod machine;
 pub mod normal_form;
 pub mod number;
+pub mod recogniser;
 pub mod sheet;
 pub mod table;
 pub mod types;
 
 pub use answer::answer;
 pub use machine::{run, vinzagew_run, Ran};
+pub use recogniser::{recognise, vinzagew_recognise, RECOGNISER_TEXT_LIMIT};
 pub use table::{run_table, vinzagew_run_table, Table};
 
 use sheet::Sheet;

@@ -1,11 +1,11 @@
-//! The contract's worked cases, and those of requests 1 to 6 of document 02: no random ones.
+//! The contract's worked cases, and those of requests 1 to 7 of document 02: no random ones.
 
 use vinzagew_reference::image::Image;
 use vinzagew_reference::number::write_padded;
 use vinzagew_reference::sheet::Sheet;
 use vinzagew_reference::table::{NO_WINNER, TABLE_ENTRIES, WINNER_ENTRIES};
 use vinzagew_reference::{
-    answer, check, run, run_table, stack_length, write, Ran, Refusal, Table, Written,
+    answer, check, recognise, run, run_table, stack_length, write, Ran, Refusal, Table, Written,
 };
 
 /// Sheet D's bytes before its expression.
@@ -697,4 +697,72 @@ fn the_first_two_rows() {
     let none = table(&[0, 255, 1], 0);
     assert_eq!(none.winners, [NO_WINNER, NO_WINNER]);
     assert_eq!(none.entries, [1; 512]);
+}
+
+/// What the recogniser says of a text, with a list that has one byte more than need be: number,
+/// place and the tokens, as many as counted.
+fn recognised(sheet: &[u8], text: &[u8]) -> (u64, usize, Vec<u8>) {
+    let mut work = vec![0xa5; 65_537];
+    let mut list = vec![0xa5; text.len() + 1];
+    let ran = recognise(sheet, text, &mut work, &mut list);
+    assert!(work[..65_536].iter().all(|&byte| byte == 0));
+    assert_eq!(work[65_536], 0xa5);
+    assert!(list[ran.tokens..].iter().all(|&byte| byte == 0xa5));
+    list.truncate(ran.tokens);
+    (ran.number, ran.place, list)
+}
+
+/// Request 7 of document 02: the tokens are all written, and 14 comes before any 15.
+#[test]
+fn the_recogniser_and_sheet_d() {
+    let sheet = with_rules(&EXPRESSION);
+    for (text, number, place, tokens) in [
+        (&b"12 /7"[..], 0, 5, &[0, 1, 0][..]),
+        (b"12//7", 15, 3, &[0, 1, 1, 0]),
+        (b"12//7h", 14, 5, &[0, 1, 1, 0]),
+        (b"12 7 /", 15, 3, &[0, 0, 1]),
+        (b"12/", 16, 3, &[0, 1]),
+        (b"12h", 14, 2, &[0]),
+        (b"", 16, 0, &[]),
+    ] {
+        let expected = (number, place, tokens.to_vec());
+        assert_eq!(recognised(&sheet, text), expected);
+        let run = read(&sheet, text);
+        assert!(number == 14 || (run.0, run.1) == (number, place));
+    }
+}
+
+/// A branch that denotes nothing is not entered, and a whole that denotes nothing takes no token.
+#[test]
+fn the_recogniser_and_branches_that_denote_nothing() {
+    // N·⊥ ∨ S
+    let branch = with_rules(&[4, 3, 2, 0, 1, 2, 1]);
+    assert_eq!(recognised(&branch, b"1"), (15, 0, vec![0]));
+    assert_eq!(recognised(&branch, b"/"), (0, 1, vec![1]));
+    // μα.N·α
+    let whole = with_rules(&[5, 3, 2, 0, 6, 0]);
+    assert_eq!(recognised(&whole, b"1 2"), (15, 0, vec![0, 0]));
+    assert_eq!(recognised(&whole, b""), (16, 0, vec![]));
+}
+
+/// The order is 1 to 10, 12, 20, 14. Up to 20 the list is untouched.
+#[test]
+fn questions_12_and_20() {
+    let sheet = with_rules(&EXPRESSION);
+    let refused = with_rules(&[4, 2, 0, 2, 0]);
+    let long = [b'7'; 2_049];
+    for (sheet, text, list_length, number, place) in [
+        (&refused, &long[..], 0, 10, 20),
+        (&refused, b"hh", 1, 10, 20),
+        (&sheet, &long, 2_048, 12, 0),
+        (&sheet, &long, 2_049, 12, 0),
+        (&sheet, &long[1..], 2_047, 20, 0),
+        (&sheet, b"hh", 1, 20, 0),
+    ] {
+        let mut list = vec![0xa5; list_length];
+        let ran = recognise(sheet, text, &mut vec![0xa5; 65_536], &mut list);
+        assert_eq!((ran.number, ran.place, ran.tokens), (number, place, 0));
+        assert!(list.iter().all(|&byte| byte == 0xa5));
+    }
+    assert_eq!(recognised(&sheet, &long[1..]), (0, 2_048, vec![0]));
 }

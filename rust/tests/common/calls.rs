@@ -1,4 +1,5 @@
-//! Random calls of checking, writing and running, with and without a table, with all their buffers.
+//! Random calls of checking, writing, running, with and without a table, and recognising, with all
+//! their buffers.
 //!
 //! A call can be made by any engine, and two of them compared to the last byte. What is right
 //! is not said here: the reference is asked only for images to run and for lengths that matter.
@@ -36,6 +37,13 @@ pub enum Call {
         stack: Vec<u8>,
         out: Vec<u64>,
     },
+    Recognise {
+        sheet: Vec<u8>,
+        text: Vec<u8>,
+        work: Vec<u8>,
+        list: Vec<u8>,
+        out: Vec<u64>,
+    },
 }
 
 impl Call {
@@ -62,6 +70,13 @@ impl Call {
                 stack,
                 out,
             } => (engine.run_table)(image, text, table, winners, stack, out),
+            Call::Recognise {
+                sheet,
+                text,
+                work,
+                list,
+                out,
+            } => (engine.recognise)(sheet, text, work, list, out),
         }
     }
 
@@ -71,6 +86,7 @@ impl Call {
             Call::Write { .. } => "write",
             Call::Run { .. } => "run",
             Call::RunTable { .. } => "run with a table",
+            Call::Recognise { .. } => "recognise",
         }
     }
 
@@ -79,7 +95,8 @@ impl Call {
             Call::Check { out, .. }
             | Call::Write { out, .. }
             | Call::Run { out, .. }
-            | Call::RunTable { out, .. } => out,
+            | Call::RunTable { out, .. }
+            | Call::Recognise { out, .. } => out,
         }
     }
 
@@ -89,6 +106,7 @@ impl Call {
             Call::Check { work, .. } => vec![work],
             Call::Write { work, image, .. } => vec![work, image],
             Call::Run { stack, .. } | Call::RunTable { stack, .. } => vec![stack],
+            Call::Recognise { work, list, .. } => vec![work, list],
         }
     }
 
@@ -107,6 +125,7 @@ impl Call {
             Call::Run { image, text, .. } | Call::RunTable { image, text, .. } => {
                 vec![image, text]
             }
+            Call::Recognise { sheet, text, .. } => vec![sheet, text],
         }
     }
 }
@@ -372,12 +391,55 @@ pub fn run_table_call(random: &mut Random) -> Call {
     }
 }
 
+/// A text for a sheet of any kind; for one that passes, in most cases it has tokens of the sheet.
+/// Some texts have as many bytes as the recogniser allows, or nearly.
+fn text_for(random: &mut Random, sheet: &[u8]) -> Vec<u8> {
+    let mut text = match image_of(sheet) {
+        Ok(image) => generate::text(random, &image),
+        Err(_) => generate::letters(random),
+    };
+    if random.once_in(12) {
+        let length = random.range(2_046, 2_049);
+        let piece = if text.is_empty() { b"a" } else { &text[..] };
+        text = piece.iter().copied().cycle().take(length).collect();
+    }
+    text
+}
+
+/// The length of a list for a text; some are too short, and some longer than need be.
+pub fn list_length(random: &mut Random, text: &[u8]) -> usize {
+    match random.below(12) {
+        0 => random.below(text.len() + 1),
+        1 => text.len().saturating_sub(1),
+        2 | 3 => text.len() + random.below(300),
+        _ => text.len(),
+    }
+}
+
+fn recognise_call(random: &mut Random) -> Call {
+    let sheet = match random.below(4) {
+        0 => sheet(random),
+        1 => generate::unfinished_sheet(random).to_bytes(),
+        _ => generate::passing_sheet(random).to_bytes(),
+    };
+    let text = text_for(random, &sheet);
+    let (work_length, list_length) = (work_length(random), list_length(random, &text));
+    Call::Recognise {
+        work: buffer(random, work_length),
+        list: buffer(random, list_length),
+        out: out(random),
+        sheet,
+        text,
+    }
+}
+
 /// A call of any kind.
 pub fn call(random: &mut Random) -> Call {
-    match random.below(5) {
+    match random.below(6) {
         0 => check_call(random),
         1 => write_call(random),
         2 => run_table_call(random),
+        3 => recognise_call(random),
         _ => run_call(random),
     }
 }

@@ -227,6 +227,8 @@ struct Typed<'a> {
     tokens: Vec<Token>,
     /// Whether a bound may be forgotten now and then, so that some node may fail its question.
     slips: bool,
+    /// In how many leaves one is ⊥.
+    bottoms: usize,
 }
 
 impl Typed<'_> {
@@ -256,7 +258,7 @@ impl Typed<'_> {
             .copied()
             .filter(|token| bounds.first >> token.number() & 1 == 1)
             .collect();
-        if tokens.is_empty() || self.random.once_in(40) {
+        if tokens.is_empty() || self.random.once_in(self.bottoms) {
             return Expression::bottom();
         }
         Expression::token(*self.random.pick(&tokens))
@@ -447,6 +449,31 @@ pub fn overlapping_sheet(random: &mut Random) -> Sheet {
     builder.finish(any.star()).expect("there are no variables")
 }
 
+/// A sheet that passes checking, with many branches that denote nothing.
+pub fn unfinished_sheet(random: &mut Random) -> Sheet {
+    let (builder, tokens) = rules(random);
+    let size = random.range(3, 40);
+    let expression = expression_within(random, tokens, size, false, 5);
+    builder.finish(expression).expect("every variable is open")
+}
+
+/// A sheet that passes checking, with one to four tokens of one byte each and up to 64 expression
+/// nodes.
+pub fn letter_sheet(random: &mut Random) -> Sheet {
+    let mut builder = SheetBuilder::new();
+    let count = random.range(1, 4);
+    let tokens = add_tokens(&mut builder, count);
+    for (token, byte) in tokens.iter().zip(b'a'..) {
+        builder.rule(*token, Regex::byte(byte));
+    }
+    let size = match random.below(2) {
+        0 => NODE_LIMIT,
+        _ => random.range(3, NODE_LIMIT),
+    };
+    let expression = typed_expression(random, tokens, size, false);
+    builder.finish(expression).expect("every variable is open")
+}
+
 fn typed_sheet(random: &mut Random, slips: bool) -> Sheet {
     let rules = rules(random);
     sheet_of_rules(random, rules, slips)
@@ -474,6 +501,17 @@ fn typed_expression(
     size: usize,
     slips: bool,
 ) -> Expression {
+    expression_within(random, tokens, size, slips, 40)
+}
+
+/// The same, with one ⊥ in so many leaves.
+fn expression_within(
+    random: &mut Random,
+    tokens: Vec<Token>,
+    size: usize,
+    slips: bool,
+    bottoms: usize,
+) -> Expression {
     let bounds = Bounds {
         first: tokens
             .iter()
@@ -485,6 +523,7 @@ fn typed_expression(
         random,
         tokens,
         slips,
+        bottoms,
     };
     typed.expression(size, bounds, &[])
 }
@@ -1090,8 +1129,19 @@ fn separator(random: &mut Random, image: &Image) -> &'static [u8] {
     }
 }
 
-/// A text of about `size` tokens that is derived from the start.
+/// A text of about `size` tokens, or fewer, that is derived from the start.
 pub fn derived_text(random: &mut Random, image: &Image, size: usize) -> Vec<u8> {
+    derived_until(random, image, size, 12)
+}
+
+/// A text of about `size` tokens that is derived from the start; fewer only if it must end.
+pub fn long_text(random: &mut Random, image: &Image, size: usize) -> Vec<u8> {
+    derived_until(random, image, size, usize::MAX)
+}
+
+/// A text of about `size` tokens that is derived from the start. Where it may end, it does once in
+/// `ends` times.
+fn derived_until(random: &mut Random, image: &Image, size: usize, ends: usize) -> Vec<u8> {
     let mut text = Vec::new();
     let separator = separator(random, image);
     // The first pending nonterminal comes last.
@@ -1115,7 +1165,7 @@ pub fn derived_text(random: &mut Random, image: &Image, size: usize) -> Vec<u8> 
         }
         let may_end = pending.iter().all(|&number| image.rows[number].nullable);
         let winding_down = taken >= size;
-        if choices.is_empty() || may_end && (winding_down || random.once_in(12)) {
+        if choices.is_empty() || may_end && (winding_down || random.once_in(ends)) {
             break;
         }
         if winding_down {
@@ -1129,6 +1179,17 @@ pub fn derived_text(random: &mut Random, image: &Image, size: usize) -> Vec<u8> 
         text.extend(separator);
     }
     text
+}
+
+/// Words of so many rules in a row, whatever the start derives.
+pub fn words(random: &mut Random, image: &Image, count: usize) -> Vec<u8> {
+    let rules = image.skips.len();
+    (0..count)
+        .flat_map(|_| {
+            let rule = random.below(rules);
+            word(random, image, rule)
+        })
+        .collect()
 }
 
 /// A few letters.

@@ -11,6 +11,7 @@ pub mod images;
 pub mod json_lines;
 pub mod numbers;
 pub mod random;
+pub mod recognised;
 pub mod tables;
 pub mod words;
 
@@ -35,7 +36,10 @@ pub type Run = fn(&[u8], &[u8], &mut [u8], &mut [u64]);
 /// Runs an image with a table: image, text, table, winners, stack, out.
 pub type RunTable = fn(&[u8], &[u8], &mut [u16], &mut [u16], &mut [u8], &mut [u64]);
 
-/// The four functions of an implementation, with the results and effects of the C interface.
+/// Recognises a text by a sheet: sheet, text, work area, list, out.
+pub type Recognise = fn(&[u8], &[u8], &mut [u8], &mut [u8], &mut [u64]);
+
+/// The five functions of an implementation, with the results and effects of the C interface.
 #[derive(Clone, Copy)]
 pub struct Engine {
     pub name: &'static str,
@@ -43,6 +47,7 @@ pub struct Engine {
     pub write: Write,
     pub run: Run,
     pub run_table: RunTable,
+    pub recognise: Recognise,
 }
 
 pub const REFERENCE: Engine = Engine {
@@ -51,6 +56,7 @@ pub const REFERENCE: Engine = Engine {
     write: vinzagew_reference::vinzagew_write,
     run: vinzagew_reference::vinzagew_run,
     run_table: vinzagew_reference::vinzagew_run_table,
+    recognise: vinzagew_reference::vinzagew_recognise,
 };
 
 pub const LIBRARY: Engine = Engine {
@@ -59,6 +65,7 @@ pub const LIBRARY: Engine = Engine {
     write: vinzagew::library::vinzagew_write,
     run: vinzagew::library::vinzagew_run,
     run_table: vinzagew::library::vinzagew_run_table,
+    recognise: vinzagew::library::vinzagew_recognise,
 };
 
 /// The reference, and the library if it was linked.
