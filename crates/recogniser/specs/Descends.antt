@@ -1,6 +1,7 @@
 -- Document 001's recogniser: Figure 6, line by line, and the lines for repetition. A relation: from a node and the tokens s,
 -- what the descent leaves of s, or where it fails. FIRST and NULL are asked of the languages and not of the types: "a branch that denotes
--- nothing is not entered", and τ.FIRST has the tokens of such a branch too, as that of N·⊥ has N. Otherwise they are the same.
+-- nothing is not entered", and τ.FIRST has the tokens of such a branch too, as that of N·⊥ has N. So where a part denotes nothing, this
+-- may enter another branch than the figure with types does; that both agree elsewhere is not shown.
 use mathlib.Core.Path.{_≡_}
 use mathlib.Core.Bool.{Bool}
 use mathlib.Core.List.{List, [], _∷_}
