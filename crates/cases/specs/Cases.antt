@@ -2,6 +2,7 @@
 -- images that it leaves to be worked out; a text is written as its bytes. That every row holds is shown elsewhere.
 use mathlib.Core.Path.{_≡_}
 use mathlib.Core.List.{List, [], _∷_, _++_}
+use mathlib.Core.Logic.{_↔_}
 use Prim.Native.Nat.{ℕ}
 use lib.ListN.{length, replicate}
 use Rattle.basics.specs.Lists.{written-over}
@@ -41,6 +42,8 @@ pub data Case : Type 0 where
   runs-table : List ℕ → List ℕ → ℕ → ℕ → ℕ → Answer → Case
   -- a sheet, a text, a list, what the recogniser answers, and the list as it leaves it
   recognises : List ℕ → List ℕ → List ℕ → Answer → List ℕ → Case
+  -- a sheet, and the one token sequence that its expression denotes
+  denotes-only : List ℕ → List ℕ → Case
   -- a sheet whose expression denotes no token sequence
   denotes-nothing : List ℕ → Case
 
@@ -76,6 +79,7 @@ Holds (tables image rows winners) = (i : Image) × ReadableAs image i × (length
 Holds (runs-table image text table winners entries a) = Answers image text (buffers table winners entries) a
 Holds (recognises sheet text list a after) =
     (tokens : List ℕ) × Recognises sheet text work-bytes (length list) a tokens × (written-over tokens list ≡ after)
+Holds (denotes-only sheet only) = (s : Sheet) × Spells sheet s × ((tokens : List ℕ) → Denotes (s .expression) tokens ↔ (tokens ≡ only))
 Holds (denotes-nothing sheet) = (s : Sheet) × Spells sheet s × ((tokens : List ℕ) → Denotes (s .expression) tokens → ⊥)
 
 -- μα.N·α, with D's rules

@@ -60,7 +60,7 @@ Accepts f sheet work buffer = f .write sheet work buffer .answer .number ≡ 0
 -- "2. Given the work area that document 01 names, a sheet is accepted exactly if it is well formed, no lexer rule matches the empty text,
 -- its expression has a type under the published typing rules, and the image fits. The image is then the one normal form that document 01
 -- sets out, and its start unfolds to exactly the rule sequences that spell a token sequence which the expression denotes, each token
--- spelled by any rule that returns it."
+-- spelled by any rule that returns it." From request [8] on the typing rules are document 001's.
 pub record Demand2 (f : Functions) : Type 0 where
   pub accepted-exactly : (sheet work buffer : List ℕ) → Bytes sheet → work-bytes ≤ length work
       → Accepts f sheet work buffer ↔ ((s : Sheet) × Acceptable sheet (length buffer) s)

@@ -1,4 +1,3 @@
 -- Laws that only the proofs of this crate's functions use.
 mod Storing
-mod Asking
 mod Rows

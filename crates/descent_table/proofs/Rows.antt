@@ -1,9 +1,9 @@
 -- The table as the code fills it, a node's five entries at a time: they stand where they were stored, and those of other nodes stay.
-use mathlib.Core.Path.{_≡_, sym, ap, subst, _∙_}
+use mathlib.Core.Path.{_≡_, sym, subst, _∙_}
 use mathlib.Core.Bool.{cond}
 use mathlib.Core.List.{List}
 use mathlib.Core.Logic.{⊎-elim}
-use Prim.Native.Nat.{ℕ, _+_, _^_, _≤_, _<_}
+use Prim.Native.Nat.{ℕ, _+_, _≤_, _<_}
 use native.Mathlib.Omega.{arith}
 use lib.ListN.{getD, length, set, replicate, length-set, length-replicate}
 use lib.Seq.{getD-set-same, getD-set-other}
@@ -12,7 +12,6 @@ use Rattle.basics.specs.laws.Order.{lt-or-le}
 use Rattle.sheet.specs.Expression.{Expression}
 use Rattle.columns.specs.declared.NodeLinks.{NodeLinks}
 use Rattle.columns.specs.declared.TypeColumns.{TypeColumns}
-use Rattle.recogniser.specs.Descending.{begins-at}
 use Rattle.descent_table.specs.TableOf.{TableOf, tag-at, link-at, up-at, null-at, first-at}
 use Rattle.descent_table.specs.HoldsTyped.{HoldsTyped}
 use Rattle.descent_table.specs.Filling.{UpColumn, with-row, RowOf}
@@ -77,24 +76,25 @@ module _ (table : List ℕ) (n tag link up null first : ℕ) (l : n < 64) where
 pub record Filled (links : NodeLinks) (types : TypeColumns) (up : List ℕ) (count : ℕ) (table : List ℕ) : Type 0 where
   pub at-most : count ≤ links .count
   pub long : length table ≡ 320
-  pub rows : (e : Expression) → HoldsTyped links types e → (k : ℕ) → k < count → RowOf links types up e table k
+  pub rows : (k : ℕ) → k < count → RowOf links types up table k
 
 module _ (links : NodeLinks) (types : TypeColumns) (up : List ℕ) where
   pub filled-first : Filled links types up 0 (replicate 320 0)
   filled-first = record {
     at-most = omega arith;
     long = length-replicate {A = ℕ} 320 0;
-    rows = λ e h k l. absurd (omega arith);
+    rows = λ k l. absurd (omega arith);
   }
 
   module _ (n : ℕ) (table : List ℕ) (s : Filled links types up n table) where
-    pub filled-next : (few : links .count ≤ 64) → n < links .count → (null first : ℕ) → first < 2 ^ 64 → null ≡ cond (bit (types .null) n) 1 0
-        → ((e : Expression) → HoldsTyped links types e → (t : ℕ) → bit first t ≡ begins-at e n t) → (next : List ℕ)
-        → next ≡ with-row table n (getD (links .tag) n 0) (getD (links .link) n 0) (getD up n 0) null first → Filled links types up (n + 1) next
-    filled-next few l null first small null-is asked next f = subst (Filled links types up (n + 1)) (sym f) (record {
+    pub filled-next : (few : links .count ≤ 64) → n < links .count → (null : ℕ) → null ≡ cond (bit (types .null) n) 1 0
+        → (next : List ℕ)
+        → next ≡ with-row table n (getD (links .tag) n 0) (getD (links .link) n 0) (getD up n 0) null (getD (types .first) n 0)
+        → Filled links types up (n + 1) next
+    filled-next few l null null-is next f = subst (Filled links types up (n + 1)) (sym f) (record {
       at-most = omega arith;
       long = row-long table n tag link above null first below ∙ s .long;
-      rows = λ e h k i. ⊎-elim (λ j. kept k j (s .rows e h k j)) (λ j. subst (RowOf links types up e filled) (omega arith) (here e h)) (lt-or-le k n);
+      rows = λ k i. ⊎-elim (λ j. kept k j (s .rows k j)) (λ j. subst (RowOf links types up filled) (omega arith) here) (lt-or-le k n);
     })
       where
         tag : ℕ
@@ -106,37 +106,36 @@ module _ (links : NodeLinks) (types : TypeColumns) (up : List ℕ) where
         above : ℕ
         above = getD up n 0
 
+        first : ℕ
+        first = getD (types .first) n 0
+
         below : n < 64
         below = omega arith
 
         filled : List ℕ
         filled = with-row table n tag link above null first
 
-        here : (e : Expression) → HoldsTyped links types e → RowOf links types up e filled n
-        here e h = record {
+        here : RowOf links types up filled n
+        here = record {
           tag = tag-stored table n tag link above null first below (s .long);
           link = link-stored table n tag link above null first below (s .long);
           above = up-stored table n tag link above null first below (s .long);
           null = null-stored table n tag link above null first below (s .long) ∙ null-is;
-          first = λ t. ap (λ (x : ℕ). bit x t) (first-stored table n tag link above null first below (s .long)) ∙ asked e h t;
-          few = subst (λ (x : ℕ). x < 2 ^ 64) (sym (first-stored table n tag link above null first below (s .long))) small;
+          first = first-stored table n tag link above null first below (s .long);
         }
 
         same : (k : ℕ) → (k ≡ n → ⊥) → (k ≡ 64 + n → ⊥) → (k ≡ 128 + n → ⊥) → (k ≡ 192 + n → ⊥) → (k ≡ 256 + n → ⊥)
             → getD filled k 0 ≡ getD table k 0
         same = other-kept table n tag link above null first below
 
-        kept : {e : Expression} (k : ℕ) → k < n → RowOf links types up e table k → RowOf links types up e filled k
+        kept : (k : ℕ) → k < n → RowOf links types up table k → RowOf links types up filled k
         kept k j r = record {
           tag = same k (λ i. omega arith) (λ i. omega arith) (λ i. omega arith) (λ i. omega arith) (λ i. omega arith) ∙ r .tag;
           link = same (64 + k) (λ i. omega arith) (λ i. omega arith) (λ i. omega arith) (λ i. omega arith) (λ i. omega arith) ∙ r .link;
           above = same (128 + k) (λ i. omega arith) (λ i. omega arith) (λ i. omega arith) (λ i. omega arith) (λ i. omega arith) ∙ r .above;
           null = same (192 + k) (λ i. omega arith) (λ i. omega arith) (λ i. omega arith) (λ i. omega arith) (λ i. omega arith) ∙ r .null;
-          first = λ t. ap (λ (x : ℕ). bit x t)
-              (same (256 + k) (λ i. omega arith) (λ i. omega arith) (λ i. omega arith) (λ i. omega arith) (λ i. omega arith)) ∙ r .first t;
-          few = subst (λ (x : ℕ). x < 2 ^ 64)
-              (sym (same (256 + k) (λ i. omega arith) (λ i. omega arith) (λ i. omega arith) (λ i. omega arith) (λ i. omega arith))) (r .few);
+          first = same (256 + k) (λ i. omega arith) (λ i. omega arith) (λ i. omega arith) (λ i. omega arith) (λ i. omega arith) ∙ r .first;
         }
 
     pub all-filled : links .count ≤ n → (e : Expression) → HoldsTyped links types e → UpColumn e up → TableOf e table
-    all-filled l e h ups = table-of links types e h up table ups (λ k i. s .rows e h k (omega (arith, counted links types e h)))
+    all-filled l e h ups = table-of links types e h up table ups (λ k i. s .rows k (omega (arith, counted links types e h)))

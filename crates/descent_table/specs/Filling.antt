@@ -3,14 +3,13 @@
 use mathlib.Core.Bool.{cond}
 use mathlib.Core.Path.{_≡_}
 use mathlib.Core.List.{List}
-use Prim.Native.Nat.{ℕ, suc, _+_, _^_, _≤_, _<_}
+use Prim.Native.Nat.{ℕ, suc, _+_, _≤_, _<_}
 use lib.ListN.{getD, set}
 use Rattle.basics.specs.Bits.{bit}
 use Rattle.sheet.specs.Expression.{Expression, size}
 use Rattle.types.specs.Nodes.{Node, epsilon-node, bottom-node, token-node, sequence-node, alternative-node, fixed-point-node, variable-node, repetition-node, nodes, node-at}
 use Rattle.columns.specs.declared.NodeLinks.{NodeLinks}
 use Rattle.columns.specs.declared.TypeColumns.{TypeColumns}
-use Rattle.recogniser.specs.Descending.{begins-at}
 use Rattle.descent_table.specs.TableOf.{PartsUp, tag-at, link-at, up-at, null-at, first-at}
 
 -- The column of the nearest nodes above, once the entries of node n's parts are set.
@@ -35,10 +34,9 @@ with-row table n tag link up null first =
     set (set (set (set (set table n tag) (64 + n) link) (128 + n) up) (192 + n) null) (256 + n) first
 
 -- The table has node n's entries, where the third column is `up`.
-pub record RowOf (links : NodeLinks) (types : TypeColumns) (up : List ℕ) (e : Expression) (table : List ℕ) (n : ℕ) : Type 0 where
+pub record RowOf (links : NodeLinks) (types : TypeColumns) (up table : List ℕ) (n : ℕ) : Type 0 where
   pub tag : tag-at table n ≡ getD (links .tag) n 0
   pub link : link-at table n ≡ getD (links .link) n 0
   pub above : up-at table n ≡ getD up n 0
   pub null : null-at table n ≡ cond (bit (types .null) n) 1 0
-  pub first : (t : ℕ) → bit (first-at table n) t ≡ begins-at e n t
-  pub few : first-at table n < 2 ^ 64
+  pub first : first-at table n ≡ getD (types .first) n 0

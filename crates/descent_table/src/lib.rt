@@ -4,23 +4,17 @@ use columns::NodeLinks;
 use columns::TypeColumns;
 ghost use mathlib.Core.Path.{_≡_};
 ghost use mathlib.Core.Bool.{Bool, cond};
-ghost use Prim.Native.Nat.{ℕ, _^_, _<_};
-ghost use lib.Bits.{bitOr};
+ghost use Prim.Native.Nat.{_<_};
 ghost use Rattle.basics.specs.Bits.{bit};
-ghost use Rattle.sheet.specs.Expression.{Expression, size};
+ghost use Rattle.sheet.specs.Expression.{Expression};
 ghost use Rattle.sheet.specs.Limits.{most-tokens};
 ghost use Rattle.types.specs.Nodes.{nodes};
 ghost use Rattle.types.specs.laws.NodeRanges.{NodeInRange};
 ghost use Rattle.columns.specs.HeldNodes.{node-of, held-nodes};
 ghost use Rattle.columns.specs.laws.Within.{LinksFit};
-ghost use Rattle.production_finder.specs.Columns.{ColumnsOf};
-ghost use Rattle.recogniser.specs.Descending.{begins-at};
 ghost use Rattle.descent_table.specs.TableOf.{TableOf};
 ghost use Rattle.descent_table.specs.HoldsTyped.{HoldsTyped};
 ghost use Rattle.descent_table.specs.Filling.{with-parts, UpColumn, with-row};
-
-// No sheet has more tokens.
-const TOKENS: u8 = 24;
 
 // Node n's entry goes on to its parts: into a left part or a repeated part the node itself is the nearest above, into any other part
 // what is nearest to the node. Other nodes have no parts.
@@ -63,40 +57,6 @@ fn nearest_above(links: NodeLinks) -> [u32; 64]
     up
 }
 
-// A set of tokens with one more, if it is to be in it.
-fn with_token(set: u32, token: u8, member: bool) -> u32
-    requires { ⌜ token < 32 ⌝ }
-    ensures { λ r. ⌜ r ≡ cond member (bitOr set (2 ^ token)) set ⌝ }
-{
-    if member {
-        return set | (1u32 << token);
-    }
-    set
-}
-
-// The tokens that begin a word of a node. FIRST has them all, and may have others: of a sequence whose right part denotes nothing it has
-// those of the left part. So the node is asked for a production.
-fn live_first<'a>(
-    tag: &'a [u8; 64],
-    link: &'a [u8; 64],
-    first: &'a [u32; 64],
-    productive: u64,
-    node: usize,
-) -> u32
-    requires { ⌜ ((e : Expression) × ColumnsOf (now tag) (now link) (now first) productive e × (node < size e)) ⌝ }
-    ensures { λ r. ⌜ ((e : Expression) → ColumnsOf (now (tag .entry)) (now (link .entry)) (now (first .entry)) productive e
-        → node < size e → (t : ℕ) → bit r t ≡ begins-at e node t) ⌝ }
-{
-    let mut set: u32 = 0;
-    let mut token: u8 = 0;
-    while token < TOKENS {
-        let tail = production_finder::production(tag, link, first, productive, node, token);
-        set = with_token(set, token, tail.found);
-        token += 1;
-    }
-    set
-}
-
 // 1 if n is in the set, else 0.
 fn flag_of(set: u64, n: usize) -> u32
     requires { ⌜ n < 64 ⌝ }
@@ -120,17 +80,15 @@ fn put_row(table: &mut [u64; 320], n: usize, tag: u8, link: u8, up: u32, null: u
     table[256 + n] = first as u64;
 }
 
-// The table of an expression, out of the columns that checking made.
+// The table of an expression, out of the columns that checking made. FIRST is exact: a branch that denotes nothing begins with no token.
 pub fn descent_table(links: NodeLinks, types: TypeColumns) -> [u64; 320]
     requires { ⌜ ((e : Expression) × HoldsTyped links types e) ⌝ }
     ensures { λ r. ⌜ ((e : Expression) → HoldsTyped links types e → TableOf e r) ⌝ }
 {
-    let productive = production_finder::derives(links);
     let up = nearest_above(links);
     let mut table = [0u64; 320];
     let mut n: usize = 0;
     while n < links.count {
-        let first = live_first(&links.tag, &links.link, &types.first, productive, n);
         let null = flag_of(types.null, n);
         put_row(
             &mut table,
@@ -139,7 +97,7 @@ pub fn descent_table(links: NodeLinks, types: TypeColumns) -> [u64; 320]
             links.link[n],
             up[n],
             null,
-            first,
+            types.first[n],
         );
         n += 1;
     }

@@ -15,7 +15,7 @@ use Rattle.types.specs.laws.LeastTypeLaws.{least-solves}
 use Rattle.types.specs.laws.Typing.{no-fault-typed}
 use Rattle.normal_form.specs.Productions.{Production, row-of}
 use Rattle.normal_form.specs.NormalForm.{normal-form}
-use Rattle.normal_form.specs.laws.NullExact.{null-is-epsilon}
+use Rattle.normal_form.specs.laws.ExactRows.{null-is-epsilon}
 use Rattle.production_finder.specs.Columns.{tail-held}
 use Rattle.production_finder.specs.declared.Tail.{Tail}
 use Rattle.image.specs.Fusion.{fused-from, fused}

@@ -187,7 +187,6 @@ fn emit_productions(
             &grammar.tag,
             &grammar.link,
             &grammar.first,
-            grammar.productive,
             node,
             action,
         );

@@ -7,8 +7,6 @@ use lib.ListN.{length, drop}
 use borrow.Author.Tests.{le-leb, lt-leb}
 use Rattle.sheet.specs.Sheet.{Sheet}
 use Rattle.types.specs.laws.Typing.{sheet-typed-iff}
-use Rattle.normal_form.specs.Derives.{derives}
-use Rattle.production_finder.specs.Columns.{SetOf}
 use Rattle.lexer.specs.RuleOrder.{image-sheet}
 use Rattle.lexer.specs.laws.PositionBounds.{positions-in-range}
 use Rattle.columns.specs.declared.PositionColumns.{PositionColumns}
@@ -35,10 +33,9 @@ use Rattle.image_writer.specs.declared.Written.the-variants.{Done, TooLo
 -- ---- what an image is made from
 
 module _ (s : Sheet) (k : CheckedSheet) (h : PassedParts s k) where
-  pub grammar-held : (productive : ℕ) → SetOf productive (derives (s .expression))
-      → GrammarOf (grammar-from (k .rules) (k .links) (k .types) productive) (s .rules) (s .expression)
-  grammar-held productive set =
-      grammar-of s (k .rules) (h .places) (k .links) (k .types) productive (h .limits) (h .rules-held) (h .linked) (h .typed) (h .no-fault) set
+  pub grammar-held : GrammarOf (grammar-from (k .rules) (k .links) (k .types)) (s .rules) (s .expression)
+  grammar-held =
+      grammar-of s (k .rules) (h .places) (k .links) (k .types) (h .limits) (h .rules-held) (h .linked) (h .typed) (h .no-fault)
 
   -- The image of a sheet that passed fits in 65,536 bytes.
   pub room-for-any : (buffer : List ℕ) → 65536 ≤ length buffer → length (image-bytes (plain-image s)) ≤ length buffer

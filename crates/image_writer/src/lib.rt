@@ -33,8 +33,7 @@ fn grammar_of(checked: CheckedSheet) -> Grammar
     let rules = checked.rules;
     let links = checked.links;
     let types = checked.types;
-    let productive = production_finder::derives(links);
-    node_numbering::grammar_from(rules, links, types, productive)
+    node_numbering::grammar_from(rules, links, types)
 }
 
 // Question 11, asked before the first byte is written, and the image, with the rules numbered as they stand in the columns. In a buffer

@@ -23,7 +23,7 @@ pub record GrammarOf (g : Grammar) (rules : List Rule) (e : Expression) : Type 0
   pub rule-count : g .rules ≡ length rules
   pub rules-most : length rules ≤ most-rules
   pub actions-held : take (g .rules) (g .action) ≡ map (λ rule. rule .action) rules
-  pub columns : ColumnsOf (g .tag) (g .link) (g .first) (g .productive) e
+  pub columns : ColumnsOf (g .tag) (g .link) (g .first) e
   pub null-held : (n : ℕ) → n < size e → bit (g .null) n ≡ (type-of (least-types e) n) .null
 
 -- The members of a tail that was found; none where none was.

@@ -15,8 +15,7 @@ ghost use Rattle.node_numbering.specs.Grammar.{numbering-of, start-numbe
 ghost use Rattle.node_numbering.specs.laws.GrammarLaws.{grammar-from};
 ghost use Rattle.node_numbering.specs.laws.RuleTails.{action-tail};
 
-// The rules' actions; the expression's tags, links and FIRST sets by node; the nullable nodes, and those that derive a token
-// sequence, as sets.
+// The rules' actions; the expression's tags, links and FIRST sets by node; the nullable nodes as a set.
 pub struct Grammar {
     pub rules: usize,
     pub action: [u8; 32],
@@ -24,7 +23,6 @@ pub struct Grammar {
     pub link: [u8; 64],
     pub first: [u32; 64],
     pub null: u64,
-    pub productive: u64,
 }
 
 // The nodes met, in order, and each node's number, which is 64 for a node that was not met.
@@ -35,13 +33,8 @@ pub struct Numbering {
 }
 
 // The columns of a grammar, out of those that checking made.
-pub fn grammar_from(
-    rules: RuleColumns,
-    links: NodeLinks,
-    types: TypeColumns,
-    productive: u64,
-) -> Grammar
-    ensures { λ r. ⌜ r ≡ grammar-from rules links types productive ⌝ }
+pub fn grammar_from(rules: RuleColumns, links: NodeLinks, types: TypeColumns) -> Grammar
+    ensures { λ r. ⌜ r ≡ grammar-from rules links types ⌝ }
 {
     let action = rules.action;
     let tag = links.tag;
@@ -54,7 +47,6 @@ pub fn grammar_from(
         link,
         first,
         null: types.null,
-        productive,
     }
 }
 
@@ -64,13 +56,12 @@ pub fn rule_tail<'a>(
     tag: &'a [u8; 64],
     link: &'a [u8; 64],
     first: &'a [u32; 64],
-    productive: u64,
     node: usize,
     action: u8,
 ) -> Tail
-    requires { ⌜ ((e : Expression) × ColumnsOf (now tag) (now link) (now first) productive e × (node < size e)) ⌝ }
+    requires { ⌜ ((e : Expression) × ColumnsOf (now tag) (now link) (now first) e × (node < size e)) ⌝ }
     ensures { λ r. ⌜ TailCounted r
-        × ((e : Expression) → ColumnsOf (now (tag .entry)) (now (link .entry)) (now (first .entry)) productive e → node < size e
+        × ((e : Expression) → ColumnsOf (now (tag .entry)) (now (link .entry)) (now (first .entry)) e → node < size e
         → tail-held r ≡ action-tail action ((row-of (normal-form e) node) .productions)) ⌝ }
 {
     if action == 0 {
@@ -80,7 +71,7 @@ pub fn rule_tail<'a>(
             members: [0; 32],
         };
     }
-    production_finder::production(tag, link, first, productive, node, action - 1)
+    production_finder::production(tag, link, first, node, action - 1)
 }
 
 // A node joins those met, unless it has been met. The answer is how many have been met. The columns

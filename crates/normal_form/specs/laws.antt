@@ -5,13 +5,16 @@ pub mod Places
 pub mod Descent
 pub mod RowEquations
 pub mod NodeLanguages
+pub mod WordTypes
+pub mod TypesExact
 pub mod Unfolding
 pub mod Pending
 pub mod DerivesExact
 pub mod KeptRows
 pub mod RowTypes
 pub mod NormalFormLaws
-pub mod NullExact
+pub mod LeftParts
+pub mod ExactRows
 pub mod Tails
 pub mod Examples
 pub mod Expansion

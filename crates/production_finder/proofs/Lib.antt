@@ -1,3 +1,3 @@
-pub mod Rounds
+-- Laws that only the proofs of this crate's functions use.
 pub mod Walking
 pub mod Joined

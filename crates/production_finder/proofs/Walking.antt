@@ -19,7 +19,7 @@ use Rattle.types.specs.Nodes.{bottom-node}
 use Rattle.columns.specs.HeldNodes.{node-of, held-node}
 use Rattle.normal_form.specs.ProductionWalk.{walk-step, walk}
 use Rattle.production_finder.specs.Columns.{tail-held}
-use Rattle.production_finder.specs.ColumnWalk.{walked, column-node, column-first, next-node, column-walk}
+use Rattle.production_finder.specs.ColumnWalk.{column-node, column-first, next-node, column-walk}
 use Rattle.production_finder.specs.declared.Walked.{Walked}
 
 pub not-true : (b : Bool) → not b ≡ true → b ≡ false
@@ -29,6 +29,12 @@ not-true false e = refl
 pub not-false : (b : Bool) → not b ≡ false → b ≡ true
 not-false true e = refl
 not-false false e = sym e
+
+none-not-some : {x : List ℕ} → _≡_ {A = Option (List ℕ)} none (some x) → ⊥
+none-not-some e = let z : _≡_ {A = ℕ} 0 1 = cc in absurd (omega arith)
+
+some-same : {x y : List ℕ} → _≡_ {A = Option (List ℕ)} (some x) (some y) → x ≡ y
+some-same e = cc
 
 -- The tags of nodes that remember their link: a sequence, a repetition.
 abbrev pub Remembers : ℕ → Type 0
@@ -80,17 +86,17 @@ module _ (link n : ℕ) (first : List ℕ) (t tag : ℕ) where
   unfolding next-node
   next-none a b c = rw (ne-eqb tag 4 a, ne-eqb tag 5 b, ne-eqb tag 6 c)
 
-module _ (tag link : List ℕ) (guarded : ℕ) (first : List ℕ) (productive t : ℕ) where
+module _ (tag link : List ℕ) (guarded : ℕ) (first : List ℕ) (t : ℕ) where
   abbrev walks : ℕ → ℕ → List ℕ → Option (List ℕ)
-  walks = column-walk tag link guarded first productive t
+  walks = column-walk tag link guarded first t
 
   abbrev step : (ℕ → List ℕ → Option (List ℕ)) → ℕ → List ℕ → Option (List ℕ)
   step go-on n rights =
-      walk-step (column-node tag link guarded) (column-first first) (bit productive) t go-on (column-node tag link guarded n) rights
+      walk-step (column-node tag link guarded) (column-first first) t go-on (column-node tag link guarded n) rights
 
   abbrev held-step : (ℕ → List ℕ → Option (List ℕ)) → ℕ → List ℕ → Option (List ℕ)
   held-step go-on n rights =
-      walk-step (column-node tag link guarded) (column-first first) (bit productive) t go-on (held-node tag link guarded n) rights
+      walk-step (column-node tag link guarded) (column-first first) t go-on (held-node tag link guarded n) rights
 
   one-step : (left n : ℕ) (rights : List ℕ) → 0 < left → walks left n rights ≡ step (walks (left - 1)) n rights
   unfolding walk
@@ -105,7 +111,7 @@ module _ (tag link : List ℕ) (guarded : ℕ) (first : List ℕ) (productive t 
   one-here : (left n : ℕ) (rights : List ℕ) → 0 < left → n < 64 → walks left n rights ≡ held-step (walks (left - 1)) n rights
   unfolding column-node
   one-here left n rights h l = one-step left n rights h ∙ ap (λ x. walk-step (column-node tag link guarded) (column-first first)
-      (bit productive) t (walks (left - 1)) (cond x (held-node tag link guarded n) bottom-node) rights) (lt-ltb n 64 l)
+      t (walks (left - 1)) (cond x (held-node tag link guarded n) bottom-node) rights) (lt-ltb n 64 l)
 
   -- From 64 on there is nothing.
   pub walk-past : (left n : ℕ) (rights : List ℕ) → 0 < left → 64 ≤ n → walks left n rights ≡ none
@@ -117,39 +123,34 @@ module _ (tag link : List ℕ) (guarded : ℕ) (first : List ℕ) (productive t 
   no-more left rights = ⊎-elim (λ l. walk-past left 64 rights l (omega arith)) (λ l. no-step left 64 rights l) (lt-or-le 0 left)
 
   module _ (left n : ℕ) (rights : List ℕ) (more : 0 < left) (here : n < 64) where
-    pub walk-none : getD tag n 0 < 2 → walks left n rights ≡ none
+    -- At ε, ⊥ or a token the walk ends: with what was remembered, if with anything.
+    pub walk-ends : getD tag n 0 < 3 → (tail : List ℕ) → walks left n rights ≡ some tail → rights ≡ tail
     unfolding walk-step held-node node-of
-    walk-none h = one-here left n rights more here ∙ go (getD tag n 0) h
+    walk-ends h tail z = go (getD tag n 0) h (sym (one-here left n rights more here) ∙ z)
       where
-        go : (k : ℕ) → k < 2
-            → walk-step (column-node tag link guarded) (column-first first) (bit productive) t (walks (left - 1))
-            (node-of k (getD link n 0) (bit guarded n) n) rights ≡ none
-        go zero h = refl
-        go (suc zero) h = refl
-        go (suc (suc k)) h = absurd (omega arith)
+        at-token : (b : Bool) → cond b (some rights) none ≡ some tail → rights ≡ tail
+        at-token true z = some-same z
+        at-token false z = absurd (none-not-some z)
 
-    pub walk-token : getD tag n 0 ≡ 2 → walks left n rights ≡ cond (eqb (getD link n 0) t) (some rights) none
-    unfolding walk-step held-node node-of
-    walk-token e = one-here left n rights more here ∙ rw e
+        go : (k : ℕ) → k < 3
+            → walk-step (column-node tag link guarded) (column-first first) t (walks (left - 1))
+            (node-of k (getD link n 0) (bit guarded n) n) rights ≡ some tail
+            → rights ≡ tail
+        go zero h z = absurd (none-not-some z)
+        go (suc zero) h z = absurd (none-not-some z)
+        go (suc (suc zero)) h z = at-token (eqb (getD link n 0) t) z
+        go (suc (suc (suc k))) h z = absurd (omega arith)
 
     -- A sequence or a repetition.
-    walk-link : Remembers (getD tag n 0)
-        → walks left n rights ≡ cond (bit productive (getD link n 0)) (walks (left - 1) (suc n) (getD link n 0 ∷ rights)) none
+    pub walk-right : Remembers (getD tag n 0) → walks left n rights ≡ walks (left - 1) (n + 1) (getD link n 0 ∷ rights)
     unfolding walk-step held-node node-of
-    walk-link (inl e) = one-here left n rights more here ∙ rw e
-    walk-link (inr e) = one-here left n rights more here ∙ rw e
+    walk-right (inl e) = one-here left n rights more here ∙ rw (e, add-one n)
+    walk-right (inr e) = one-here left n rights more here ∙ rw (e, add-one n)
 
-    pub walk-dead : Remembers (getD tag n 0) → bit productive (getD link n 0) ≡ false → walks left n rights ≡ none
-    walk-dead e b = walk-link e ∙ rw b
-
-    pub walk-right : Remembers (getD tag n 0) → bit productive (getD link n 0) ≡ true
-        → walks left n rights ≡ walks (left - 1) (n + 1) (getD link n 0 ∷ rights)
-    walk-right e b = walk-link e ∙ rw (b, add-one n)
-
-    pub walk-on : (getD tag n 0 < 2 → ⊥) → (getD tag n 0 ≡ 2 → ⊥) → (Remembers (getD tag n 0) → ⊥)
+    pub walk-on : (getD tag n 0 < 3 → ⊥) → (Remembers (getD tag n 0) → ⊥)
         → walks left n rights ≡ walks (left - 1) (next-node (getD tag n 0) (getD link n 0) n first t) rights
     unfolding walk-step held-node node-of next-node
-    walk-on a b c = one-here left n rights more here ∙ go (eqb (getD tag n 0) 4) refl (eqb (getD tag n 0) 5) refl (eqb (getD tag n 0) 6) refl
+    walk-on a c = one-here left n rights more here ∙ go (eqb (getD tag n 0) 4) refl (eqb (getD tag n 0) 5) refl (eqb (getD tag n 0) 6) refl
       where
         go-on : ℕ → Option (List ℕ)
         go-on m = walks (left - 1) m rights
@@ -170,7 +171,7 @@ module _ (tag link : List ℕ) (guarded : ℕ) (first : List ℕ) (productive t 
             rw (
               ne-eqb (getD tag n 0) 0 (λ z. a (omega arith)),
               ne-eqb (getD tag n 0) 1 (λ z. a (omega arith)),
-              ne-eqb (getD tag n 0) 2 b,
+              ne-eqb (getD tag n 0) 2 (λ z. a (omega arith)),
               ne-eqb (getD tag n 0) 3 (λ z. c (inl z)),
               e,
               f,
@@ -198,86 +199,74 @@ moved rights members start i h k e =
     ∙ (sym (take-suc (drop start rights) i 0 (rw length-drop (omega arith)))
     ∙ ap (λ j. take j (drop start rights)) (sym (add-one i)))))
 
--- The state of a walk: it has not ended at the token, and goes on from `at` as the whole walk does. `rights` has room for a node a step.
-pub record Walking (tag link first : List ℕ) (productive node t : ℕ) (w : Walked) (at left : ℕ) : Type 0 where
-  pub not-found : w .found ≡ false
+-- The state of a walk: it goes on from `at` as the whole walk does. `rights` has room for a node a step.
+pub record Walking (tag link first : List ℕ) (node t : ℕ) (w : Walked) (at left : ℕ) : Type 0 where
   pub room : left ≤ w .start
   pub within : w .start ≤ 64
   pub full : length (w .rights) ≡ 64
-  pub same : (guarded : ℕ) → column-walk tag link guarded first productive t left at (drop (w .start) (w .rights))
-      ≡ column-walk tag link guarded first productive t 64 node []
+  pub same : (guarded : ℕ) → column-walk tag link guarded first t left at (drop (w .start) (w .rights))
+      ≡ column-walk tag link guarded first t 64 node []
 
--- What the result of a walk stands for.
-abbrev pub Ended : List ℕ → List ℕ → List ℕ → ℕ → ℕ → ℕ → Walked → Type 0
-Ended tag link first productive node t w =
-    (w .start ≤ 64) × ((guarded : ℕ) → walked w ≡ column-walk tag link guarded first productive t 64 node [])
+-- What the result of a walk stands for: the tail, if there is one.
+abbrev pub Ended : List ℕ → List ℕ → List ℕ → ℕ → ℕ → Walked → Type 0
+Ended tag link first node t w =
+    (w .start ≤ 64)
+    × ((guarded : ℕ) (tail : List ℕ) → column-walk tag link guarded first t 64 node [] ≡ some tail → drop (w .start) (w .rights) ≡ tail)
 
-module _ (tag link first : List ℕ) (productive node t : ℕ) where
+module _ (tag link first : List ℕ) (node t : ℕ) where
   abbrev Goes : Walked → ℕ → ℕ → Type 0
-  Goes = Walking tag link first productive node t
+  Goes = Walking tag link first node t
 
-  pub walking-first : (w : Walked) → w .found ≡ false → w .start ≡ 64 → length (w .rights) ≡ 64 → Goes w node 64
-  walking-first w f s l = record {
-    not-found = f;
+  pub walking-first : (w : Walked) → w .start ≡ 64 → length (w .rights) ≡ 64 → Goes w node 64
+  walking-first w s l = record {
     room = omega arith;
     within = omega arith;
     full = l;
-    same = λ guarded. ap (column-walk tag link guarded first productive t 64 node)
+    same = λ guarded. ap (column-walk tag link guarded first t 64 node)
         (ap (λ i. drop i (w .rights)) s ∙ drop-of-length-le (w .rights) {i = 64} (omega arith));
   }
 
   module _ (w : Walked) (at left : ℕ) (x : Goes w at left) where
     abbrev walks-on : ℕ → Option (List ℕ)
-    walks-on guarded = column-walk tag link guarded first productive t left at (drop (w .start) (w .rights))
+    walks-on guarded = column-walk tag link guarded first t left at (drop (w .start) (w .rights))
 
-    -- The walk ends without the token.
-    ended-none : ((guarded : ℕ) → walks-on guarded ≡ none) → Ended tag link first productive node t w
-    unfolding walked
-    ended-none h = (x .within, λ guarded. rw (x .not-found) (sym (h guarded) ∙ x .same guarded))
+    -- The walk ends without a tail.
+    ended-none : ((guarded : ℕ) → walks-on guarded ≡ none) → Ended tag link first node t w
+    ended-none h = (x .within, λ guarded tail z. absurd (none-not-some (sym (h guarded) ∙ (x .same guarded ∙ z))))
 
-    pub ended-steps : left ≤ 0 → Ended tag link first productive node t w
-    ended-steps h = ended-none (λ guarded. no-step tag link guarded first productive t left at _ h)
+    pub ended-steps : left ≤ 0 → Ended tag link first node t w
+    ended-steps h = ended-none (λ guarded. no-step tag link guarded first t left at _ h)
 
-    pub ended-past : 0 < left → 64 ≤ at → Ended tag link first productive node t w
-    ended-past more h = ended-none (λ guarded. walk-past tag link guarded first productive t left at _ more h)
+    pub ended-past : 0 < left → 64 ≤ at → Ended tag link first node t w
+    ended-past more h = ended-none (λ guarded. walk-past tag link guarded first t left at _ more h)
 
     module _ (more : 0 < left) (here : at < 64) where
-      pub ended-bare : getD tag at 0 < 2 → Ended tag link first productive node t w
-      ended-bare h = ended-none (λ guarded. walk-none tag link guarded first productive t left at _ more here h)
-
-      pub ended-dead : Remembers (getD tag at 0) → bit productive (getD link at 0) ≡ false → Ended tag link first productive node t w
-      ended-dead e b = ended-none (λ guarded. walk-dead tag link guarded first productive t left at _ more here e b)
-
-      pub ended-token : getD tag at 0 ≡ 2
-          → Ended tag link first productive node t (record { found = eqb (getD link at 0) t; start = w .start; rights = w .rights })
-      unfolding walked
-      ended-token e = (
+      pub ended-here : getD tag at 0 < 3 → Ended tag link first node t w
+      ended-here h = (
         x .within,
-        λ guarded. sym (walk-token tag link guarded first productive t left at _ more here e) ∙ x .same guarded,
+        λ guarded tail z. walk-ends tag link guarded first t left at _ more here h tail (x .same guarded ∙ z),
       )
 
-      pub walking-right : Remembers (getD tag at 0) → bit productive (getD link at 0) ≡ true
-          → Goes (record { found = w .found; start = w .start - 1; rights = set (w .rights) (w .start - 1) (getD link at 0) })
+      pub walking-right : Remembers (getD tag at 0)
+          → Goes (record { start = w .start - 1; rights = set (w .rights) (w .start - 1) (getD link at 0) })
           (at + 1) (left - 1)
-      walking-right e b = let r = x .room in let i = x .within in let f = x .full in record {
-        not-found = x .not-found;
+      walking-right e = let r = x .room in let i = x .within in let f = x .full in record {
         room = omega arith;
         within = omega arith;
         full = length-set (w .rights) (w .start - 1) (getD link at 0) ∙ x .full;
-        same = λ guarded. ap (column-walk tag link guarded first productive t (left - 1) (at + 1))
+        same = λ guarded. ap (column-walk tag link guarded first t (left - 1) (at + 1))
             (remembered (w .rights) (w .start) (getD link at 0) (omega arith) (omega arith))
-            ∙ (sym (walk-right tag link guarded first productive t left at _ more here e b) ∙ x .same guarded);
+            ∙ (sym (walk-right tag link guarded first t left at _ more here e) ∙ x .same guarded);
       }
 
-      pub walking-on : (getD tag at 0 < 2 → ⊥) → (getD tag at 0 ≡ 2 → ⊥) → (Remembers (getD tag at 0) → ⊥) → (next : ℕ)
+      pub walking-on : (getD tag at 0 < 3 → ⊥) → (Remembers (getD tag at 0) → ⊥) → (next : ℕ)
           → next ≡ next-node (getD tag at 0) (getD link at 0) at first t → Goes w next (left - 1)
-      walking-on a b c next e = let r = x .room in record {
-        not-found = x .not-found;
+      walking-on a c next e = let r = x .room in record {
         room = omega arith;
         within = x .within;
         full = x .full;
-        same = λ guarded. ap (λ n. column-walk tag link guarded first productive t (left - 1) n (drop (w .start) (w .rights))) e
-            ∙ (sym (walk-on tag link guarded first productive t left at _ more here a b c) ∙ x .same guarded);
+        same = λ guarded. ap (λ n. column-walk tag link guarded first t (left - 1) n (drop (w .start) (w .rights))) e
+            ∙ (sym (walk-on tag link guarded first t left at _ more here a c) ∙ x .same guarded);
       }
 
 -- The remembered nodes moved to the front are the tail.

@@ -2,19 +2,14 @@
 -- proved elsewhere.
 use mathlib.Core.Bool.{cond}
 use mathlib.Core.List.{List}
-use mathlib.Core.Option.{Option, none, some}
+use mathlib.Core.Option.{Option}
 use Prim.Native.Nat.{ℕ, _+_}
 use lib.Dec.{eqb, ltb}
-use lib.ListN.{getD, drop}
+use lib.ListN.{getD}
 use Rattle.basics.specs.Bits.{bit}
 use Rattle.types.specs.Nodes.{Node, bottom-node}
 use Rattle.columns.specs.HeldNodes.{held-node}
 use Rattle.normal_form.specs.ProductionWalk.{walk}
-use Rattle.production_finder.specs.declared.Walked.{Walked}
-
--- The right nodes that a walk has remembered, the last one first, if it has ended at the token.
-unfoldable pub walked : Walked → Option (List ℕ)
-walked w = cond (w .found) (some (drop (w .start) (w .rights))) none
 
 -- Node n of the columns. From 64 on there is a node that has no productions, as ⊥ has none, and that begins with no token.
 unfoldable pub column-node : List ℕ → List ℕ → ℕ → ℕ → Node
@@ -29,5 +24,5 @@ next-node tag link n first t =
     cond (eqb tag 4) (cond (bit (column-first first (n + 1)) t) (n + 1) link) (cond (eqb tag 5) (n + 1) (cond (eqb tag 6) link 64))
 
 -- The walk over columns, in so many steps.
-abbrev pub column-walk : List ℕ → List ℕ → ℕ → List ℕ → ℕ → ℕ → ℕ → ℕ → List ℕ → Option (List ℕ)
-column-walk tag link guarded first productive t = walk (column-node tag link guarded) (column-first first) (bit productive) t
+abbrev pub column-walk : List ℕ → List ℕ → ℕ → List ℕ → ℕ → ℕ → ℕ → List ℕ → Option (List ℕ)
+column-walk tag link guarded first = walk (column-node tag link guarded) (column-first first)

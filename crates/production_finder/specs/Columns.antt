@@ -1,12 +1,11 @@
 -- What columns hold of a typed expression, and what the results of the code stand for. That the results are right is proved
 -- elsewhere.
 use mathlib.Core.Path.{_≡_}
-use mathlib.Core.Bool.{Bool, false, cond}
+use mathlib.Core.Bool.{false, cond}
 use mathlib.Core.List.{List}
 use mathlib.Core.Option.{Option, none, some}
 use Prim.Native.Nat.{ℕ, _≤_, _<_}
 use lib.ListN.{getD, take}
-use Rattle.basics.specs.Bits.{bit}
 use Rattle.sheet.specs.Expression.{Expression, size}
 use Rattle.sheet.specs.Limits.{most-tokens, most-expression-nodes}
 use Rattle.sheet.specs.WellFormed.{Closed}
@@ -15,18 +14,12 @@ use Rattle.types.specs.LeastTypes.{type-of, least-types}
 use Rattle.types.specs.Questions.{type-fault}
 use Rattle.columns.specs.HeldNodes.{held-node}
 use Rattle.normal_form.specs.Productions.{Production}
-use Rattle.normal_form.specs.Derives.{derives}
-use Rattle.normal_form.specs.RowNames.{derives-at}
 use Rattle.normal_form.specs.ProductionWalk.{with-head}
 use Rattle.production_finder.specs.declared.Tail.{Tail}
 
--- The set has exactly the nodes that are flagged.
-abbrev pub SetOf : ℕ → List Bool → Type 0
-SetOf set flags = (n : ℕ) → bit set n ≡ derives-at flags n
-
--- The columns of tags, links and FIRST sets, and the set of productive nodes, are those of a typed expression of a sheet. Which
--- variables are guarded has been asked already, and the columns need not say it.
-pub record ColumnsOf (tag link first : List ℕ) (productive : ℕ) (e : Expression) : Type 0 where
+-- The columns of tags, links and FIRST sets are those of a typed expression of a sheet. Which variables are guarded has been asked
+-- already, and the columns need not say it.
+pub record ColumnsOf (tag link first : List ℕ) (e : Expression) : Type 0 where
   pub tokens : ℕ
   pub tokens-most : tokens ≤ most-tokens
   pub closed : Closed tokens 0 e
@@ -35,7 +28,6 @@ pub record ColumnsOf (tag link first : List ℕ) (productive : ℕ) (e : Express
   pub guarded : ℕ
   pub nodes-held : (n : ℕ) → n < size e → held-node tag link guarded n ≡ node-at (nodes e) n
   pub first-held : (n : ℕ) → n < size e → getD first n 0 ≡ (type-of (least-types e) n) .first
-  pub productive-held : SetOf productive (derives e)
 
 -- What holds of every tail: its count is within the array, and 0 where nothing was found. The members past the count are free.
 pub record TailCounted (r : Tail) : Type 0 where

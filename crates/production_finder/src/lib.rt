@@ -1,122 +1,30 @@
-// The normal form without a table: which nodes derive a token sequence, and a node's production for a token, found by a walk
-// over the nodes that FIRST guides. Rules and the numbers that nodes get in an image are not spoken of here.
-use columns::NodeLinks;
+// The normal form without a table: a node's production for a token, found by a walk over the nodes that FIRST guides. Rules and the
+// numbers that nodes get in an image are not spoken of here.
 ghost use mathlib.Core.Path.{_≡_};
-ghost use mathlib.Core.Bool.{Bool, false};
+ghost use mathlib.Core.Bool.{false};
 ghost use mathlib.Core.List.{List, []};
 ghost use mathlib.Core.Option.{some};
 ghost use Prim.Native.Nat.{ℕ, _≤_, _<_};
-ghost use lib.ListN.{length, drop};
+ghost use lib.ListN.{drop};
 ghost use Rattle.basics.specs.Bits.{bit};
 ghost use Rattle.sheet.specs.Expression.{Expression, size};
-ghost use Rattle.types.specs.Nodes.{nodes};
-ghost use Rattle.types.specs.Types.{HasType};
-ghost use Rattle.columns.specs.HeldNodes.{node-of, held-nodes};
 ghost use Rattle.normal_form.specs.Productions.{row-of, production-of};
-ghost use Rattle.normal_form.specs.Derives.{derives, node-derives};
 ghost use Rattle.normal_form.specs.NormalForm.{normal-form};
-ghost use Rattle.production_finder.specs.Columns.{SetOf, ColumnsOf, TailCounted, tail-held, production-held};
-ghost use Rattle.production_finder.specs.Raised.{Raised};
-ghost use Rattle.production_finder.specs.ColumnWalk.{walked, column-first, next-node, column-walk};
+ghost use Rattle.production_finder.specs.Columns.{ColumnsOf, TailCounted, tail-held, production-held};
+ghost use Rattle.production_finder.specs.ColumnWalk.{column-first, next-node, column-walk};
 
-// Whether n is in a set. No number from 64 on is.
-fn has(set: u64, n: usize) -> bool
-    ensures { λ r. ⌜ r ≡ bit set n ⌝ }
-{
-    if 64 <= n {
-        return false;
-    }
-    sets::has(set, n)
-}
-
-// The same for an entry of a column.
-fn has_entry(set: u64, n: u8) -> bool
-    ensures { λ r. ⌜ r ≡ bit set n ⌝ }
-{
-    has(set, n as usize)
-}
-
-// The same for a set of tokens.
+// Whether a token is in a set of tokens. None from 32 on is.
 fn has_token(set: u32, token: u8) -> bool
     ensures { λ r. ⌜ r ≡ bit set token ⌝ }
 {
-    has(set as u64, token as usize)
-}
-
-// Whether node n derives a token sequence, from the nodes that are known to. Its left part, or its body, is the next node. A repetition
-// derives the empty one.
-fn node_derives(tag: u8, link: u8, n: usize, set: u64) -> bool
-    requires { ⌜ n < 64 ⌝ }
-    ensures { λ r. ⌜ ((flags : List Bool) (guarded : Bool) → SetOf set flags
-        → r ≡ node-derives flags (node-of tag link guarded n)) ⌝ }
-{
-    if tag == 0 {
-        return true;
-    }
-    if tag == 1 {
+    if 32 <= token {
         return false;
     }
-    if tag == 2 {
-        return true;
-    }
-    let left = has(set, n + 1);
-    let right = has_entry(set, link);
-    if tag == 3 {
-        return left & right;
-    }
-    if tag == 4 {
-        return left | right;
-    }
-    if tag == 5 {
-        return left;
-    }
-    if tag == 6 {
-        return right;
-    }
-    if tag == 7 {
-        return true;
-    }
-    false
+    sets::has(set as u64, token as usize)
 }
 
-// One round in place: every node's equation, from the last node to the first, applied to the nodes that are known by then. What stands
-// below a node comes after it, so that a round goes up through all of an expression but its variables.
-fn next_productive(links: NodeLinks, set: u64) -> u64
-    requires { ⌜ links .count ≤ 64 ⌝ }
-    ensures { λ r. ⌜ ((flags : List Bool) → SetOf set flags → length flags ≡ links .count → Raised links flags 0 r) ⌝ }
-{
-    let mut next = set;
-    let mut n = links.count;
-    while 0 < n {
-        n -= 1;
-        let member = node_derives(links.tag[n], links.link[n], n, next);
-        next = sets::with(next, n, member);
-    }
-    next
-}
-
-// The nodes that derive a token sequence, as a set. Each round that changes something adds a node.
-pub fn derives(links: NodeLinks) -> u64
-    requires { ⌜ ((e : Expression) × HasType e × (held-nodes links ≡ nodes e) × (links .count ≤ 64)) ⌝ }
-    ensures { λ r. ⌜ ((e : Expression) → HasType e → held-nodes links ≡ nodes e → SetOf r (derives e)) ⌝ }
-{
-    let count = links.count;
-    let mut set: u64 = 0;
-    let mut rounds: usize = 0;
-    while rounds < count {
-        let next = next_productive(links, set);
-        if next == set {
-            return set;
-        }
-        set = next;
-        rounds += 1;
-    }
-    set
-}
-
-// The end of a walk: whether it ended at the token, and the right nodes remembered, the last one first, from `start` on.
+// The end of a walk: the right nodes remembered, the last one first, from `start` on.
 struct Walked {
-    found: bool,
     start: usize,
     rights: [u8; 64],
 }
@@ -130,10 +38,9 @@ pub struct Tail {
 
 // A walk that has not begun.
 fn first_walked() -> Walked
-    ensures { λ r. ⌜ (r .found ≡ false) × (r .start ≡ 64) ⌝ }
+    ensures { λ r. ⌜ r .start ≡ 64 ⌝ }
 {
     Walked {
-        found: false,
         start: 64,
         rights: [0; 64],
     }
@@ -181,20 +88,20 @@ fn next_node(tag: u8, link: u8, n: usize, first: &[u32; 64], token: u8) -> usize
     64
 }
 
-// The walk for a token from a node. A sequence remembers its right node and leads into its left part; one whose right node
-// derives no token sequence has no production. A repetition does the same, and what it remembers is itself. No typed expression
-// needs more steps than it has nodes.
+// The walk for a token from a node. It ends at ε, ⊥ or a token, and does not ask which token. A sequence remembers its right node and
+// leads into its left part. A repetition does the same, and what it remembers is itself. No typed expression needs more steps than it
+// has nodes.
 fn walk<'a>(
     tag: &'a [u8; 64],
     link: &'a [u8; 64],
     first: &'a [u32; 64],
-    productive: u64,
     node: usize,
     token: u8,
 ) -> Walked
     ensures { λ r. ⌜ (r .start ≤ 64)
-        × ((guarded : ℕ) → walked r
-        ≡ column-walk (now (tag .entry)) (now (link .entry)) guarded (now (first .entry)) productive token 64 node []) ⌝ }
+        × ((guarded : ℕ) (tail : List ℕ)
+        → column-walk (now (tag .entry)) (now (link .entry)) guarded (now (first .entry)) token 64 node [] ≡ some tail
+        → drop (r .start) (r .rights) ≡ tail) ⌝ }
 {
     let mut w = first_walked();
     let mut at = node;
@@ -205,18 +112,11 @@ fn walk<'a>(
         }
         let kind = tag[at];
         let to = link[at];
-        if kind < 2 {
-            return w;
-        }
-        if kind == 2 {
-            w.found = to == token;
+        if kind < 3 {
             return w;
         }
         left -= 1;
         if (kind == 3) | (kind == 7) {
-            if !has_entry(productive, to) {
-                return w;
-            }
             let start = w.start - 1;
             w.start = start;
             w.rights[start] = to;
@@ -248,28 +148,26 @@ fn tail_of(rights: [u8; 64], start: usize) -> Tail
     tail
 }
 
-// A node's production for a token in the normal form. A token outside FIRST needs no walk.
+// A node's production for a token in the normal form. A token outside FIRST has none. This is asked first, since the walk does not ask
+// at which token it ends, nor whether the right nodes that it remembers derive a token sequence: in N·⊥ it would end at N. A token of
+// FIRST always has one, and the walk ends at it.
 pub fn production<'a>(
     tag: &'a [u8; 64],
     link: &'a [u8; 64],
     first: &'a [u32; 64],
-    productive: u64,
     node: usize,
     token: u8,
 ) -> Tail
-    requires { ⌜ ((e : Expression) × ColumnsOf (now tag) (now link) (now first) productive e × (node < size e)) ⌝ }
+    requires { ⌜ ((e : Expression) × ColumnsOf (now tag) (now link) (now first) e × (node < size e)) ⌝ }
     ensures { λ r. ⌜ TailCounted r
-        × ((e : Expression) → ColumnsOf (now (tag .entry)) (now (link .entry)) (now (first .entry)) productive e
+        × ((e : Expression) → ColumnsOf (now (tag .entry)) (now (link .entry)) (now (first .entry)) e
         → node < size e
         → production-held token r ≡ production-of token ((row-of (normal-form e) node) .productions)) ⌝ }
 {
     if !begins(first, node, token) {
         return no_tail();
     }
-    let w = walk(tag, link, first, productive, node, token);
-    if !w.found {
-        return no_tail();
-    }
+    let w = walk(tag, link, first, node, token);
     let rights = w.rights;
     tail_of(rights, w.start)
 }

@@ -1,18 +1,15 @@
--- The recogniser as a function, from the nodes and what is known of them: which tokens begin a word of a node, and which nodes have the
--- empty word. It goes so many steps at most; that so many are enough, and that it then descends as Figure 6 does, is proved elsewhere.
+-- The recogniser as a function, from the nodes and their least types. It goes so many steps at most; that so many are enough, and that it then
+-- descends as Figure 6 does, is proved elsewhere.
 use mathlib.Core.Bool.{Bool, not, _&&_, _||_, cond}
 use mathlib.Core.List.{List, [], _∷_}
-use mathlib.Core.Option.{Option, none, some}
-use mathlib.Core.Bool.{true, false}
 use Prim.Native.Nat.{ℕ, zero, suc, _+_, _*_}
 use lib.Dec.{eqb}
 use lib.ListN.{length}
+use Rattle.basics.specs.Bits.{bit}
 use Rattle.sheet.specs.Expression.{Expression}
+use Rattle.types.specs.Types.{is-bottom}
+use Rattle.types.specs.LeastTypes.{type-of, least-types}
 use Rattle.types.specs.Nodes.{Node, epsilon-node, bottom-node, token-node, sequence-node, alternative-node, fixed-point-node, variable-node, repetition-node, nodes, node-at}
-use Rattle.normal_form.specs.Productions.{Production, row-of, production-of}
-use Rattle.normal_form.specs.Derives.{derives}
-use Rattle.normal_form.specs.RowNames.{derives-at}
-use Rattle.normal_form.specs.NormalForm.{normal-form}
 use Rattle.recogniser.specs.Descends.{Descent, left, stuck}
 
 -- let s' = .. in ..
@@ -43,21 +40,17 @@ module _ (begins : ℕ → ℕ → Bool) (null : ℕ → Bool) where
   descend table zero n s = stuck s
   descend table (suc k) n s = descend-step (descend table k) (table n) s
 
-abbrev pub found : Option Production → Bool
-found none = false
-found (some q) = true
-
--- For an expression: a token begins a word of a node if the node's row that stays has a production for it.
+-- For an expression: FIRST and NULL of a node's least type.
 abbrev pub begins-at : Expression → ℕ → ℕ → Bool
-begins-at e n t = found (production-of t ((row-of (normal-form e) n) .productions))
+begins-at e n t = bit ((type-of (least-types e) n) .first) t
 
 abbrev pub null-at : Expression → ℕ → Bool
-null-at e n = (row-of (normal-form e) n) .has-epsilon
+null-at e n = (type-of (least-types e) n) .null
 
 -- So many steps are enough for a sequence of tokens: 65 for each token, and 64 more.
 abbrev pub descend-of : Expression → ℕ → List ℕ → Descent
 descend-of e n s = descend (begins-at e) (null-at e) (node-at (nodes e)) (length s * 65 + 64) n s
 
--- From the start, if that derives a token sequence.
+-- From the start, unless that has the type of ⊥ and denotes nothing.
 unfoldable pub descend-whole : Expression → List ℕ → Descent
-descend-whole e s = cond (derives-at (derives e) 0) (descend-of e 0 s) (stuck s)
+descend-whole e s = cond (is-bottom (type-of (least-types e) 0)) (stuck s) (descend-of e 0 s)

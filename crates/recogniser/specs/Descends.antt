@@ -1,7 +1,6 @@
 -- Document 001's recogniser: Figure 6, line by line, and the lines for repetition. A relation: from a node and the tokens s,
--- what the descent leaves of s, or where it fails. FIRST and NULL are asked of the languages and not of the types: "a branch that denotes
--- nothing is not entered", and τ.FIRST has the tokens of such a branch too, as that of N·⊥ has N. So where a part denotes nothing, this
--- may enter another branch than the figure with types does; that both agree elsewhere is not shown.
+-- what the descent leaves of s, or where it fails. FIRST and NULL are asked of the languages, so that "a branch that denotes nothing is not
+-- entered" is part of it; those of the least types are the same (demands: `first-exactly`, `null-exactly`).
 use mathlib.Core.Path.{_≡_}
 use mathlib.Core.Bool.{Bool}
 use mathlib.Core.List.{List, [], _∷_}

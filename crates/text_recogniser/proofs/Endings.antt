@@ -10,9 +10,10 @@ use lib.Seq.{take-at}
 use borrow.Author.Tests.{lt-ltb, le-ltb}
 use Rattle.basics.specs.Lists.{written-over}
 use Rattle.sheet.specs.Sheet.{Sheet}
-use Rattle.sheet.specs.Expression.{Expression, size}
-use Rattle.sheet.specs.Limits.{most-expression-nodes}
+use Rattle.sheet.specs.Expression.{Expression}
+use Rattle.sheet.specs.WellFormed.{WithinLimits}
 use Rattle.types.specs.Types.{HasType}
+use Rattle.types.specs.laws.LeastTypeLaws.{least-solves}
 use Rattle.lexer.specs.RuleOrder.{image-sheet}
 use Rattle.lexer.specs.laws.EmptyWord.{none-empty}
 use Rattle.image.specs.Answer.{Answer, answer}
@@ -130,7 +131,7 @@ typed-columns s checked p =
 pub passed-typed : (s : Sheet) (checked : CheckedSheet) → PassedParts s checked → HasType (s .expression)
 passed-typed s checked p = has-type (checked .links) (checked .types) (s .expression) (typed-columns s checked p)
 
-module _ (s : Sheet) (typed : HasType (s .expression)) (small : size (s .expression) ≤ most-expression-nodes) (l : Listed) (count : ℕ)
+module _ (s : Sheet) (typed : HasType (s .expression)) (limits : WithinLimits s) (l : Listed) (count : ℕ)
     (list list' starts starts' : List ℕ) (w : Written l count list list' starts starts') where
   listed-first : (entries entries' front : List ℕ) → entries' ≡ written-over front entries → count ≡ length front
       → take count entries' ≡ front
@@ -170,7 +171,8 @@ module _ (s : Sheet) (typed : HasType (s .expression)) (small : size (s .express
       let own : DescendsFromStart (s .expression) (l .tokens) (t .0)
       = subst (λ (u : List ℕ). DescendsFromStart (s .expression) u (t .0))
       (same ∙ listed-first list list' (l .tokens) (w .tokens-written) (w .tokens-counted)) (t .2) in
-      let one = start-one (typed .1) own (descend-whole-descends (typed .1) small (l .tokens)) in record {
+      let solved = least-solves (s .tokens) (limits .tokens-most) (s .expression) (limits .closed) in
+      let one = start-one (typed .1) own (descend-whole-descends (typed .1) solved (limits .nodes-most) (l .tokens)) in record {
         answered = decides (t .0) (t .1)
             ∙ (ap (λ (u : List ℕ). descent-answer u end (t .0))
             (listed-first starts starts' (l .starts) (w .starts-written) (w .starts-counted))

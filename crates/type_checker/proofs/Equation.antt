@@ -1,13 +1,13 @@
 -- Figure 2's equation at a node, from its tag and link: a law for each way through the code. And the nodes that it goes by.
-use mathlib.Core.Path.{_≡_, ap, ap₂, _∙_}
-use mathlib.Core.Bool.{Bool, true, false}
+use mathlib.Core.Path.{_≡_, sym, ap, ap₂, _∙_}
+use mathlib.Core.Bool.{Bool, true, false, _||_, cond}
 use mathlib.Core.Logic.{_⊎_, inl, inr}
 use Prim.Native.Nat.{ℕ, suc, _+_, _*_, _%_, _^_, _<_}
 use native.Mathlib.Numerals.{add-one}
 use native.Mathlib.Omega.{arith}
 use lib.Pow.{shl-exact}
 use borrow.Author.Tests.{ne-eqb}
-use Rattle.types.specs.Types.{LanguageType, epsilon-type, bottom-type, token-type, sequence-type, alternative-type, repetition-type}
+use Rattle.types.specs.Types.{LanguageType, epsilon-type, bottom-type, token-type, flap-sequence-type, is-bottom, sequence-type, alternative-type, repetition-type}
 use Rattle.columns.specs.HeldNodes.{node-of}
 use Rattle.sheet.specs.Limits.{most-tokens}
 use Rattle.types.specs.laws.NodeRanges.{NodeInRange}
@@ -15,6 +15,12 @@ use Rattle.type_checker.specs.laws.TypeBy.{type-by}
 
 shl-one-32 : (i : ℕ) → i < 32 → (1 * 2 ^ i) % 2 ^ 32 ≡ 2 ^ i
 shl-one-32 i h = shl-exact 1 i 32 (omega arith) (omega arith) ∙ omega arith
+
+-- The code's test of the parts' types decides as the definition's does.
+pub sequence-decided : (a b : LanguageType) {t : LanguageType} {left right decided : Bool} → left ≡ is-bottom a → right ≡ is-bottom b
+    → (left || right) ≡ decided → t ≡ cond decided bottom-type (flap-sequence-type a b) → t ≡ sequence-type a b
+unfolding sequence-type
+sequence-decided a b p q e h = h ∙ ap (λ x. cond x bottom-type (flap-sequence-type a b)) (sym e ∙ ap₂ _||_ p q)
 
 module _ (tag link i : ℕ) (guarded : Bool) where
   -- ---- what the node goes by is in the columns

@@ -7,7 +7,7 @@ use node_linker::link_nodes;
 ghost use mathlib.Core.Path.{_≡_};
 ghost use mathlib.Core.Bool.{Bool, cond, not};
 ghost use Prim.Native.Nat.{suc, _^_, _<_, _≤_};
-ghost use Rattle.types.specs.Types.{if-null, sequence-type, alternative-type, repetition-type};
+ghost use Rattle.types.specs.Types.{if-null, flap-sequence-type, is-bottom, sequence-type, alternative-type, repetition-type};
 ghost use Rattle.types.specs.LeastTypes.{same-type, types-of};
 ghost use Rattle.types.specs.Questions.{separable, apart, first-fault};
 ghost use Rattle.columns.specs.HeldNodes.{node-of, held-nodes, held-type, held-types};
@@ -75,8 +75,16 @@ fn without_flast(null: bool, first: u32) -> NodeType
     }
 }
 
-fn sequence_type(a: NodeType, b: NodeType) -> NodeType
-    ensures { λ r. ⌜ language-type r ≡ sequence-type (language-type a) (language-type b) ⌝ }
+// Whether it is the type of ⊥.
+fn is_bottom(t: NodeType) -> bool
+    ensures { λ r. ⌜ r ≡ is-bottom (language-type t) ⌝ }
+{
+    !t.null & ((t.first == 0) & (t.flast == 0))
+}
+
+// The flap paper's type of a sequence.
+fn flap_sequence_type(a: NodeType, b: NodeType) -> NodeType
+    ensures { λ r. ⌜ language-type r ≡ flap-sequence-type (language-type a) (language-type b) ⌝ }
 {
     let behind = set_if(a.null, b.first);
     let inside = set_if(b.null, b.first | a.flast);
@@ -85,6 +93,16 @@ fn sequence_type(a: NodeType, b: NodeType) -> NodeType
         first: a.first | behind,
         flast: b.flast | inside,
     }
+}
+
+// The typing paper's: with a part of ⊥'s type it has that type too, so that an unfinished branch is apart from every other.
+fn sequence_type(a: NodeType, b: NodeType) -> NodeType
+    ensures { λ r. ⌜ language-type r ≡ sequence-type (language-type a) (language-type b) ⌝ }
+{
+    if is_bottom(a) | is_bottom(b) {
+        return without_flast(false, 0);
+    }
+    flap_sequence_type(a, b)
 }
 
 fn alternative_type(a: NodeType, b: NodeType) -> NodeType

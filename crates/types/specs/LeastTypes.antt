@@ -8,24 +8,27 @@ use lib.Dec.{eqb}
 use Rattle.basics.specs.Settle.{least-solution}
 use Rattle.sheet.specs.Expression.{Expression}
 use Rattle.sheet.specs.Limits.{most-tokens}
-use Rattle.types.specs.Types.{LanguageType, epsilon-type, bottom-type, token-type, sequence-type, alternative-type, repetition-type}
+use Rattle.types.specs.Types.{LanguageType, epsilon-type, bottom-type, token-type, Operation, sequence-type, alternative-type, repetition-type-with}
 use Rattle.types.specs.Nodes.{Node, epsilon-node, bottom-node, token-node, sequence-node, alternative-node, fixed-point-node, variable-node, repetition-node, nodes}
 
 -- The type of a node in a list of all nodes' types.
 abbrev pub type-of : List LanguageType → ℕ → LanguageType
 type-of types n = getD types n bottom-type
 
--- Figure 2's equation at a node. A fixed point has its body's type, and a variable its fixed point's; so a repetition, as
--- μβ.(ε ∨ g·β), goes by its own.
-unfoldable pub node-type : List LanguageType → Node → LanguageType
-node-type types epsilon-node = epsilon-type
-node-type types bottom-node = bottom-type
-node-type types (token-node t) = token-type t
-node-type types (sequence-node l r) = sequence-type (type-of types l) (type-of types r)
-node-type types (alternative-node l r) = alternative-type (type-of types l) (type-of types r)
-node-type types (fixed-point-node b) = type-of types b
-node-type types (variable-node f guarded) = type-of types f
-node-type types (repetition-node b self) = repetition-type (type-of types b) (type-of types self)
+-- The equation at a node, as `Types` has Figure 2, with an operation for the sequence. A fixed point has its body's type, and a variable its fixed
+-- point's; so a repetition, as μβ.(ε ∨ g·β), goes by its own.
+unfoldable pub node-type-with : Operation → List LanguageType → Node → LanguageType
+node-type-with op types epsilon-node = epsilon-type
+node-type-with op types bottom-node = bottom-type
+node-type-with op types (token-node t) = token-type t
+node-type-with op types (sequence-node l r) = op (type-of types l) (type-of types r)
+node-type-with op types (alternative-node l r) = alternative-type (type-of types l) (type-of types r)
+node-type-with op types (fixed-point-node b) = type-of types b
+node-type-with op types (variable-node f guarded) = type-of types f
+node-type-with op types (repetition-node b self) = repetition-type-with op (type-of types b) (type-of types self)
+
+abbrev pub node-type : List LanguageType → Node → LanguageType
+node-type = node-type-with sequence-type
 
 unfoldable pub same-type : LanguageType → LanguageType → Bool
 same-type a b = Bool·beq (a .null) (b .null) && (eqb (a .first) (b .first) && eqb (a .flast) (b .flast))

@@ -8,6 +8,7 @@ pub mod LeastSolution
 pub mod TypeFaults
 -- Cited by contracts, by what the requests claim and by proofs; the demands do not rest on it:
 pub mod Questions
+pub mod FlapTyping
 pub mod SpelledOut
 pub mod Languages
 pub mod NodeLanguages

@@ -4,6 +4,7 @@ pub mod Computing
 pub mod DenotationLaws
 pub mod Soundness
 pub mod SetOrder
+pub mod BottomTypeLaws
 pub mod SequenceTypeLaws
 pub mod TypeLaws
 pub mod TypeWeight
@@ -16,6 +17,7 @@ pub mod LaidOut
 pub mod TypedAt
 pub mod TypedNodes
 pub mod Typing
+pub mod Passed
 pub mod TypeFaultLaws
 pub mod PutIn
 pub mod SpelledOutPublished
@@ -25,3 +27,4 @@ pub mod SomeSolution
 pub mod SpelledOutLeast
 pub mod SpelledOutExamples
 pub mod Examples
+pub mod Unfinished

@@ -1,10 +1,10 @@
--- Every row of the seven tables of worked cases holds: what is computed of a row, and, by the demands, what follows for the sheet that
--- its bytes spell. The rows themselves stand in `Cases`, `RepetitionCases`, `CheckCases`, `PaddingCases`, `WordCases`, `TableCases` and
--- `RecogniserCases`.
+-- Every row of the eight tables of worked cases holds: what is computed of a row, and, by the demands, what follows for the sheet that
+-- its bytes spell. The rows themselves stand in `Cases`, `RepetitionCases`, `CheckCases`, `PaddingCases`, `WordCases`, `TableCases`,
+-- `RecogniserCases` and `UnfinishedCases`.
 use mathlib.Core.Path.{_≡_, refl, ap, subst, _∙_}
 use mathlib.Core.Bool.{true, not}
 use mathlib.Core.List.{List, [], _∷_}
-use mathlib.Core.Logic.{_⊎_, ⊎-elim}
+use mathlib.Core.Logic.{_⊎_, _↔_, ⊎-elim}
 use Prim.Native.Nat.{ℕ, zero, suc, _≤_}
 use native.Mathlib.Omega.{arith}
 use lib.Dec.{T, eqb, leb, leb→le}
@@ -17,11 +17,11 @@ use Rattle.sheet.specs.Limits.{most-sheet-bytes}
 use Rattle.sheet.specs.Sheet.{Sheet}
 use Rattle.sheet.specs.SheetFormat.{Spells}
 use Rattle.sheet.specs.laws.FieldLaws.{Bytes, all-bytes, tested-bytes}
-use Rattle.sheet.specs.Field.{Reading, got}
+use Rattle.sheet.specs.Field.{got}
 use Rattle.sheet.specs.Reading.{Contents, read-sheet}
 use Rattle.sheet.specs.laws.ReadingLaws.{read-accepted, spelled-once, spelled-limits}
 use Rattle.sheet.specs.Regex.{class, concat, star}
-use Rattle.sheet.specs.Expression.{token, sequence, fixed-point, variable}
+use Rattle.sheet.specs.Expression.{bottom, token, sequence, alternative, fixed-point, variable}
 use Rattle.sheet.specs.SheetD.{sheet-D, bytes-of-D}
 use Rattle.sheet.specs.Twins.{Twins}
 use Rattle.sheet.specs.laws.TwinLaws.{numbers-twins, reads-as, read-as}
@@ -45,11 +45,10 @@ use Rattle.machine.specs.laws.Computing.{computing-machine}
 use Rattle.recogniser.specs.Recognise.{ending, recognise}
 use Rattle.recogniser.specs.laws.Computing.{computing-recogniser}
 use Rattle.recogniser.specs.laws.RecognisesLaws.{recognises-iff}
-use Rattle.demands.specs.Demands.{Demand1}
 use Rattle.demands.specs.laws.Proofs.{demand-1, written-exactly, own-answer-alone}
-use Rattle.demands.specs.laws.Requests.{text-changes-only}
+use Rattle.demands.specs.laws.Requests.{text-changes-only, unfinished-denotes}
 use Rattle.demands.specs.ImageD.{image-D, D-written}
-use Rattle.cases.specs.Cases.{Case, writes, writes-with, checks, reads, changes, runs, tables, runs-table, recognises, denotes-nothing}
+use Rattle.cases.specs.Cases.{Case, writes, writes-with, checks, reads, changes, runs, tables, runs-table, recognises, denotes-only, denotes-nothing}
 use Rattle.cases.specs.Cases.{written-sheet, stack-for, buffers, run-of-sheet, Holds, cases}
 use Rattle.cases.specs.RepetitionCases.{image-of-counts, image-of-numbers, repetition-cases}
 use Rattle.cases.specs.CheckCases.{check-cases}
@@ -58,6 +57,7 @@ use Rattle.cases.specs.WordCases.{image-word-below, image-name-above, im
 use Rattle.cases.specs.WordCases.{image-equal-words, image-wide-class, image-empty-then-a, word-cases}
 use Rattle.cases.specs.TableCases.{table-cases}
 use Rattle.cases.specs.RecogniserCases.{recogniser-cases}
+use Rattle.cases.specs.UnfinishedCases.{image-of-N, unfinished-cases}
 
 -- What is computed of a case: for a reading, the sheet's image and what the machine answers over it.
 abbrev Computes : Case → Type 0
@@ -79,6 +79,9 @@ Computes (runs-table image text table winners entries a) = (run image text (buff
 Computes (recognises sheet text list a after) =
     (tokens : List ℕ) × (recognise sheet text work-bytes (length list) ≡ ending a tokens) × (written-over tokens list ≡ after)
     × T (all-bytes sheet)
+Computes (denotes-only sheet only) =
+    (c : Contents) × (read-sheet sheet ≡ got c (length sheet)) × T (all-bytes sheet) × T (leb (length sheet) most-sheet-bytes)
+    × ((tokens : List ℕ) → Denotes ((c .sheet) .expression) tokens ↔ (tokens ≡ only))
 Computes (denotes-nothing sheet) =
     (c : Contents) × (read-sheet sheet ≡ got c (length sheet)) × T (all-bytes sheet) × T (leb (length sheet) most-sheet-bytes)
     × ((tokens : List ℕ) → Denotes ((c .sheet) .expression) tokens → ⊥)
@@ -138,6 +141,9 @@ holds (runs-table image text table winners entries a) h =
     (h .0, demand-1 .running image text (tested-bytes image (h .1)) (buffers table winners entries) _ .0 refl)
 holds (recognises sheet text list a after) h =
     (h .0, recognises-iff sheet text work-bytes (length list) (tested-bytes sheet (h .3)) a (h .0) .0 (h .1), h .2)
+holds (denotes-only sheet only) h =
+    let read = read-accepted sheet (tested-bytes sheet (h .2)) (leb→le (length sheet) most-sheet-bytes (h .3)) (h .1) in
+    (h .0 .sheet, (h .0, read, refl), h .4)
 holds (denotes-nothing sheet) h =
     let read = read-accepted sheet (tested-bytes sheet (h .2)) (leb→le (length sheet) most-sheet-bytes (h .3)) (h .1) in
     (h .0 .sheet, (h .0, read, refl), h .4)
@@ -306,6 +312,46 @@ recogniser-computed =
     & (_, refl, refl, tt)
     & tt
 
+-- N·⊥ ∨ N and N·⊥ ∨ N·⊥ as they are read.
+abbrev unfinished-contents : Contents
+unfinished-contents = record {
+  sheet = record { tokens = 2; rules = sheet-D .rules; expression = alternative (sequence (token 0) bottom) (token 0) };
+  action-places = 3 ∷ 12 ∷ 16 ∷ [];
+  node-places = 20 ∷ 21 ∷ 22 ∷ 24 ∷ 25 ∷ [];
+}
+
+abbrev twice-contents : Contents
+twice-contents = record {
+  sheet = record { tokens = 2; rules = sheet-D .rules; expression = alternative (sequence (token 0) bottom) (sequence (token 0) bottom) };
+  action-places = 3 ∷ 12 ∷ 16 ∷ [];
+  node-places = 20 ∷ 21 ∷ 22 ∷ 24 ∷ 25 ∷ 26 ∷ 28 ∷ [];
+}
+
+unfinished-computed : All Computes unfinished-cases
+unfolding unfinished-cases written-sheet written-over computing-machine computing-recogniser
+unfinished-computed =
+    refl
+    & refl
+    & refl
+    & (unfinished-contents, refl, tt, tt, unfinished-denotes 0)
+    & (image-of-N, refl, refl, tt, tt)
+    & (image-of-N, refl, refl, tt, tt)
+    & (image-of-N, refl, refl, tt, tt)
+    & (_, refl, refl, tt)
+    & refl
+    & refl
+    & (twice-contents, refl, tt, tt, (λ w h. ⊎-elim (λ x. x .4) (λ x. x .4) h))
+    & refl
+    & refl
+    & refl
+    & refl
+    & refl
+    & refl
+    & refl
+    & refl
+    & refl
+    & tt
+
 -- Every row holds.
 pub cases-hold : All Holds cases
 cases-hold = all-hold cases all-computed
@@ -327,6 +373,9 @@ table-cases-hold = all-hold table-cases table-computed
 
 pub recogniser-cases-hold : All Holds recogniser-cases
 recogniser-cases-hold = all-hold recogniser-cases recogniser-computed
+
+pub unfinished-cases-hold : All Holds unfinished-cases
+unfinished-cases-hold = all-hold unfinished-cases unfinished-computed
 
 -- ---- sheet D and a twin
 

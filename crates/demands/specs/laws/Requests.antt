@@ -10,22 +10,34 @@ use native.Mathlib.Omega.{arith}
 use lib.ListN.{length, take, drop, getD, replicate, length-replicate, length-append, length-drop, length-map}
 use lib.Seq.{take-at}
 use Rattle.basics.specs.Lists.{written-over}
-use Rattle.sheet.specs.Expression.{Expression}
+use Rattle.sheet.specs.Expression.{Expression, bottom, token, sequence, alternative}
+use Rattle.basics.specs.Bits.{_∈_}
 use Rattle.sheet.specs.Limits.{most-sheet-bytes}
 use Rattle.sheet.specs.Sheet.{Rule, Sheet}
+use Rattle.sheet.specs.SheetD.{sheet-D, bytes-of-D}
 use Rattle.sheet.specs.SheetFormat.{Spells}
+use Rattle.sheet.specs.laws.Examples.{d-spelled}
 use Rattle.sheet.specs.laws.ReadingLaws.{spelled-limits, spelled-once}
 use Rattle.sheet.specs.Spelling.{Bytes}
+use Rattle.sheet.specs.WellFormed.{WithinLimits}
 use Rattle.sheet.specs.Twins.{Twins, SamePlace}
 use Rattle.sheet.specs.laws.TwinLaws.{twins-back}
 use Rattle.types.specs.Denotation.{Denotes}
+use Rattle.types.specs.Languages as languages
 use Rattle.types.specs.Languages.{HasWord}
 use Rattle.types.specs.NodeLanguages.{language-of}
-use Rattle.types.specs.Types.{HasType}
+use Rattle.types.specs.Types.{LanguageType, bottom-type, HasType}
+use Rattle.types.specs.Nodes.{nodes}
+use Rattle.types.specs.LeastTypes.{type-of}
+use Rattle.types.specs.LeastSolution.{LeastSolution}
+use Rattle.types.specs.laws.Passed.{has-type-still}
+use Rattle.types.specs.laws.Unfinished as unfinished-laws
+use Rattle.types.specs.laws.Unfinished.{D-had-type}
 use Rattle.types.specs.SpelledOut.{spelled-out, spelled-out-sheet}
 use Rattle.types.specs.laws.SpelledOutDenotation.{spelled-out-denotes}
 use Rattle.types.specs.laws.SpelledOutTyping.{spelled-out-has-type}
 use Rattle.normal_form.specs.Unfolds.{Unfolds}
+use Rattle.normal_form.specs.laws.TypesExact.{sheet-null-exact, sheet-first-exact, sheet-bottom-exact}
 use Rattle.lexer.specs.laws.EmptyWord.{none-empty}
 use Rattle.lexer.specs.Words.{NoEmptyRule}
 use Rattle.lexer.specs.RuleOrder.{by-number, by-kind, WordsAbove, image-sheet}
@@ -34,6 +46,7 @@ use Rattle.lexer.specs.laws.OrderedMatches.{match-changes-only}
 use Rattle.image.specs.Answer.{Answer, answer}
 use Rattle.image.specs.Image.{Image, plain-image, image-of, image-bytes}
 use Rattle.image.specs.ImageFormat.{ReadableAs}
+use Rattle.image.specs.laws.Computing.{computing-image}
 use Rattle.image.specs.laws.ImageLaws.{numbering-kept}
 use Rattle.image.specs.laws.ImageLength.{image-fits}
 use Rattle.image.specs.laws.ReadableImages.{readable-written}
@@ -66,6 +79,7 @@ use Rattle.recogniser.specs.laws.DescentRuns.{entered-denotes}
 use Rattle.recogniser.specs.laws.RecognisesLaws as recogniser-laws
 use Rattle.recogniser.specs.laws.RecognisesLaws.{one-descent, recognises-one, no-rule-first, as-own-answer, unless-15}
 use Rattle.demands.specs.Demands.{Functions, Accepts, Demand1, Demand3}
+use Rattle.demands.specs.Before.{PassedBefore, Demand2Before}
 use Rattle.demands.specs.laws.Proofs.{written-exactly, accepted-normal-form, unfolds-exactly}
 use Rattle.demands.specs.laws.Corollaries.{one-check, one-write, own}
 
@@ -546,3 +560,65 @@ descent-is-right sheet s p text lexemes x o d = descent-own-answer s text ((p .h
 -- "So a branch that denotes nothing is not entered."
 pub only-denoting-entered : (e : Expression) (g g' c : ℕ) → Enters e g g' c → HasWord (language-of e g)
 only-denoting-entered = entered-denotes
+
+-- ---- [8] "Unfinished branches in a sheet": "From here on 001's typing decides acceptance", which is demand 2
+
+passable-still : {sheet : List ℕ} {s : Sheet} → PassedBefore sheet s → Passable sheet s
+passable-still {sheet} {s} p = record {
+  well-formed = p .well-formed;
+  no-empty-text = p .no-empty-text;
+  has-type = has-type-still s (spelled-limits sheet s (p .well-formed)) (p .had-type);
+}
+
+module _ (f : Functions) (demand : Demand1 f) where
+  -- "Every sheet that passed still passes"
+  pub passes-still : (sheet work : List ℕ) → Bytes sheet → work-bytes ≤ length work → (s : Sheet) → PassedBefore sheet s → Passes f sheet work
+  passes-still sheet work bytes enough s p = passed-exactly f demand sheet work bytes enough .1 (s, passable-still p)
+
+  -- "with the same image", byte for byte: what fits is accepted, and what is written is the image that was written.
+  pub image-still : (sheet work buffer image : List ℕ) → Bytes sheet → work-bytes ≤ length work → (s : Sheet) → PassedBefore sheet s
+      → ReadableAs image (image-of s) → length image ≤ length buffer
+      → Accepts f sheet work buffer × (f .write sheet work buffer .part ≡ image)
+  image-still sheet work buffer image bytes enough s p readable fits =
+      let w = written-exactly sheet bytes (length work) (length buffer) enough .1
+      (s, record { passable = passable-still p; fits = (image, readable, fits) }) in
+      let accepted = accepted-as f demand sheet work buffer (w .0) bytes (w .1) in
+      let e = accepts-by f demand sheet work buffer bytes .0 accepted in
+      let now = accepted-normal-form sheet bytes (length work) (length buffer) _ e s (p .well-formed) in
+      (accepted, readable-written _ (image-of s) now ∙ sym (readable-written image (image-of s) readable))
+
+  -- The same of whatever functions were right before: these accept what they accepted, and write what they wrote.
+  pub same-image-still : (g : Functions) → Demand2Before g → (sheet work buffer : List ℕ) → Bytes sheet → work-bytes ≤ length work
+      → Accepts g sheet work buffer → Accepts f sheet work buffer × (f .write sheet work buffer .part ≡ g .write sheet work buffer .part)
+  same-image-still g before sheet work buffer bytes enough h =
+      let x = before .accepted-exactly sheet work buffer bytes enough .0 h in
+      let there = before .normal-form sheet work buffer bytes h (x .0) (x .1 .well-formed) in
+      let same = readable-written (x .2 .0) (image-of (x .0)) (x .2 .1) ∙ sym (readable-written _ (image-of (x .0)) there) in
+      image-still sheet work buffer (g .write sheet work buffer .part) bytes enough (x .0) (x .1) there
+      (subst (λ (image : List ℕ). length image ≤ length buffer) same (x .2 .2))
+
+-- There are sheets that passed: sheet D is one.
+pub D-passed-before : PassedBefore bytes-of-D sheet-D
+unfolding computing-image
+D-passed-before = record { well-formed = d-spelled; no-empty-text = none-empty (sheet-D .rules) .0 refl; had-type = D-had-type }
+
+-- Of every well-formed sheet, whether it passes or not, the least types are exact in this: a node has the type of the empty language exactly
+-- if it denotes nothing,
+pub bottom-exactly : (s : Sheet) → WithinLimits s → (types : List LanguageType) → LeastSolution (nodes (s .expression)) types
+    → (n : ℕ) → (type-of types n ≡ bottom-type) ↔ (HasWord (language-of (s .expression) n) → ⊥)
+bottom-exactly s limits types least n = sheet-bottom-exact (s .tokens) (limits .tokens-most) (s .expression) (limits .closed) types least n
+
+-- it is nullable exactly if it denotes the empty sequence,
+pub null-exactly : (s : Sheet) → WithinLimits s → (types : List LanguageType) → LeastSolution (nodes (s .expression)) types
+    → (n : ℕ) → ((type-of types n) .null ≡ true) ↔ language-of (s .expression) n []
+null-exactly s limits types least n = sheet-null-exact (s .tokens) (limits .tokens-most) (s .expression) (limits .closed) types least n
+
+-- and a token is in its FIRST set exactly if a sequence that it denotes begins with it.
+pub first-exactly : (s : Sheet) → WithinLimits s → (types : List LanguageType) → LeastSolution (nodes (s .expression)) types
+    → (n t : ℕ) → (t ∈ (type-of types n) .first) ↔ languages.Begins (language-of (s .expression) n) t
+first-exactly s limits types least n t = sheet-first-exact (s .tokens) (limits .tokens-most) (s .expression) (limits .closed) types least n t
+
+-- "N·⊥ ∨ N now passes and denotes N alone": that it passes is a row of the table of worked cases (`cases`).
+pub unfinished-denotes : (t : ℕ) (tokens : List ℕ)
+    → Denotes (alternative (sequence (token t) bottom) (token t)) tokens ↔ (tokens ≡ t ∷ [])
+unfinished-denotes = unfinished-laws.unfinished-denotes

@@ -20,22 +20,19 @@ use Rattle.columns.specs.HeldNodes.{held-nodes, held-type, held-types}
 use Rattle.columns.specs.laws.TabulateLaws.{tabulate-at}
 use Rattle.columns.specs.declared.NodeLinks.{NodeLinks}
 use Rattle.columns.specs.declared.TypeColumns.{TypeColumns}
-use Rattle.normal_form.specs.Derives.{derives}
-use Rattle.production_finder.specs.Columns.{SetOf}
 use Rattle.production_finder.specs.laws.ColumnLaws.{count-is-size, columns-of}
 use Rattle.node_numbering.specs.Grammar.{GrammarOf}
 use Rattle.node_numbering.specs.declared.Grammar.{Grammar}
 
--- The columns of a grammar from those of the rules, the nodes and the types, and the set of nodes that derive a token sequence.
-abbrev pub grammar-from : RuleColumns → NodeLinks → TypeColumns → ℕ → Grammar
-grammar-from rules links types productive = record {
+-- The columns of a grammar from those of the rules, the nodes and the types.
+abbrev pub grammar-from : RuleColumns → NodeLinks → TypeColumns → Grammar
+grammar-from rules links types = record {
   rules = rules .count;
   action = rules .action;
   tag = links .tag;
   link = links .link;
   first = types .first;
   null = types .null;
-  productive = productive;
 }
 
 null-here : (links : NodeLinks) (types : TypeColumns) (e : Expression) → held-nodes links ≡ nodes e
@@ -49,14 +46,13 @@ null-here links types e held typed n l =
     ∙ ap (held-type (types .null) (types .first) (types .flast)) (zero-add n)))
     ∙ ap (λ l. (type-of l n) .null) typed
 
-pub grammar-of : (s : Sheet) (rules : RuleColumns) (places : List ℕ) (links : NodeLinks) (types : TypeColumns) (productive : ℕ) → WithinLimits s
+pub grammar-of : (s : Sheet) (rules : RuleColumns) (places : List ℕ) (links : NodeLinks) (types : TypeColumns) → WithinLimits s
     → RulesOf rules (s .rules) places → held-nodes links ≡ nodes (s .expression) → held-types (links .count) types ≡ least-types (s .expression)
-    → type-fault (s .expression) ≡ none → SetOf productive (derives (s .expression))
-    → GrammarOf (grammar-from rules links types productive) (s .rules) (s .expression)
-grammar-of s rules places links types productive w held-rules held typed right set = record {
+    → type-fault (s .expression) ≡ none → GrammarOf (grammar-from rules links types) (s .rules) (s .expression)
+grammar-of s rules places links types w held-rules held typed right = record {
   rule-count = held-rules .rules ∙ length-map (s .rules) (λ r. r .action);
   rules-most = w .rules-most;
   actions-held = held-rules .actions-held;
-  columns = columns-of links types (s .expression) held typed (s .tokens) productive (w .tokens-most) (w .closed) (w .nodes-most) right set;
+  columns = columns-of links types (s .expression) held typed (s .tokens) (w .tokens-most) (w .closed) (w .nodes-most) right;
   null-held = null-here links types (s .expression) held typed;
 }

@@ -3,24 +3,23 @@ use mathlib.Core.Path.{_≡_, refl, sym, ap, subst, _∙_}
 use mathlib.Core.Bool.{Bool, true, false, Bool·beq, true≢false}
 use mathlib.Core.List.{List, [], _∷_, _++_}
 use mathlib.Core.Logic.{inl, inr, _↔_, ⊎-elim}
-use Prim.Native.Nat.{ℕ, zero, suc, _+_, _*_}
+use Prim.Native.Nat.{ℕ, _*_}
 use native.Mathlib.Omega.{arith}
 use lib.Dec.{T}
-use lib.ListN.{getD, length}
+use lib.ListN.{length}
 use Rattle.basics.specs.laws.Truth.{or-left, or-right, or-cases, and-both, and-first, and-second, holds-true, true-holds, beq-equal, beq-self}
 use Rattle.basics.specs.Rounds.{rounds}
 use Rattle.basics.specs.Settle.{least-solution}
-use Rattle.basics.specs.laws.RoundLaws.{Equations, round-at, solution-rounds, solution-every, solution-unique, solution-solves}
-use Rattle.sheet.specs.Expression.{Expression, epsilon, bottom, token, sequence, alternative, fixed-point, variable, repetition, size}
-use Rattle.types.specs.Denotation.{Language, iterate, language-at, denotation}
-use Rattle.types.specs.Languages.{Environment, HasWord}
+use Rattle.basics.specs.laws.RoundLaws.{Equations, round-at, solution-rounds, solution-every, solution-solves}
+use Rattle.sheet.specs.Expression.{Expression}
+use Rattle.types.specs.Denotation.{Language}
+use Rattle.types.specs.Languages.{HasWord}
 use Rattle.types.specs.Types.{LanguageType, _⊢_∶_}
 use Rattle.types.specs.laws.SetOrder.{_⇒_, implied-both, and-rises, or-rises, flag, flag-rises, flag-most, flag-implies}
 use Rattle.types.specs.Nodes.{Node, epsilon-node, bottom-node, token-node, sequence-node, alternative-node, fixed-point-node, variable-node, repetition-node, nodes, node-at}
 use Rattle.normal_form.specs.Derives.{node-derives, derives}
 use Rattle.normal_form.specs.RowNames.{derives-at}
-use Rattle.normal_form.specs.laws.Places.{Placed, Everywhere, everywhere-all}
-use Rattle.normal_form.specs.laws.NodeLanguages.{languages-past, PartsDenote, whole-site, node-language, language-equation}
+use Rattle.normal_form.specs.laws.NodeLanguages.{node-language, language-equation, languages-least}
 use Rattle.types.specs.NodeLanguages.{language-of}
 
 -- ---- the equations can be solved by rounds
@@ -37,7 +36,7 @@ node-derives-rises xs ys h (fixed-point-node b) e = h b e
 node-derives-rises xs ys h (variable-node f guarded) e = h f e
 node-derives-rises xs ys h (repetition-node b self) e = e
 
-pub derive-equations : Equations Bool·beq false 1 node-derives bottom-node _⇒_ (λ b. Unit) flag
+derive-equations : Equations Bool·beq false 1 node-derives bottom-node _⇒_ (λ b. Unit) flag
 unfolding node-derives
 derive-equations = record {
   same-equal = beq-equal;
@@ -64,18 +63,16 @@ derives-least e =
     ∙ ap (rounds false node-derives (nodes e)) (let z : 1 * length (nodes e) ≡ length (nodes e) = omega arith in z)
 
 -- The flags solve the equations.
-pub derives-solve : (e : Expression) (n : ℕ) → derives-at (derives e) n ≡ node-derives (derives e) (node-at (nodes e) n)
+derives-solve : (e : Expression) (n : ℕ) → derives-at (derives e) n ≡ node-derives (derives e) (node-at (nodes e) n)
 derives-solve e n = subst (λ (l : List Bool). derives-at l n ≡ node-derives l (node-at (nodes e) n)) (derives-least e)
     (ap (λ (l : List Bool). derives-at l n) (solution-solves derive-equations (nodes e) (λ flags f m. tt))
     ∙ round-at derive-equations (nodes e) (least e) n)
 
--- Flags that lie below them, and to which the equations add nothing, are these flags.
-pub derives-unique : (e : Expression) (flags : List Bool) → length flags ≡ length (nodes e)
-    → ((n : ℕ) → derives-at flags n ⇒ derives-at (derives e) n) → ((n : ℕ) → node-derives flags (node-at (nodes e) n) ⇒ derives-at flags n)
-    → flags ≡ derives e
-derives-unique e flags long below closed = solution-unique derive-equations (nodes e) flags long (λ n h. absurd (true≢false (sym h)))
-    (subst (λ (l : List Bool). (n : ℕ) → derives-at flags n ⇒ derives-at l n) (sym (derives-least e)) below)
-    (λ n h. closed n (sym (round-at derive-equations (nodes e) flags n) ∙ h)) ∙ derives-least e
+-- What holds of a node that is not found, and is kept by the equations, holds of the flags.
+derives-every : (e : Expression) (Q : ℕ → Bool → Type 0) → ((n : ℕ) → Q n false)
+    → ((flags : List Bool) → ((n : ℕ) → Q n (derives-at flags n)) → (n : ℕ) → Q n (node-derives flags (node-at (nodes e) n)))
+    → (n : ℕ) → Q n (derives-at (derives e) n)
+derives-every e Q z f = subst (λ (l : List Bool). (n : ℕ) → Q n (derives-at l n)) (derives-least e) (solution-every derive-equations (nodes e) Q z f)
 
 -- ---- what is found has a word
 
@@ -99,90 +96,30 @@ module _ (N : ℕ → Language) where
   node-found flags f (repetition-node b self) t = ([], inl refl)
 
 derives-found : {e : Expression} {a : LanguageType} → [] ⊢ e ∶ a → (n : ℕ) → T (derives-at (derives e) n) → HasWord (language-of e n)
-derives-found {e} d = subst (λ (l : List Bool). (n : ℕ) → T (derives-at l n) → HasWord (language-of e n)) (derives-least e)
-    (solution-every derive-equations (nodes e) (λ n b. T b → HasWord (language-of e n)) (λ n t. absurd t)
-    (λ flags f n t. let x = node-found (language-of e) flags f (node-at (nodes e) n) t in (x .0, language-equation d n (x .0) .1 (x .1))))
+derives-found {e} d = derives-every e (λ n b. T b → HasWord (language-of e n)) (λ n t. absurd t)
+    (λ flags f n t. let x = node-found (language-of e) flags f (node-at (nodes e) n) t in (x .0, language-equation d n (x .0) .1 (x .1)))
 
 -- What has a word is found, by any solution of the equations.
-module _ (N : ℕ → Language) (table : ℕ → Node) (flags : List Bool)
-    (solves : (n : ℕ) → derives-at flags n ≡ node-derives flags (table n)) where
-  -- An open variable's language has words only if its fixed point is found.
-  abbrev VariablesFound : Environment → List ℕ → Type 0
-  VariablesFound γ fs = (n : ℕ) (w : List ℕ) → language-at γ n w → T (derives-at flags (getD fs n 0))
+node-complete : (flags : List Bool) (x : Node) (w : List ℕ) → node-language (λ n w. T (derives-at flags n)) x w → T (node-derives flags x)
+unfolding node-derives
+node-complete flags epsilon-node w h = tt
+node-complete flags bottom-node w h = absurd h
+node-complete flags (token-node k) w h = tt
+node-complete flags (sequence-node l r) w h = and-both (derives-at flags l) (derives-at flags r) (h .3) (h .4)
+node-complete flags (alternative-node l r) w (inl h) = or-left (derives-at flags l) (derives-at flags r) h
+node-complete flags (alternative-node l r) w (inr h) = or-right (derives-at flags l) (derives-at flags r) h
+node-complete flags (fixed-point-node b) w h = h
+node-complete flags (variable-node f guarded) w h = h
+node-complete flags (repetition-node b self) w h = tt
 
-  next-found : (γ : Environment) (fs : List ℕ) (L : Language) (p : ℕ) → ((w : List ℕ) → L w → T (derives-at flags p)) → VariablesFound γ fs
-      → VariablesFound (L ∷ γ) (p ∷ fs)
-  next-found γ fs L p f k zero w h = f w h
-  next-found γ fs L p f k (suc n) w h = k n w h
-
-  by-equation : (p : ℕ) {x : Node} → table p ≡ x → T (node-derives flags x) → T (derives-at flags p)
-  by-equation p e t = subst T (sym (solves p ∙ ap (node-derives flags) e)) t
-
-  fixed-point-found : (g : Expression) (γ : Environment) (p : ℕ) (fs : List ℕ) → VariablesFound γ fs
-      → ((L : Language) → VariablesFound (L ∷ γ) (p ∷ fs) → (w : List ℕ) → denotation g (L ∷ γ) w → T (derives-at flags p))
-      → (i : ℕ) (w : List ℕ) → iterate (λ L. denotation g (L ∷ γ)) i w → T (derives-at flags p)
-  fixed-point-found g γ p fs k f zero w h = absurd h
-  fixed-point-found g γ p fs k f (suc i) w h =
-      f (iterate (λ L. denotation g (L ∷ γ)) i)
-      (next-found γ fs (iterate (λ L. denotation g (L ∷ γ)) i) p (fixed-point-found g γ p fs k f i) k) w h
-
-  word-found : (g : Expression) (γ : Environment) (p : ℕ) (fs : List ℕ) → Placed table g p fs → VariablesFound γ fs
-      → (w : List ℕ) → denotation g γ w → T (derives-at flags p)
-  unfolding node-derives
-  word-found epsilon γ p fs t k w h = by-equation p t tt
-  word-found bottom γ p fs t k w h = absurd h
-  word-found (token c) γ p fs t k w h = by-equation p t tt
-  word-found (sequence g r) γ p fs t k w h = by-equation p (t .0)
-      (and-both (derives-at flags (suc p)) (derives-at flags (suc p + size g))
-      (word-found g γ (suc p) fs (t .1) k (h .0) (h .3)) (word-found r γ (suc p + size g) fs (t .2) k (h .1) (h .4)))
-  word-found (alternative g r) γ p fs t k w (inl h) = by-equation p (t .0)
-      (or-left (derives-at flags (suc p)) (derives-at flags (suc p + size g)) (word-found g γ (suc p) fs (t .1) k w h))
-  word-found (alternative g r) γ p fs t k w (inr h) = by-equation p (t .0)
-      (or-right (derives-at flags (suc p)) (derives-at flags (suc p + size g)) (word-found r γ (suc p + size g) fs (t .2) k w h))
-  word-found (fixed-point g) γ p fs t k w h = fixed-point-found g γ p fs k
-      (λ L z v x. by-equation p (t .0) (word-found g (L ∷ γ) (suc p) (p ∷ fs) (t .1) z v x)) (h .0) w (h .1)
-  word-found (variable n) γ p fs t k w h = by-equation p (t .1) (k n w h)
-  word-found (repetition g) γ p fs t k w h = by-equation p (t .0) tt
-
-  own-found : (g : Expression) (γ : Environment) (p : ℕ) (fs : List ℕ) → Placed table g p fs → N p ≡ denotation g γ → VariablesFound γ fs
-      → (w : List ℕ) → N p w → T (derives-at flags p)
-  own-found g γ p fs t e k w h = word-found g γ p fs t k w (subst (λ L. L w) e h)
-
-  -- At all nodes.
-  words-found : (g : Expression) (γ : Environment) (p : ℕ) (fs : List ℕ) → Placed table g p fs → N p ≡ denotation g γ → PartsDenote N g p γ
-      → VariablesFound γ fs → Everywhere (λ n. (w : List ℕ) → N n w → T (derives-at flags n)) g p
-  words-found epsilon γ p fs t e s k = own-found epsilon γ p fs t e k
-  words-found bottom γ p fs t e s k = own-found bottom γ p fs t e k
-  words-found (token c) γ p fs t e s k = own-found (token c) γ p fs t e k
-  words-found (sequence g r) γ p fs t e s k = (
-    own-found (sequence g r) γ p fs t e k,
-    words-found g γ (suc p) fs (t .1) (s .0) (s .1) k,
-    words-found r γ (suc p + size g) fs (t .2) (s .2) (s .3) k,
-  )
-  words-found (alternative g r) γ p fs t e s k = (
-    own-found (alternative g r) γ p fs t e k,
-    words-found g γ (suc p) fs (t .1) (s .0) (s .1) k,
-    words-found r γ (suc p + size g) fs (t .2) (s .2) (s .3) k,
-  )
-  words-found (fixed-point g) γ p fs t e s k = (
-    own-found (fixed-point g) γ p fs t e k,
-    words-found g (denotation (fixed-point g) γ ∷ γ) (suc p) (p ∷ fs) (t .1) (s .0) (s .1)
-        (next-found γ fs (denotation (fixed-point g) γ) p (word-found (fixed-point g) γ p fs t k) k),
-  )
-  words-found (variable n) γ p fs t e s k = own-found (variable n) γ p fs t e k
-  words-found (repetition g) γ p fs t e s k = (own-found (repetition g) γ p fs t e k, words-found g γ (suc p) fs (t .1) (s .0) (s .1) k)
-
-derives-complete : {e : Expression} {a : LanguageType} → [] ⊢ e ∶ a → (n : ℕ) (w : List ℕ) → language-of e n w
-    → T (derives-at (derives e) n)
-derives-complete {e} d = everywhere-all (λ n. (w : List ℕ) → language-of e n w → T (derives-at (derives e) n)) e
-    (words-found (language-of e) (node-at (nodes e)) (derives e)
-    (derives-solve e) e [] 0 [] ((whole-site e) .placed) ((whole-site e) .denoted) ((whole-site e) .parts) (λ n w h. absurd h))
-    (λ n h w x. absurd (subst (λ L. L w) (languages-past e n h) x))
+derives-complete : (e : Expression) (n : ℕ) (w : List ℕ) → language-of e n w → T (derives-at (derives e) n)
+derives-complete e = languages-least e (λ n w. T (derives-at (derives e) n))
+    (λ n w h. subst T (sym (derives-solve e n)) (node-complete (derives e) (node-at (nodes e) n) w h))
 
 -- A node is found to derive a token sequence iff its language has one.
 pub derives-exact : {e : Expression} {a : LanguageType} → [] ⊢ e ∶ a → (n : ℕ)
     → (derives-at (derives e) n ≡ true) ↔ HasWord (language-of e n)
 derives-exact {e} d n = (
   (λ t. derives-found d n (true-holds (derives-at (derives e) n) t)),
-  λ x. holds-true (derives-at (derives e) n) (derives-complete d n (x .0) (x .1)),
+  λ x. holds-true (derives-at (derives e) n) (derives-complete e n (x .0) (x .1)),
 )

@@ -1,14 +1,15 @@
 -- The language of each node in its place: its free variables stand for the languages of their own fixed points. One equation a
--- node holds of them, and each satisfies the node's type. Productions are not spoken of here.
+-- node holds of them, they are the least that solve the equations, and each satisfies the node's type. Productions are not spoken of here.
 use mathlib.Core.Path.{_≡_, refl, sym, subst}
 use mathlib.Core.Bool.{false}
 use mathlib.Core.List.{List, [], _∷_, _++_}
-use mathlib.Core.Logic.{_↔_}
-use Prim.Native.Nat.{ℕ, suc, _+_, _≤_}
+use mathlib.Core.Logic.{_↔_, inl, inr, ⊎-map}
+use Prim.Native.Nat.{ℕ, zero, suc, _+_, _≤_, _<_}
 use native.Mathlib.Omega.{arith}
 use lib.ListN.{getD, length, length-append, List·getD-eq-default}
 use Rattle.sheet.specs.Expression.{Expression, epsilon, bottom, token, sequence, alternative, fixed-point, variable, repetition, size}
-use Rattle.types.specs.Denotation.{Language, followed-by, language-at, denotation, Denotes}
+use Rattle.sheet.specs.WellFormed.{Closed}
+use Rattle.types.specs.Denotation.{Language, followed-by, iterate, language-at, denotation, Denotes}
 use Rattle.types.specs.Languages.{no-words, either, none-or-more, Environment}
 use Rattle.types.specs.NodeLanguages.{languages-from, language-of}
 use Rattle.types.specs.laws.DenotationLaws.{Pointwise, pointwise-nil, pointwise-cons, fixed-point-unrolls, repetition-unrolls}
@@ -38,7 +39,7 @@ unfolding language-of
 languages-past e n h = List·getD-eq-default (languages-from e []) no-words (rw (languages-length e []) h)
 
 -- The nodes below g's own have their languages in the table, g's own node being p.
-abbrev pub PartsDenote : (ℕ → Language) → Expression → ℕ → Environment → Type 1
+abbrev PartsDenote : (ℕ → Language) → Expression → ℕ → Environment → Type 1
 PartsDenote N epsilon p γ = Unit
 PartsDenote N bottom p γ = Unit
 PartsDenote N (token k) p γ = Unit
@@ -168,7 +169,7 @@ module _ {N : ℕ → Language} {table : ℕ → Node} {Γ : Context} {γ : Envi
       inner n b here = s .denoted
       inner n b (there {n = i} u) = s .bound i b u
 
-pub whole-site : (e : Expression) → Site (language-of e) (node-at (nodes e)) [] e [] 0 []
+whole-site : (e : Expression) → Site (language-of e) (node-at (nodes e)) [] e [] 0 []
 unfolding language-of
 whole-site e = record {
   satisfied = pointwise-nil;
@@ -242,25 +243,170 @@ pub same-words : {L M : Language} → L ≡ M → (w : List ℕ) → L w ↔ M w
 same-words e w = (subst (λ L. L w) e, subst (λ L. L w) (sym e))
 
 module _ (N : ℕ → Language) (table : ℕ → Node) where
+  abbrev EquationAt : ℕ → Type 0
+  EquationAt p = (w : List ℕ) → N p w ↔ node-language N (table p) w
+
+  -- What a variable stands for is its fixed point's language.
+  abbrev StandsFor : Expression → Environment → List ℕ → Type 1
+  StandsFor epsilon γ fs = Unit
+  StandsFor bottom γ fs = Unit
+  StandsFor (token k) γ fs = Unit
+  StandsFor (sequence g h) γ fs = Unit
+  StandsFor (alternative g h) γ fs = Unit
+  StandsFor (fixed-point g) γ fs = Unit
+  StandsFor (variable n) γ fs = N (getD fs n 0) ≡ language-at γ n
+  StandsFor (repetition g) γ fs = Unit
+
+  own-equation : (g : Expression) (γ : Environment) (p : ℕ) (fs : List ℕ) → Placed table g p fs → N p ≡ denotation g γ → PartsDenote N g p γ
+      → StandsFor g γ fs → EquationAt p
+  own-equation epsilon γ p fs t e s v w = rw (e, t) (λ h. h, λ h. h)
+  own-equation bottom γ p fs t e s v w = rw (e, t) (λ h. h, λ h. h)
+  own-equation (token k) γ p fs t e s v w = rw (e, t) (λ h. h, λ h. h)
+  own-equation (variable n) γ p fs t e s v w = rw (e, t .1) (same-words (sym v) w)
+  own-equation (sequence g h) γ p fs t e s v w = rw (e, t .0, s .0, s .2) (λ h. h, λ h. h)
+  own-equation (alternative g h) γ p fs t e s v w = rw (e, t .0, s .0, s .2) (λ h. h, λ h. h)
+  own-equation (fixed-point g) γ p fs t e s v w = rw (e, t .0, s .0) (fixed-point-unrolls g γ w)
+  own-equation (repetition g) γ p fs t e s v w = rw (t .0, e, s .0) (repetition-unrolls (denotation g γ) w)
+
+  -- Of a typed expression,
+  typed-stands : {Γ : Context} {g : Expression} {a : LanguageType} → Γ ⊢ g ∶ a → (γ : Environment) (p : ℕ) (fs : List ℕ)
+      → Site N table Γ g γ p fs → StandsFor g γ fs
+  typed-stands type-epsilon γ p fs s = tt
+  typed-stands type-bottom γ p fs s = tt
+  typed-stands (type-token k) γ p fs s = tt
+  typed-stands (type-variable {n = n} {a = a} u) γ p fs s = s .bound n a (usable-still u)
+  typed-stands (type-sequence d e q) γ p fs s = tt
+  typed-stands (type-alternative d e q) γ p fs s = tt
+  typed-stands (type-fixed-point d) γ p fs s = tt
+  typed-stands (type-repetition d q e) γ p fs s = tt
+
   pub site-equation : {Γ : Context} {g : Expression} {a : LanguageType} → Γ ⊢ g ∶ a → (γ : Environment) (p : ℕ) (fs : List ℕ)
       → Site N table Γ g γ p fs → (w : List ℕ) → N p w ↔ node-language N (table p) w
-  site-equation type-epsilon γ p fs s w = rw (s .denoted, s .placed) (λ h. h, λ h. h)
-  site-equation type-bottom γ p fs s w = rw (s .denoted, s .placed) (λ h. h, λ h. h)
-  site-equation (type-token k) γ p fs s w = rw (s .denoted, s .placed) (λ h. h, λ h. h)
-  site-equation (type-variable {n = n} {a = a} u) γ p fs s w =
-      rw (s .denoted, s .placed .1) (same-words (sym (s .bound n a (usable-still u))) w)
-  site-equation (type-sequence d e q) γ p fs s w = rw (s .denoted, s .placed .0, s .parts .0, s .parts .2) (λ h. h, λ h. h)
-  site-equation (type-alternative d e q) γ p fs s w = rw (s .denoted, s .placed .0, s .parts .0, s .parts .2) (λ h. h, λ h. h)
-  site-equation (type-fixed-point {g = g} d) γ p fs s w = rw (s .denoted, s .placed .0, s .parts .0) (fixed-point-unrolls g γ w)
-  site-equation (type-repetition {g = g} d q e) γ p fs s w =
-      rw (s .placed .0, s .denoted, s .parts .0) (repetition-unrolls (denotation g γ) w)
+  site-equation {g = g} d γ p fs s = own-equation g γ p fs (s .placed) (s .denoted) (s .parts) (typed-stands d γ p fs s)
+
+  -- and of a closed one, which need not have a type.
+  module _ (tokens : ℕ) where
+    abbrev AllStand : Environment → List ℕ → Type 1
+    AllStand γ fs = (n : ℕ) → n < length fs → N (getD fs n 0) ≡ language-at γ n
+
+    next-stand : (γ : Environment) (fs : List ℕ) (L : Language) (p : ℕ) → N p ≡ L → AllStand γ fs → AllStand (L ∷ γ) (p ∷ fs)
+    next-stand γ fs L p e v zero l = e
+    next-stand γ fs L p e v (suc n) l = v n (omega arith)
+
+    closed-equations : (g : Expression) (γ : Environment) (p : ℕ) (fs : List ℕ) → Closed tokens (length fs) g → Placed table g p fs
+        → N p ≡ denotation g γ → PartsDenote N g p γ → AllStand γ fs → Everywhere EquationAt g p
+    closed-equations epsilon γ p fs c t e s v = own-equation epsilon γ p fs t e s tt
+    closed-equations bottom γ p fs c t e s v = own-equation bottom γ p fs t e s tt
+    closed-equations (token k) γ p fs c t e s v = own-equation (token k) γ p fs t e s tt
+    closed-equations (variable n) γ p fs c t e s v = own-equation (variable n) γ p fs t e s (v n c)
+    closed-equations (sequence g h) γ p fs c t e s v = (
+      own-equation (sequence g h) γ p fs t e s tt,
+      closed-equations g γ (suc p) fs (c .0) (t .1) (s .0) (s .1) v,
+      closed-equations h γ (suc p + size g) fs (c .1) (t .2) (s .2) (s .3) v,
+    )
+    closed-equations (alternative g h) γ p fs c t e s v = (
+      own-equation (alternative g h) γ p fs t e s tt,
+      closed-equations g γ (suc p) fs (c .0) (t .1) (s .0) (s .1) v,
+      closed-equations h γ (suc p + size g) fs (c .1) (t .2) (s .2) (s .3) v,
+    )
+    closed-equations (fixed-point g) γ p fs c t e s v = (
+      own-equation (fixed-point g) γ p fs t e s tt,
+      closed-equations g (denotation (fixed-point g) γ ∷ γ) (suc p) (p ∷ fs) c (t .1) (s .0) (s .1)
+          (next-stand γ fs (denotation (fixed-point g) γ) p e v),
+    )
+    closed-equations (repetition g) γ p fs c t e s v =
+        (own-equation (repetition g) γ p fs t e s tt, closed-equations g γ (suc p) fs c (t .1) (s .0) (s .1) v)
 
 nodes-past : (e : Expression) (n : ℕ) → size e ≤ n → node-at (nodes e) n ≡ bottom-node
 nodes-past e n h = List·getD-eq-default (nodes e) bottom-node (rw (nodes-count e) h)
 
+equation-past : (e : Expression) (n : ℕ) → size e ≤ n → EquationAt (language-of e) (node-at (nodes e)) n
+equation-past e n h w = rw (languages-past e n h, nodes-past e n h) (λ z. z, λ z. z)
+
 pub language-equation : {e : Expression} {a : LanguageType} → [] ⊢ e ∶ a → (n : ℕ) (w : List ℕ)
     → language-of e n w ↔ node-language (language-of e) (node-at (nodes e) n) w
-language-equation {e} d n = at-every-node d
-    (λ a i. (w : List ℕ) → language-of e i w ↔ node-language (language-of e) (node-at (nodes e) i) w)
-    (λ Γ g b x γ p fs s k. site-equation (language-of e) (node-at (nodes e)) x γ p fs s)
-    (λ i h. (bottom-type, λ w. rw (languages-past e i h, nodes-past e i h) (λ z. z, λ z. z))) n .1
+language-equation {e} d n = at-every-node d (λ a i. EquationAt (language-of e) (node-at (nodes e)) i)
+    (λ Γ g b x γ p fs s k. site-equation (language-of e) (node-at (nodes e)) x γ p fs s) (λ i h. (bottom-type, equation-past e i h)) n .1
+
+pub closed-equation : (tokens : ℕ) (e : Expression) → Closed tokens 0 e → (n : ℕ) (w : List ℕ)
+    → language-of e n w ↔ node-language (language-of e) (node-at (nodes e) n) w
+closed-equation tokens e c = let s = whole-site e in everywhere-all (EquationAt (language-of e) (node-at (nodes e))) e
+    (closed-equations (language-of e) (node-at (nodes e)) tokens e [] 0 [] c (s .placed) (s .denoted) (s .parts) (λ n l. absurd (omega arith)))
+    (equation-past e)
+
+-- ---- no smaller languages solve the equations
+
+-- Languages P to which the equations add nothing hold all words.
+module _ (N : ℕ → Language) (table : ℕ → Node) (P : ℕ → Language) (closed : (n : ℕ) (w : List ℕ) → node-language P (table n) w → P n w) where
+  abbrev VariablesWithin : Environment → List ℕ → Type 0
+  VariablesWithin γ fs = (n : ℕ) (w : List ℕ) → language-at γ n w → P (getD fs n 0) w
+
+  next-within : (γ : Environment) (fs : List ℕ) (L : Language) (p : ℕ) → ((w : List ℕ) → L w → P p w) → VariablesWithin γ fs
+      → VariablesWithin (L ∷ γ) (p ∷ fs)
+  next-within γ fs L p f k zero w h = f w h
+  next-within γ fs L p f k (suc n) w h = k n w h
+
+  by-equation : (p : ℕ) {x : Node} → table p ≡ x → (w : List ℕ) → node-language P x w → P p w
+  by-equation p e w h = closed p w (subst (λ (x : Node). node-language P x w) (sym e) h)
+
+  -- The union of a chain of languages, each within P if the one before is.
+  union-within : (p : ℕ) (f : Language → Language) → ((L : Language) → ((w : List ℕ) → L w → P p w) → (w : List ℕ) → f L w → P p w)
+      → (i : ℕ) (w : List ℕ) → iterate f i w → P p w
+  union-within p f step zero w h = absurd h
+  union-within p f step (suc i) w h = step (iterate f i) (union-within p f step i) w h
+
+  word-within : (g : Expression) (γ : Environment) (p : ℕ) (fs : List ℕ) → Placed table g p fs → VariablesWithin γ fs
+      → (w : List ℕ) → denotation g γ w → P p w
+  word-within epsilon γ p fs t k w h = by-equation p t w h
+  word-within bottom γ p fs t k w h = absurd h
+  word-within (token c) γ p fs t k w h = by-equation p t w h
+  word-within (sequence g r) γ p fs t k w h = by-equation p (t .0) w (
+    h .0,
+    h .1,
+    h .2,
+    word-within g γ (suc p) fs (t .1) k (h .0) (h .3),
+    word-within r γ (suc p + size g) fs (t .2) k (h .1) (h .4),
+  )
+  word-within (alternative g r) γ p fs t k w (inl h) = by-equation p (t .0) w (inl (word-within g γ (suc p) fs (t .1) k w h))
+  word-within (alternative g r) γ p fs t k w (inr h) = by-equation p (t .0) w (inr (word-within r γ (suc p + size g) fs (t .2) k w h))
+  word-within (fixed-point g) γ p fs t k w h = union-within p (λ L. denotation g (L ∷ γ))
+      (λ L f v x. by-equation p (t .0) v (word-within g (L ∷ γ) (suc p) (p ∷ fs) (t .1) (next-within γ fs L p f k) v x)) (h .0) w (h .1)
+  word-within (variable n) γ p fs t k w h = by-equation p (t .1) w (k n w h)
+  word-within (repetition g) γ p fs t k w h = union-within p (none-or-more (denotation g γ))
+      (λ L f v x. by-equation p (t .0) v (⊎-map (λ z. z)
+      (λ z. (z .0, z .1, z .2, word-within g γ (suc p) fs (t .1) k (z .0) (z .3), f (z .1) (z .4))) x)) (h .0) w (h .1)
+
+  own-within : (g : Expression) (γ : Environment) (p : ℕ) (fs : List ℕ) → Placed table g p fs → N p ≡ denotation g γ → VariablesWithin γ fs
+      → (w : List ℕ) → N p w → P p w
+  own-within g γ p fs t e k w h = word-within g γ p fs t k w (subst (λ L. L w) e h)
+
+  -- At all nodes.
+  words-within : (g : Expression) (γ : Environment) (p : ℕ) (fs : List ℕ) → Placed table g p fs → N p ≡ denotation g γ → PartsDenote N g p γ
+      → VariablesWithin γ fs → Everywhere (λ n. (w : List ℕ) → N n w → P n w) g p
+  words-within epsilon γ p fs t e s k = own-within epsilon γ p fs t e k
+  words-within bottom γ p fs t e s k = own-within bottom γ p fs t e k
+  words-within (token c) γ p fs t e s k = own-within (token c) γ p fs t e k
+  words-within (sequence g r) γ p fs t e s k = (
+    own-within (sequence g r) γ p fs t e k,
+    words-within g γ (suc p) fs (t .1) (s .0) (s .1) k,
+    words-within r γ (suc p + size g) fs (t .2) (s .2) (s .3) k,
+  )
+  words-within (alternative g r) γ p fs t e s k = (
+    own-within (alternative g r) γ p fs t e k,
+    words-within g γ (suc p) fs (t .1) (s .0) (s .1) k,
+    words-within r γ (suc p + size g) fs (t .2) (s .2) (s .3) k,
+  )
+  words-within (fixed-point g) γ p fs t e s k = (
+    own-within (fixed-point g) γ p fs t e k,
+    words-within g (denotation (fixed-point g) γ ∷ γ) (suc p) (p ∷ fs) (t .1) (s .0) (s .1)
+        (next-within γ fs (denotation (fixed-point g) γ) p (word-within (fixed-point g) γ p fs t k) k),
+  )
+  words-within (variable n) γ p fs t e s k = own-within (variable n) γ p fs t e k
+  words-within (repetition g) γ p fs t e s k = (own-within (repetition g) γ p fs t e k, words-within g γ (suc p) fs (t .1) (s .0) (s .1) k)
+
+-- The nodes' languages are the least that solve the equations, typed or not.
+pub languages-least : (e : Expression) (P : ℕ → Language)
+    → ((n : ℕ) (w : List ℕ) → node-language P (node-at (nodes e) n) w → P n w) → (n : ℕ) (w : List ℕ) → language-of e n w → P n w
+languages-least e P closed = let s = whole-site e in everywhere-all (λ n. (w : List ℕ) → language-of e n w → P n w) e
+    (words-within (language-of e) (node-at (nodes e)) P closed e [] 0 [] (s .placed) (s .denoted) (s .parts) (λ n w h. absurd h))
+    (λ n h w x. absurd (subst (λ L. L w) (languages-past e n h) x))

@@ -9,7 +9,7 @@ use lib.ListN.{length, length-append, List·getD-eq-default}
 use Rattle.basics.specs.Lists.{All}
 use Rattle.basics.specs.laws.Members.{all-append}
 use Rattle.sheet.specs.Expression.{Expression, epsilon, bottom, token, sequence, alternative, fixed-point, variable, repetition, size}
-use Rattle.types.specs.Types.{LanguageType, epsilon-type, alternative-type, repetition-type, _⊢_∶_, type-epsilon, type-bottom, type-token, type-variable, type-sequence, type-alternative, type-fixed-point, type-repetition}
+use Rattle.types.specs.Types.{LanguageType, epsilon-type, alternative-type, repetition-type-with, _⊢_∶_, type-epsilon, type-bottom, type-token, type-variable, type-sequence, type-alternative, type-fixed-point, type-repetition}
 use Rattle.types.specs.TypeNames.{Context}
 use Rattle.types.specs.laws.SetOrder.{flag, flag-most}
 use Rattle.types.specs.Nodes.{Node, epsilon-node, bottom-node, token-node, sequence-node, alternative-node, fixed-point-node, variable-node, repetition-node, nodes, node-at}
@@ -132,7 +132,7 @@ own-length (repetition g) p l = omega arith
 
 -- A repetition is nullable.
 own-null : {Γ : Context} {g : Expression} {a : LanguageType} → Γ ⊢ g ∶ a → own-count g ≤ flag (a .null)
-unfolding flag repetition-type alternative-type epsilon-type
+unfolding flag repetition-type-with alternative-type epsilon-type
 own-null type-epsilon = omega arith
 own-null type-bottom = omega arith
 own-null (type-token t) = omega arith

@@ -27,7 +27,7 @@ use Rattle.normal_form.specs.laws.Places.{Placed, nodes-placed, everywhe
 use Rattle.normal_form.specs.laws.Descent.{weight, head-weight, weight-parts, VariablesKeep, keep-in-body, bounded}
 use Rattle.normal_form.specs.laws.RowEquations.{next-at, row-solves, rows-length}
 use Rattle.normal_form.specs.laws.Unfolding.{sequence-row, _of_}
-use Rattle.normal_form.specs.laws.NullExact.{LeftNotNull, left-not-null}
+use Rattle.normal_form.specs.laws.LeftParts.{LeftNotNull, left-not-null}
 use Rattle.normal_form.specs.laws.Pending.{TokenStep, GrowsBy, step-grows}
 use Rattle.normal_form.specs.laws.KeptRows.{kept-production}
 

@@ -1,7 +1,7 @@
 -- A few walks, computed from the definitions. Tokens N = 0 and S = 1.
 use mathlib.Core.Path.{_≡_, refl}
 use mathlib.Core.List.{List, [], _∷_}
-use mathlib.Core.Option.{Option, none, some}
+use mathlib.Core.Option.{Option, some}
 use Prim.Native.Nat.{ℕ}
 use Rattle.sheet.specs.Expression.{Expression, epsilon, bottom, sequence, alternative, fixed-point, variable, size}
 use Rattle.normal_form.specs.laws.Computing.{computing-normal-form}
@@ -24,7 +24,7 @@ pub through-variable : from-node list-then-slash 0 8 ≡ some (8 ∷ [])
 unfolding computing-normal-form walk-step walk
 through-variable = refl
 
--- N·⊥: the right node derives no token sequence.
-pub dead-tail : from-node (sequence N bottom) 0 0 ≡ none
+-- N·⊥ ∨ N: the left part, which denotes nothing, begins with no token, so that the walk leads into the right one.
+pub unfinished-not-entered : from-node (alternative (sequence N bottom) N) 0 0 ≡ some []
 unfolding computing-normal-form walk-step walk
-dead-tail = refl
+unfinished-not-entered = refl

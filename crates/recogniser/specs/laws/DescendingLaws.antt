@@ -3,7 +3,6 @@ use mathlib.Core.Path.{_≡_, refl, sym, subst, _∙_}
 use mathlib.Core.Bool.{Bool, true, false, _||_, cond, true≢false}
 use mathlib.Core.List.{List, [], _∷_}
 use mathlib.Core.Logic.{inl, inr, _↔_, ⊎-elim}
-use mathlib.Core.Option.{Option, none, some}
 use Prim.Native.Nat.{ℕ, zero, suc, _+_, _*_, _≤_}
 use native.Mathlib.Omega.{arith}
 use lib.Dec.{eqb}
@@ -11,28 +10,26 @@ use lib.ListN.{length}
 use borrow.Author.Tests.{eqb-true, eqb-false}
 use Rattle.sheet.specs.Expression.{Expression, size}
 use Rattle.sheet.specs.Limits.{most-expression-nodes}
-use Rattle.types.specs.Types.{LanguageType, _⊢_∶_}
+use Rattle.types.specs.Types.{LanguageType, is-bottom, _⊢_∶_}
 use Rattle.types.specs.Nodes.{Node, epsilon-node, bottom-node, token-node, sequence-node, alternative-node, fixed-point-node, variable-node, repetition-node, nodes, node-at}
-use Rattle.normal_form.specs.Productions.{Production, row-of, production-of}
-use Rattle.normal_form.specs.laws.ProductionLaws.{Found, production-found}
-use Rattle.normal_form.specs.Derives.{derives}
-use Rattle.normal_form.specs.RowNames.{derives-at}
-use Rattle.normal_form.specs.NormalForm.{normal-form}
-use Rattle.normal_form.specs.laws.NodeLanguages.{start-language}
+use Rattle.normal_form.specs.laws.NodeLanguages.{start-language, language-equation}
+use Rattle.normal_form.specs.laws.TypesExact.{not-bottom-word, empty-word-exact, first-exact, bottom-exact}
 use Rattle.types.specs.NodeLanguages.{language-of}
-use Rattle.normal_form.specs.laws.DerivesExact.{derives-exact}
+use Rattle.types.specs.LeastTypes.{type-of, least-types}
+use Rattle.types.specs.Solutions.{Solves}
+use Rattle.types.specs.laws.BottomTypeLaws.{bottom-only}
 use Rattle.recogniser.specs.Descends.{Descent, left, stuck, Nullable, CanBegin, Enters, DescendsAt, Descends, DescendsFromStart, entered, not-entered, bottom-fails, epsilon-leaves, token-taken, token-fails, token-missing, sequence-through, sequence-stuck, alternative-leaves, alternative-missing, into-first, into-second, into-neither, into-body, into-fixed-point, repetition-leaves, repetition-done, repetition-through, repetition-stuck}
-use Rattle.recogniser.specs.laws.DescentRuns.{null, production-for, production-begins, left-not-empty, part-not-empty}
+use Rattle.recogniser.specs.laws.DescentRuns.{left-not-empty, part-not-empty}
 use Rattle.recogniser.specs.Ranks.{PartsEnd, EndsIn, most-rank}
 use Rattle.recogniser.specs.laws.Ends.{all-end, consumes}
-use Rattle.recogniser.specs.Descending.{and-then, entering, descend-step, descend, found, begins-at, null-at, descend-of, descend-whole}
+use Rattle.recogniser.specs.Descending.{and-then, entering, descend-step, descend, begins-at, null-at, descend-of, descend-whole}
 
 not-both : {X : Type 0} (b : Bool) → b ≡ true → b ≡ false → X
 not-both b x y = absurd (true≢false (sym x ∙ y))
 
 module _ {e : Expression} {a : LanguageType} (d : [] ⊢ e ∶ a) (small : size e ≤ most-expression-nodes)
     (begins : ℕ → ℕ → Bool) (nulls : ℕ → Bool) (begins-exact : (n t : ℕ) → (begins n t ≡ true) ↔ CanBegin e n t)
-    (null-exact : (n : ℕ) → (nulls n ≡ true) ↔ Nullable e n) where
+    (nulls-exact : (n : ℕ) → (nulls n ≡ true) ↔ Nullable e n) where
   abbrev table : ℕ → Node
   table = node-at (nodes e)
 
@@ -46,7 +43,7 @@ module _ {e : Expression} {a : LanguageType} (d : [] ⊢ e ∶ a) (small : size 
   never-begins n t z x = not-both (begins n t) (begins-exact n t .1 x) z
 
   never-null : (n : ℕ) → nulls n ≡ false → Nullable e n → ⊥
-  never-null n z x = not-both (nulls n) (null-exact n .1 x) z
+  never-null n z x = not-both (nulls n) (nulls-exact n .1 x) z
 
   -- What the test for entering means.
   abbrev EntersIs : Bool → ℕ → ℕ → ℕ → Type 0
@@ -55,7 +52,7 @@ module _ {e : Expression} {a : LanguageType} (d : [] ⊢ e ∶ a) (small : size 
 
   enters-is : (g g' c : ℕ) (b n b' : Bool) → begins g c ≡ b → nulls g ≡ n → begins g' c ≡ b' → EntersIs (entering b n b') g g' c
   enters-is g g' c true n b' x y z = inl (begins-exact g c .0 x)
-  enters-is g g' c false true false x y z = inr (null-exact g .0 y, never-begins g c x, never-begins g' c z)
+  enters-is g g' c false true false x y z = inr (nulls-exact g .0 y, never-begins g c x, never-begins g' c z)
   enters-is g g' c false true true x y z = λ i. ⊎-elim (never-begins g c x) (λ k. k .2 (begins-exact g' c .0 z)) i
   enters-is g g' c false false b' x y z = λ i. ⊎-elim (never-begins g c x) (λ k. never-null g y (k .0)) i
 
@@ -90,8 +87,8 @@ module _ {e : Expression} {a : LanguageType} (d : [] ⊢ e ∶ a) (small : size 
   step-descends k n m f (alternative-node g g') z [] p l h = go (nulls g) (nulls g') refl refl
     where
       go : (b b' : Bool) → nulls g ≡ b → nulls g' ≡ b' → DescendsAt e (alternative-node g g') [] (cond (b || b') (left []) (stuck []))
-      go true b' x y = alternative-leaves (inl (null-exact g .0 x))
-      go false true x y = alternative-leaves (inr (null-exact g' .0 y))
+      go true b' x y = alternative-leaves (inl (nulls-exact g .0 x))
+      go false true x y = alternative-leaves (inr (nulls-exact g' .0 y))
       go false false x y = alternative-missing (never-null g x) (never-null g' y)
   step-descends k n m f (alternative-node g g') z (c ∷ s) p l h =
       go (entering (begins g c) (nulls g) (begins g' c)) (entering (begins g' c) (nulls g') (begins g c))
@@ -133,29 +130,19 @@ module _ {e : Expression} {a : LanguageType} (d : [] ⊢ e ∶ a) (small : size 
   enough zero n m s p l h = no-steps n m s p h
   enough (suc k) n m s p l h = one-more k n m s (enough k) p l h
 
-module _ {e : Expression} {a : LanguageType} (d : [] ⊢ e ∶ a) where
-  pub begins-at-exact : (n t : ℕ) → (begins-at e n t ≡ true) ↔ CanBegin e n t
-  begins-at-exact n t = let ps = (row-of (normal-form e) n) .productions in go (production-of t ps) refl (production-found t ps)
-    where
-      go : (o : Option Production) → production-of t ((row-of (normal-form e) n) .productions) ≡ o
-          → Found t ((row-of (normal-form e) n) .productions) o → (found o ≡ true) ↔ CanBegin e n t
-      go none z f = (λ x. absurd (true≢false (sym x)), λ b. let p = production-for d n t b in absurd (f (p .0) (p .1) (p .2)))
-      go (some q) z f = (λ x. production-begins d n t q (f .0) (f .1), λ b. refl)
-
-  pub null-at-exact : (n : ℕ) → (null-at e n ≡ true) ↔ Nullable e n
-  null-at-exact n = (null d n .1, null d n .0)
-
+-- Of an expression that has a type and whose least types solve the equations.
+module _ {e : Expression} {a : LanguageType} (d : [] ⊢ e ∶ a) (solved : Solves (nodes e) (least-types e)) where
   -- A descent from any node, over any tokens, ends.
   pub descend-descends : size e ≤ most-expression-nodes → (n : ℕ) (s : List ℕ) → Descends e n s (descend-of e n s)
-  descend-descends small n s = enough d small (begins-at e) (null-at e) begins-at-exact null-at-exact (length s * 65 + 64) n most-rank s
-      (all-end d small n) (omega arith) (omega arith)
+  descend-descends small n s = enough d small (begins-at e) (null-at e) (first-exact e (language-equation d) solved)
+      (empty-word-exact e (language-equation d) solved) (length s * 65 + 64) n most-rank s (all-end d small n) (omega arith) (omega arith)
 
   pub descend-whole-descends : size e ≤ most-expression-nodes → (s : List ℕ) → DescendsFromStart e s (descend-whole e s)
   unfolding descend-whole
-  descend-whole-descends small s = go (derives-at (derives e) 0) refl
+  descend-whole-descends small s = go (is-bottom (type-of (least-types e) 0)) refl
     where
-      go : (b : Bool) → derives-at (derives e) 0 ≡ b → DescendsFromStart e s (cond b (descend-of e 0 s) (stuck s))
-      go true z = let w = derives-exact d 0 .0 z in
+      go : (b : Bool) → is-bottom (type-of (least-types e) 0) ≡ b → DescendsFromStart e s (cond b (stuck s) (descend-of e 0 s))
+      go true z = not-entered (λ w. bottom-exact e (language-equation d) solved 0 .0 (bottom-only (type-of (least-types e) 0) z)
+          (w .0, subst (λ L. L (w .0)) (sym (start-language e)) (w .1)))
+      go false z = let w = not-bottom-word e (language-equation d) 0 z in
           entered (w .0, subst (λ L. L (w .0)) (start-language e) (w .1)) (descend-descends small 0 s)
-      go false z = not-entered (λ w. not-both (derives-at (derives e) 0)
-          (derives-exact d 0 .1 (w .0, subst (λ L. L (w .0)) (sym (start-language e)) (w .1))) z)

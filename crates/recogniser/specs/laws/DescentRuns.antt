@@ -18,15 +18,16 @@ use Rattle.normal_form.specs.Derives.{derives}
 use Rattle.normal_form.specs.RowNames.{derives-at}
 use Rattle.normal_form.specs.NormalForm.{normal-form}
 use Rattle.normal_form.specs.laws.KeptRows.{staying-row, normal-form-solves, normal-form-epsilon}
-use Rattle.normal_form.specs.laws.NullExact.{LeftNotNull, left-not-null, not-true}
+use Rattle.normal_form.specs.laws.LeftParts.{LeftNotNull, left-not-null, not-true}
 use Rattle.normal_form.specs.laws.Places.{nodes-count}
 use Rattle.normal_form.specs.laws.NodeLanguages.{node-language, language-equation, Site, at-every-node}
 use Rattle.types.specs.NodeLanguages.{language-of}
 use Rattle.normal_form.specs.laws.DerivesExact.{derives-exact}
 use Rattle.types.specs.Languages.{HasWord, Begins}
-use Rattle.normal_form.specs.laws.Unfolding.{_of_, ByRow, by-epsilon, by-production, sequence-row, epsilon-row, alternative-row, production-word}
-use Rattle.normal_form.specs.laws.Pending.{Lacks, AllNullable, TokenStep, takes, drops, stops, words-together, nullable-exact}
+use Rattle.normal_form.specs.laws.Unfolding.{_of_, sequence-row, epsilon-row, alternative-row}
+use Rattle.normal_form.specs.laws.Pending.{Lacks, AllNullable, TokenStep, takes, drops, stops, nullable-exact}
 use Rattle.normal_form.specs.laws.NormalFormLaws.{normal-form-fits}
+use Rattle.normal_form.specs.laws.ExactRows.{production-for, production-begins}
 use Rattle.recogniser.specs.Descends.{Descent, left, stuck, Enters, DescendsAt, bottom-fails, epsilon-leaves, token-taken, token-fails, token-missing, sequence-through, sequence-stuck, alternative-leaves, alternative-missing, into-first, into-second, into-neither, into-body, into-fixed-point, repetition-leaves, repetition-done, repetition-through, repetition-stuck}
 use Rattle.recogniser.specs.laws.TokenRun.{StepsTo, to-next, to-none, TokenRun, run-accepts, run-ends-early, run-takes, run-refuses}
 
@@ -116,20 +117,8 @@ module _ {e : Expression} {a : LanguageType} (d : [] ⊢ e ∶ a) where
   pub words-are : (n : ℕ) {x : Node} → table n ≡ x → (w : List ℕ) → N n w ↔ node-language N x w
   words-are n h w = subst (λ (y : Node). N n w ↔ node-language N y w) h (language-equation d n w)
 
-  -- FIRST and NULL of the languages, by the rows.
-  pub production-for : (n t : ℕ) → Begins (N n) t → (q : Production) × (q of M n) × (q .head ≡ t)
-  production-for n t b = by-row refl ((normal-form-fits d) .unfolds n (t ∷ b .0) .0 (b .1))
-    where
-      by-row : {w : List ℕ} → w ≡ t ∷ b .0 → ByRow N (M n) w → (q : Production) × (q of M n) × (q .head ≡ t)
-      by-row z (by-epsilon s) = absurd (nil≢cons z)
-      by-row z (by-production {q = q} m c) = (q, m, head-eq-of-cons-eq z)
-
-  pub production-begins : (n t : ℕ) (q : Production) → q of M n → q .head ≡ t → Begins (N n) t
-  production-begins n t q m z = let w = words-together N (q .tail) ((normal-form-fits d) .tail-words n q m) in
-      subst (Begins (N n)) z (w .0, production-word N ((normal-form-fits d) .unfolds n) q (w .0) m (w .1))
-
   pub lacks : (n t : ℕ) → (Begins (N n) t → ⊥) → Lacks (M n) t
-  lacks n t h q m z = h (production-begins n t q m z)
+  lacks n t h q m z = h (production-begins d n t q m z)
 
   pub null : (n : ℕ) → N n [] ↔ ((M n) .has-epsilon ≡ true)
   null = nullable-exact N M (normal-form-fits d)
@@ -191,7 +180,7 @@ module _ {e : Expression} {a : LanguageType} (d : [] ⊢ e ∶ a) where
   unfolding ended-by
   repetition-run n b self t h w {β} {us} =
       let row = repetition-row-is n b self h in
-      let p = production-for b t w in
+      let p = production-for d b t w in
       same-run M (t ∷ us)
       (λ t' us' z. regroup n b n t' (not-null b (part-not-empty n b self h))
       (λ q m. subst (λ (P : Row). ended-by n q of P) (sym row) (Memᴰ·map (ended-by n) m))
@@ -208,7 +197,7 @@ module _ {e : Expression} {a : LanguageType} (d : [] ⊢ e ∶ a) where
 
   entered-run : (n g g' t : ℕ) → ((q : Production) → q of M g → q of M n) → ((Begins (N g) t → ⊥) → (Begins (N g') t → ⊥) → Lacks (M n) t)
       → (N g [] → N n []) → Enters e g g' t → {β us : List ℕ} {o : Descent} → TokenRun M (g ∷ β) (t ∷ us) o → TokenRun M (n ∷ β) (t ∷ us) o
-  entered-run n g g' t f k i (inl b) {β} {us} = let p = production-for g t b in
+  entered-run n g g' t f k i (inl b) {β} {us} = let p = production-for d g t b in
       same-run M (t ∷ us) (λ t' us' z. moved M (λ q m y. f q m) (λ l. absurd (l (p .0) (p .1) (p .2 ∙ head-eq-of-cons-eq z)))
       (λ l. absurd (l (p .0) (p .1) (p .2 ∙ head-eq-of-cons-eq z)))) (λ z. absurd (nil≢cons (sym z)))
   entered-run n g g' t f k i (inr b) {β} {us} =

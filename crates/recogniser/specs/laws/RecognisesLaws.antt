@@ -19,6 +19,7 @@ use Rattle.image.specs.laws.CheckQuestions.{check-answers, checks-only, passabl
 use Rattle.machine.specs.OwnAnswer.{OwnAnswer}
 use Rattle.machine.specs.Lexes.{Lexeme, tokens-of, Lexes}
 use Rattle.machine.specs.laws.OwnAnswerLaws.{own-answer-one}
+use Rattle.types.specs.laws.LeastTypeLaws.{least-solves}
 use Rattle.recogniser.specs.Recognises.{most-recognised-bytes, NotTurnedAway, Recognises, not-passed, long-text, short-list, no-rule, read-to-end}
 use Rattle.recogniser.specs.Descends.{Descent, left, stuck, DescendsFromStart, rest-of, number-for, place-for}
 use Rattle.recogniser.specs.Descending.{descend-whole}
@@ -34,7 +35,9 @@ use Rattle.recogniser.specs.laws.OneDescent.{start-one}
 descends : {sheet : List ℕ} {s : Sheet} → Passable sheet s → (tokens : List ℕ)
     → DescendsFromStart (s .expression) tokens (descend-whole (s .expression) tokens)
 descends {sheet} {s} p tokens =
-    descend-whole-descends ((p .has-type) .1) (spelled-limits sheet s (p .well-formed) .nodes-most) tokens
+    let limits = spelled-limits sheet s (p .well-formed) in
+    descend-whole-descends ((p .has-type) .1) (least-solves (s .tokens) (limits .tokens-most) (s .expression) (limits .closed))
+    (limits .nodes-most) tokens
 
 pub one-descent : {sheet : List ℕ} {s : Sheet} → Passable sheet s → (tokens : List ℕ)
     → (o : Descent) × DescendsFromStart (s .expression) tokens o × ((r : Descent) → DescendsFromStart (s .expression) tokens r → r ≡ o)

@@ -54,7 +54,7 @@ returns : tie.Need-returns
 returns c s p =
     let end = c .before .before .before .before .before in
     let w = listed-by end s p in
-    unmatched-ends s (passed-typed s _ p) (p .limits .nodes-most) _ _ _ _ _ _ (w .0) _ _ (w .1) (c .before .if1 .taken)
+    unmatched-ends s (passed-typed s _ p) (p .limits) _ _ _ _ _ _ (w .0) _ _ (w .1) (c .before .if1 .taken)
     (c .answer .result) (c .answer .ensures)
 
 descent-table-requires : tie.Need-descent-table-requires
@@ -66,7 +66,7 @@ at-end-requires : tie.Need-at-end-requires
 at-end-requires c κs =
     let end = c .before .before .before .before .before .before .before .before in
     let p = end .before .before .before .before .before .before .before .pre .2 in
-    (count-within (p .0) (passed-typed (p .0) _ (p .1)) (p .1 .limits .nodes-most) _ _ _ _ _ _ (listed-by end (p .0) (p .1) .0), few end)
+    (count-within (p .0) (passed-typed (p .0) _ (p .1)) (p .1 .limits) _ _ _ _ _ _ (listed-by end (p .0) (p .1) .0), few end)
 
 descend-requires : tie.Need-descend-requires
 descend-requires c κs =
@@ -103,7 +103,7 @@ returns-2 c s p =
     let called = c .before in
     let end = called .before .before .before .before .before .before .before .before .before .before .before .before in
     let w = listed-by end s p in
-    descent-ends s (passed-typed s _ p) (p .limits .nodes-most) _ _ _ _ _ _ (w .0) _ _ (w .1) (called .before .before .before .before .before .before .before .before .if1 .left) (tokens called) (called .before .before .before .at-end .ensures)
+    descent-ends s (passed-typed s _ p) (p .limits) _ _ _ _ _ _ (w .0) _ _ (w .1) (called .before .before .before .before .before .before .before .before .if1 .left) (tokens called) (called .before .before .before .at-end .ensures)
     (all-entries called) (few end) (called .descend .result) (descended called s p) (c .decide .result) (c .decide .ensures)
 
 pub recognise-text-spec : {M : Type 1} → statement M

@@ -1,6 +1,6 @@
 -- `type_checker::repetition_type` meets its contract: ε, or the part and then the repetition.
 use borrow.Author.Needs.{needs}
-use Rattle.types.specs.Types.{epsilon-type, repetition-type}
+use Rattle.types.specs.Types.{epsilon-type, repetition-type-with}
 use Rattle.type_checker.proofs.repetition_type.Statement.{statement}
 use Rattle.type_checker.proofs.repetition_type.Tie as tie
 
@@ -14,7 +14,7 @@ alternative-type-requires : tie.Need-alternative-type-requires
 alternative-type-requires c κs = search needs
 
 returns : tie.Need-returns
-unfolding repetition-type epsilon-type
+unfolding repetition-type-with epsilon-type
 returns c = rw (c .alternative-type .ensures, c .before .sequence-type .ensures, c .before .before .without-flast .ensures)
 
 pub repetition-type-spec : {M : Type 1} → statement M

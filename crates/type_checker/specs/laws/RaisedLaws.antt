@@ -17,7 +17,7 @@ use Rattle.sheet.specs.Limits.{most-tokens}
 use Rattle.types.specs.Types.{LanguageType, bottom-type, sequence-type, alternative-type, repetition-type}
 use Rattle.types.specs.Nodes.{Node, epsilon-node, bottom-node, token-node, sequence-node, alternative-node, fixed-point-node, variable-node, repetition-node, node-at}
 use Rattle.types.specs.laws.NodeRanges.{NodeInRange}
-use Rattle.types.specs.LeastTypes.{type-of, node-type, same-type, type-height, types-of}
+use Rattle.types.specs.LeastTypes.{type-of, node-type, node-type-with, same-type, type-height, types-of}
 use Rattle.types.specs.LeastSolution.{_⊑_}
 use Rattle.types.specs.Solutions.{AllBelow}
 use Rattle.types.specs.laws.TypeWeight.{Fits, below-fits, weight}
@@ -44,7 +44,7 @@ set-entry d P xs k x f h n = go (compare-cases n k)
 -- An equation that does not go by node k has the same side after its type is stored.
 node-type-away : (types : List LanguageType) (k : ℕ) (t : LanguageType) (x : Node) → (GoesBy x k → ⊥)
     → node-type (set types k t) x ≡ node-type types x
-unfolding node-type GoesBy
+unfolding node-type-with GoesBy
 node-type-away types k t epsilon-node gone = refl
 node-type-away types k t bottom-node gone = refl
 node-type-away types k t (token-node a) gone = refl
@@ -101,7 +101,7 @@ module _ (ns : List Node) where
   }
 
   pub settling-done : (Left : ℕ → Type 0) (types : List LanguageType) → ((n : ℕ) → Left n → ⊥) → Settling ns Left types → types ≡ types-of ns
-  unfolding node-type
+  unfolding node-type-with
   settling-done Left types none s = types-unique ns types (s .as-many) (s .below)
       (λ n. rw (type-of-next ns types n) (⊎-elim (λ l. s .settled n l (none n))
       (λ l. rw (List·getD-eq-default ns bottom-node {n = n} l) (bottom-least (type-of types n))) (lt-or-le n (length ns))))

@@ -6,7 +6,7 @@ use Prim.Native.Nat.{ℕ, _<_}
 use native.Mathlib.Omega.{arith}
 use Rattle.types.specs.Types.{LanguageType, epsilon-type, bottom-type, token-type, sequence-type, alternative-type, repetition-type}
 use Rattle.types.specs.Nodes.{Node, epsilon-node, bottom-node, token-node, sequence-node, alternative-node, fixed-point-node, variable-node, repetition-node}
-use Rattle.types.specs.LeastTypes.{type-of, node-type}
+use Rattle.types.specs.LeastTypes.{type-of, node-type, node-type-with}
 use Rattle.types.specs.Questions.{Fault, separable, apart, unless, node-fault}
 use Rattle.columns.specs.Tabulate.{tabulate}
 use Rattle.columns.specs.laws.TabulateLaws.{tabulate-at}
@@ -38,7 +38,7 @@ module _ (f : ℕ → LanguageType) (n : ℕ) where
   type-of-listed k l = tabulate-at f bottom-type 0 n k l ∙ ap f (omega arith)
 
   pub node-type-by : (x : Node) → NodeInRange most-tokens n x → node-type (tabulate f 0 n) x ≡ type-by f x
-  unfolding node-type type-by
+  unfolding node-type-with type-by
   node-type-by epsilon-node w = refl
   node-type-by bottom-node w = refl
   node-type-by (token-node t) w = refl

@@ -10,8 +10,7 @@ use Rattle.sheet.specs.Expression.{Expression, epsilon, bottom, token, sequence
 use Rattle.sheet.specs.WellFormed.{Closed}
 use Rattle.types.specs.Types.{LanguageType, epsilon-type, bottom-type, token-type, sequence-type, alternative-type, repetition-type}
 use Rattle.types.specs.Nodes.{Node, Binder, no-binder, guard, nodes-from, nodes}
-use Rattle.types.specs.LeastTypes.{type-of, node-type}
-use Rattle.types.specs.Solutions.{next-types}
+use Rattle.types.specs.LeastTypes.{type-of, node-type, node-type-with}
 use Rattle.types.specs.Solutions.{Solves}
 use Rattle.types.specs.laws.EachFrom.{EachFrom, each-left}
 use Rattle.types.specs.laws.NodeLaws.{Solved, nodes-length, right-nodes, both-nodes, solved-each, each-solved}
@@ -68,7 +67,7 @@ module _ (types : List LanguageType) where
   module _ (tokens : ℕ) where
     equations-iff : (g : Expression) (p : ℕ) (binders : List Binder) → Closed tokens (length binders) g
         → EachFrom (Solved types) p (nodes-from g p binders) ↔ EquationsAt types g p (binder-types binders)
-    unfolding nodes-from node-type
+    unfolding nodes-from node-type-with
     equations-iff epsilon p binders c = (λ h. h .0, λ t. (t, tt))
     equations-iff bottom p binders c = (λ h. h .0, λ t. (t, tt))
     equations-iff (token k) p binders c = (λ h. h .0, λ t. (t, tt))

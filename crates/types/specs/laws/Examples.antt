@@ -1,13 +1,13 @@
--- The expressions of document 01's table and of request [1], and what questions 8 to 10 answer of each: one table with one theorem.
+-- The expressions of document 01's table and of requests [1] and [8], and what questions 8 to 10 answer of each: one table with one theorem.
 use mathlib.Core.Path.{_≡_, refl}
 use mathlib.Core.List.{List, [], _∷_, map}
 use mathlib.Core.Option.{Option, none, some}
 use Prim.Native.Nat.{ℕ}
 use Rattle.basics.specs.Settle.{settle, same-all, least-solution}
 use Rattle.sheet.specs.Expression.{Expression, epsilon, bottom, token, sequence, alternative, fixed-point, variable, repetition, size}
-use Rattle.types.specs.Types.{epsilon-type, bottom-type, token-type, sequence-type, alternative-type, repetition-type}
+use Rattle.types.specs.Types.{epsilon-type, bottom-type, token-type, flap-sequence-type, is-bottom, sequence-type, alternative-type, repetition-type-with}
 use Rattle.types.specs.Nodes.{nodes-from, nodes}
-use Rattle.types.specs.LeastTypes.{node-type, same-type, types-of, least-types}
+use Rattle.types.specs.LeastTypes.{node-type-with, same-type, types-of, least-types}
 use Rattle.types.specs.Questions.{Fault, separable, apart, unless, node-fault, first-fault, type-fault}
 
 record Example : Type 0 where
@@ -41,8 +41,18 @@ examples =
     -- (S·μβ.(ε ∨ N·β))·N, and with S last
     ∷ record { expression = sequence (sequence S (fixed-point (alternative epsilon (sequence N (variable 0))))) N; answer = at 9 0 }
     ∷ record { expression = sequence (sequence S (fixed-point (alternative epsilon (sequence N (variable 0))))) S; answer = none }
-    -- N·⊥ ∨ N
-    ∷ record { expression = alternative (sequence N bottom) N; answer = at 10 0 }
+    -- unfinished branches, request [8] (more in `Unfinished`): N·⊥ ∨ N·⊥, (S·(N·⊥ ∨ ε))·N
+    ∷ record { expression = alternative (sequence N bottom) (sequence N bottom); answer = none }
+    ∷ record { expression = sequence (sequence S (alternative (sequence N bottom) epsilon)) N; answer = none }
+    -- ⊥·N, (N·⊥)*, ⊥·N ∨ N, and (⊥·(N ∨ ε))·N, where N does not follow either
+    ∷ record { expression = sequence bottom N; answer = none }
+    ∷ record { expression = repetition (sequence N bottom); answer = none }
+    ∷ record { expression = alternative (sequence bottom N) N; answer = none }
+    ∷ record { expression = sequence (sequence bottom (alternative N epsilon)) N; answer = none }
+    -- side conditions are unchanged: ε·⊥, (N·⊥ ∨ ε)·N, and N·(N·⊥ ∨ ε) ∨ N, whose first branch denotes N
+    ∷ record { expression = sequence epsilon bottom; answer = at 9 0 }
+    ∷ record { expression = sequence (alternative (sequence N bottom) epsilon) N; answer = at 9 0 }
+    ∷ record { expression = alternative (sequence N (alternative (sequence N bottom) epsilon)) N; answer = at 10 0 }
     -- repetitions that have a type: (N)*, N·(S·N)*, (⊥)*, (N·(S)*)*
     ∷ record { expression = repetition N; answer = none }
     ∷ record { expression = sequence N (repetition (sequence S N)); answer = none }
@@ -65,6 +75,6 @@ examples =
     ∷ []
 
 examples-answered : map (λ x. type-fault (x .expression)) examples ≡ map (λ x. x .answer) examples
-unfolding type-fault first-fault node-fault unless separable apart least-types types-of least-solution settle same-all node-type same-type
-    nodes nodes-from size epsilon-type bottom-type token-type sequence-type alternative-type repetition-type
+unfolding type-fault first-fault node-fault unless separable apart least-types types-of least-solution settle same-all node-type-with same-type
+    nodes nodes-from size epsilon-type bottom-type token-type flap-sequence-type is-bottom sequence-type alternative-type repetition-type-with
 examples-answered = refl

@@ -16,7 +16,7 @@ use Rattle.sheet.specs.WellFormed.{Closed}
 use Rattle.types.specs.Types.{LanguageType, epsilon-type, bottom-type, token-type}
 use Rattle.types.specs.Nodes.{Node, epsilon-node, bottom-node, token-node, sequence-node, alternative-node, fixed-point-node, variable-node, repetition-node, nodes, node-at}
 use Rattle.types.specs.laws.NodeRanges.{NodeInRange, in-range-more, node-in-range, nodes-in-range}
-use Rattle.types.specs.LeastTypes.{type-of, node-type, same-type, type-height, types-of, least-types}
+use Rattle.types.specs.LeastTypes.{type-of, node-type, node-type-with, same-type, type-height, types-of, least-types}
 use Rattle.types.specs.Solutions.{next-types}
 use Rattle.types.specs.laws.TypeLaws.{⊑-refl, ⊑-trans, ⊑-antisym, bottom-least, sequence-rises, alternative-rises, repetition-rises}
 use Rattle.types.specs.LeastSolution.{_⊑_}
@@ -41,7 +41,7 @@ same-type-self a = rw (beq-self (a .null), eq-eqb (a .first) (a .first) refl, eq
 
 -- A round keeps the order.
 node-type-rises : (xs ys : List LanguageType) → AllBelow xs ys → (x : Node) → node-type xs x ⊑ node-type ys x
-unfolding node-type
+unfolding node-type-with
 node-type-rises xs ys h epsilon-node = ⊑-refl epsilon-type
 node-type-rises xs ys h bottom-node = ⊑-refl bottom-type
 node-type-rises xs ys h (token-node t) = ⊑-refl (token-type t)
@@ -52,7 +52,7 @@ node-type-rises xs ys h (variable-node f guarded) = h f
 node-type-rises xs ys h (repetition-node b self) = repetition-rises (h b) (h self)
 
 pub type-equations : Equations same-type bottom-type type-height node-type bottom-node _⊑_ Fits weight
-unfolding node-type
+unfolding node-type-with
 type-equations = record {
   same-equal = same-type-equal;
   same-self = same-type-self;
@@ -115,7 +115,7 @@ types-unique ns types long = solution-unique type-equations ns types long (λ n.
 
 node-type-fits : (types : List LanguageType) → ((n : ℕ) → Fits (type-of types n)) → (count : ℕ) (x : Node) → NodeInRange most-tokens count x
     → Fits (node-type types x)
-unfolding node-type
+unfolding node-type-with
 node-type-fits types f count epsilon-node t = epsilon-fits
 node-type-fits types f count bottom-node t = bottom-fits
 node-type-fits types f count (token-node k) t = token-fits k t

@@ -6,17 +6,20 @@ use native.Mathlib.Omega.{arith}
 use lib.ListN.{length, length-append, length-map}
 use lib.Seq.{ext-getD}
 use Rattle.sheet.specs.Expression.{Expression, epsilon, bottom, token, sequence, alternative, fixed-point, variable, repetition, size}
-use Rattle.types.specs.Types.{LanguageType, bottom-type}
+use Rattle.types.specs.Types.{LanguageType, bottom-type, Operation, sequence-type}
 use Rattle.types.specs.Nodes.{Node, bottom-node, Binder, nodes-from}
-use Rattle.types.specs.LeastTypes.{type-of, node-type}
+use Rattle.types.specs.LeastTypes.{type-of, node-type, node-type-with}
 use Rattle.types.specs.Solutions.{next-types}
 use Rattle.types.specs.laws.LeastTypeLaws.{type-of-next, solved-at}
 use Rattle.types.specs.Solutions.{Solves}
 use Rattle.types.specs.laws.EachFrom.{EachFrom, each-right, each-append, each-member, member-each}
 
 -- Solutions, node by node.
+abbrev pub SolvedWith : Operation → List LanguageType → ℕ → Node → Type 0
+SolvedWith op types p x = type-of types p ≡ node-type-with op types x
+
 abbrev pub Solved : List LanguageType → ℕ → Node → Type 0
-Solved types p x = type-of types p ≡ node-type types x
+Solved = SolvedWith sequence-type
 
 pub solved-each : (ns : List Node) (types : List LanguageType) → Solves ns types → EachFrom (Solved types) 0 ns
 solved-each ns types s = member-each (Solved types) bottom-node ns (λ n l. solved-at ns types s n)

@@ -2,7 +2,7 @@
 -- sequence's words are cut in one way only (its Lemmas 3.3 and 3.4). Types that are too large satisfy as well; which types are least is not
 -- asked here.
 use mathlib.Core.Path.{_≡_, refl, sym, ap, ap₂, subst, _∙_}
-use mathlib.Core.Bool.{true, _&&_, _||_, true≢false}
+use mathlib.Core.Bool.{true, false, _&&_, _||_, true≢false}
 use mathlib.Core.List.{List, [], _∷_, _++_, append-assoc, head-eq-of-cons-eq, tail-eq-of-cons-eq, cons≢nil, nil≢cons}
 use mathlib.Core.Logic.{_⊎_, inl, inr}
 use Prim.Native.Nat.{ℕ, zero, suc, _+_, _^_}
@@ -14,9 +14,10 @@ use Rattle.basics.specs.laws.BitLaws.{∈-left, ∈-right, ∈-self, ∈-disjoi
 use Rattle.sheet.specs.Expression.{Expression}
 use Rattle.types.specs.Denotation.{Language, followed-by, iterate, least-fixed-point, language-at, denotation, Denotes}
 use Rattle.types.specs.Languages.{no-words, either, none-or-more, any-number-of, Environment}
-use Rattle.types.specs.Types.{LanguageType, epsilon-type, bottom-type, token-type, sequence-type, alternative-type, repetition-type, Separable, Apart, Hypothesis, all-usable, Usable, here, there, _⊢_∶_, type-epsilon, type-bottom, type-token, type-variable, type-sequence, type-alternative, type-fixed-point, type-repetition}
-use Rattle.types.specs.TypeNames.{Context}
+use Rattle.types.specs.Types.{LanguageType, epsilon-type, bottom-type, token-type, is-bottom, sequence-type, alternative-type, repetition-type, repetition-type-with, Separable, Apart, Hypothesis, all-usable, Usable, here, there, _⊢_∶_, type-epsilon, type-bottom, type-token, type-variable, type-sequence, type-alternative, type-fixed-point, type-repetition}
+use Rattle.types.specs.TypeNames.{Context, TypeHas}
 use Rattle.types.specs.laws.DenotationLaws.{Pointwise, pointwise-nil, pointwise-cons, _⊆_, none-or-more-monotone, body-monotone, iterate-rises}
+use Rattle.types.specs.laws.BottomTypeLaws.{has-not-bottom}
 use Rattle.types.specs.laws.SequenceTypeLaws.{sequence-first-left, sequence-flast-right, sequence-flast-first, sequence-flast-left}
 use Rattle.types.specs.laws.TypeLaws.{separable-from-repetition, epsilon-apart}
 
@@ -27,6 +28,14 @@ pub record Satisfies (L : Language) (a : LanguageType) : Type 0 where
   pub null-holds : L [] → a .null ≡ true
   pub first-holds : (c : ℕ) (w : List ℕ) → L (c ∷ w) → c ∈ a .first
   pub flast-holds : (t : ℕ) (u : List ℕ) (c : ℕ) (v : List ℕ) → L (t ∷ u) → L ((t ∷ u) ++ (c ∷ v)) → c ∈ a .flast
+
+-- A type that a language with a word satisfies is not that of ⊥.
+word-has : {L : Language} {a : LanguageType} → Satisfies L a → (w : List ℕ) → L w → TypeHas a w
+word-has s [] h = s .null-holds h
+word-has s (c ∷ w) h = s .first-holds c w h
+
+word-not-bottom : {L : Language} {a : LanguageType} → Satisfies L a → (w : List ℕ) → L w → is-bottom a ≡ false
+word-not-bottom {a = a} s w h = has-not-bottom a w (word-has s w h)
 
 bottom-satisfies : Satisfies no-words bottom-type
 bottom-satisfies = record {
@@ -130,17 +139,18 @@ module _ (L M : Language) (a b : LanguageType) (s : Satisfies L a) (r : Satisfie
     sequence-flast x y c v p q x' y' p' q' (earlier d u f g) =
         absurd (goes-not-on x' d u (u ++ (y ++ (c ∷ v))) p' (subst L f p) (subst M g q'))
     sequence-flast x [] c v p q x' y' p' q' (alike f g) =
-        sequence-flast-first a b c (r .null-holds q) (r .first-holds c v (subst M (sym g) q'))
+        sequence-flast-first a b c (word-not-bottom s x p) (r .null-holds q) (r .first-holds c v (subst M (sym g) q'))
     sequence-flast x [] c v p q x' y' p' q' (later d u f g) = sequence-flast-left a b c (r .null-holds q)
         (subst (λ (n : ℕ). n ∈ a .flast) (sym (head-eq-of-cons-eq g)) (flast-of x d u p (subst L f p')))
-    sequence-flast x (d ∷ y) c v p q x' y' p' q' (alike f g) = sequence-flast-right a b c (r .flast-holds d y c v q (subst M (sym g) q'))
+    sequence-flast x (d ∷ y) c v p q x' y' p' q' (alike f g) =
+        sequence-flast-right a b c (word-not-bottom s x p) (r .flast-holds d y c v q (subst M (sym g) q'))
     sequence-flast x (d ∷ y) c v p q x' y' p' q' (later e u f g) =
         absurd (goes-not-on x e u y p (subst L f p') (subst (λ (n : ℕ). M (n ∷ y)) (head-eq-of-cons-eq g) q))
 
     sequence-satisfies : Satisfies (followed-by L M) (sequence-type a b)
     sequence-satisfies = record {
       null-holds = λ h. null (h .0) (h .1) (h .2) (h .3);
-      first-holds = λ c w h. first c w (h .0) (h .1) (h .2) (h .3);
+      first-holds = λ c w h. first c w (h .0) (h .1) (h .2) (h .3) (h .4);
       flast-holds = λ d u c v x y. sequence-flast (x .0) (x .1) c v (x .3) (x .4) (y .0) (y .1) (y .3) (y .4)
           (two-cuts (x .0) (x .1 ++ (c ∷ v)) (y .0) (y .1)
           (sym (append-assoc (x .0) (x .1) (c ∷ v)) ∙ (ap (λ (z : List ℕ). z ++ (c ∷ v)) (sym (x .2)) ∙ y .2)));
@@ -150,9 +160,9 @@ module _ (L M : Language) (a b : LanguageType) (s : Satisfies L a) (r : Satisfie
         null [] v e p = absurd (first-not-empty p)
         null (c ∷ u) v e p = absurd (nil≢cons e)
 
-        first : (c : ℕ) (w u v : List ℕ) → c ∷ w ≡ u ++ v → L u → c ∈ (sequence-type a b) .first
-        first c w [] v e p = absurd (first-not-empty p)
-        first c w (d ∷ u) v e p = sequence-first-left a b c
+        first : (c : ℕ) (w u v : List ℕ) → c ∷ w ≡ u ++ v → L u → M v → c ∈ (sequence-type a b) .first
+        first c w [] v e p q = absurd (first-not-empty p)
+        first c w (d ∷ u) v e p q = sequence-first-left a b c (word-not-bottom r v q)
             (subst (λ (n : ℕ). n ∈ a .first) (sym (head-eq-of-cons-eq e)) (s .first-holds d u p))
 
 -- The union of a rising chain of languages: two words of it lie in one common member.
@@ -177,7 +187,7 @@ fixed-point-satisfies f monotone a step = record {
 -- A repetition, as μβ.(ε ∨ g·β) from its part's language.
 repetition-satisfies : (L : Language) {a b : LanguageType} → Satisfies L a → Separable a a → b ≡ repetition-type a b
     → Satisfies (any-number-of L) b
-unfolding repetition-type
+unfolding repetition-type-with
 repetition-satisfies L {a} {b} s k e = fixed-point-satisfies (none-or-more L)
     (λ M M'. none-or-more-monotone L L M M' (λ w h. h)) b
     (λ M r. subst (Satisfies (none-or-more L M)) (sym e)

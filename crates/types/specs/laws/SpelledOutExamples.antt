@@ -3,9 +3,9 @@ use mathlib.Core.Path.{_≡_, refl}
 use mathlib.Core.Option.{some}
 use Rattle.basics.specs.Settle.{settle, same-all, least-solution}
 use Rattle.sheet.specs.Expression.{Expression, epsilon, token, sequence, alternative, fixed-point, variable, repetition, size}
-use Rattle.types.specs.Types.{epsilon-type, bottom-type, sequence-type, alternative-type}
+use Rattle.types.specs.Types.{epsilon-type, bottom-type, flap-sequence-type, is-bottom, sequence-type, alternative-type}
 use Rattle.types.specs.Nodes.{nodes-from, nodes}
-use Rattle.types.specs.LeastTypes.{node-type, same-type, types-of, least-types}
+use Rattle.types.specs.LeastTypes.{node-type-with, same-type, types-of, least-types}
 use Rattle.types.specs.Questions.{separable, apart, unless, node-fault, first-fault, type-fault}
 use Rattle.types.specs.SpelledOut.{spelled-out}
 
@@ -34,6 +34,6 @@ twice = refl
 -- (ε)*: both are refused, but not by the same question. The repetition is asked 9 alone (`Examples`); its form is asked first whether ε
 -- and ε·β are apart.
 form-asked : type-fault (spelled-out (repetition epsilon)) ≡ some (record { number = 10; node = 1 })
-unfolding type-fault first-fault node-fault unless separable apart least-types types-of least-solution settle same-all node-type same-type
-    nodes nodes-from size epsilon-type bottom-type sequence-type alternative-type
+unfolding type-fault first-fault node-fault unless separable apart least-types types-of least-solution settle same-all node-type-with same-type
+    nodes nodes-from size epsilon-type bottom-type flap-sequence-type is-bottom sequence-type alternative-type
 form-asked = refl

@@ -10,7 +10,7 @@ use lib.ListN.{getD}
 use Rattle.sheet.specs.Expression.{Expression, epsilon, bottom, token, sequence, alternative, fixed-point, variable, repetition}
 use Rattle.sheet.specs.Limits.{most-tokens}
 use Rattle.sheet.specs.WellFormed.{Closed}
-use Rattle.types.specs.Types.{LanguageType, epsilon-type, bottom-type, sequence-type, alternative-type, repetition-type}
+use Rattle.types.specs.Types.{LanguageType, epsilon-type, bottom-type, sequence-type, alternative-type, repetition-type, repetition-type-with}
 use Rattle.types.specs.LeastTypes.{type-of, least-types}
 use Rattle.types.specs.Questions.{type-fault}
 use Rattle.types.specs.laws.TypeLaws.{⊑-antisym}
@@ -68,7 +68,7 @@ raised-some (repetition g) s c = λ i. (a : LanguageType) × raised-some g s a i
 -- The repetition's own equation, and those of its form.
 pub repetition-some : (g : Expression) (l : List LanguageType) (c : LanguageType)
     → SomeSolution (repetition g) l c ↔ SomeSolution (repetition-form g) l c
-unfolding repetition-type
+unfolding repetition-type-with
 repetition-some g l c = (
   λ s. (epsilon-type, sequence-type (s .0) c, refl, (s .0, c, transport (raised-some g in-front (s .0)) (s .1), refl, refl), s .2),
   λ s. (

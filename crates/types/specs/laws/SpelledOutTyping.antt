@@ -5,7 +5,7 @@ use mathlib.Core.List.{[], _∷_}
 use mathlib.Core.Logic.{_↔_}
 use Prim.Native.Nat.{ℕ, zero, suc}
 use Rattle.sheet.specs.Expression.{Expression, epsilon, bottom, token, sequence, alternative, fixed-point, variable, repetition}
-use Rattle.types.specs.Types.{LanguageType, epsilon-type, sequence-type, alternative-type, repetition-type, Separable, Hypothesis, all-usable, Usable, here, there, _⊢_∶_, type-epsilon, type-bottom, type-token, type-variable, type-sequence, type-alternative, type-fixed-point, type-repetition, HasType}
+use Rattle.types.specs.Types.{LanguageType, epsilon-type, sequence-type, alternative-type, repetition-type, repetition-type-with, Separable, Hypothesis, all-usable, Usable, here, there, _⊢_∶_, type-epsilon, type-bottom, type-token, type-variable, type-sequence, type-alternative, type-fixed-point, type-repetition, HasType}
 use Rattle.types.specs.TypeNames.{usable-now, Context}
 use Rattle.types.specs.laws.TypeLaws.{separable-from-repetition, separable-from-itself, epsilon-apart}
 use Rattle.types.specs.SpelledOut.{raise-count, raise, repetition-form, spelled-out}
@@ -106,7 +106,7 @@ module _ (Γ : Context) (g : Expression) where
   inside b = record { usable = false; type = b } ∷ Γ
 
   form-typed : Carries Γ (repetition g) Γ (repetition-form g)
-  unfolding repetition-type
+  unfolding repetition-type-with
   form-typed b (type-repetition {a = a} x s e) = type-fixed-point (subst (λ c. inside b ⊢ form-body ∶ c) (sym e)
       (type-alternative type-epsilon
       (type-sequence (raised-types g in-front .0 a x) (type-variable here) (separable-from-repetition a b e s))
@@ -114,7 +114,7 @@ module _ (Γ : Context) (g : Expression) where
 
   sequence-typed : {b c : LanguageType} → inside b ⊢ sequence (raise zero g) (variable zero) ∶ c → b ≡ alternative-type epsilon-type c
       → Γ ⊢ repetition g ∶ b
-  unfolding repetition-type
+  unfolding repetition-type-with
   sequence-typed {b} (type-sequence {a = a} x y s) e =
       let v = variable-typed y in
       let own : b ≡ repetition-type a b = e ∙ ap (λ c. alternative-type epsilon-type (sequence-type a c)) v in

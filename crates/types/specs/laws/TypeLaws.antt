@@ -1,16 +1,17 @@
 -- Types ordered by inclusion. Figure 2's operations keep the order, and a side condition that holds holds of smaller types too.
 -- Nothing here is about expressions or languages.
 use mathlib.Core.Path.{_≡_, sym, ap, subst, _∙_}
-use mathlib.Core.Bool.{false, _&&_, true≢false, false≢true}
+use mathlib.Core.Bool.{true, false, _&&_, true≢false, false≢true}
 use mathlib.Core.Logic.{⊎-elim}
 use Prim.Native.Nat.{ℕ}
 use lib.Bits.{bitAnd}
 use Rattle.basics.specs.Bits.{_∈_}
 use Rattle.basics.specs.laws.Truth.{or-true-left, or-true-right}
 use Rattle.basics.specs.laws.BitLaws.{∈-zero, ∈-left, ∈-right, ∈-cases, ∈-disjoint, disjoint-zero}
-use Rattle.types.specs.Types.{LanguageType, epsilon-type, bottom-type, sequence-type, alternative-type, repetition-type, Separable, Apart}
+use Rattle.types.specs.Types.{LanguageType, epsilon-type, bottom-type, flap-sequence-type, is-bottom, sequence-type, alternative-type, repetition-type, repetition-type-with, Separable, Apart}
 use Rattle.types.specs.LeastSolution.{_⊑_}
-use Rattle.types.specs.laws.SequenceTypeLaws.{sequence-null, sequence-null-left, sequence-null-right, sequence-first-left, sequence-first-right, sequence-first-cases, sequence-flast-right, sequence-flast-first, sequence-flast-left, sequence-flast-cases}
+use Rattle.types.specs.laws.BottomTypeLaws.{not-bottom, bottom-not, null-not-bottom, first-not-bottom, flast-not-bottom}
+use Rattle.types.specs.laws.SequenceTypeLaws.{sequence-either, sequence-parts, sequence-null, sequence-null-left, sequence-null-right, sequence-first-left, sequence-first-right, sequence-first-cases, sequence-flast-right, sequence-flast-first, sequence-flast-left, sequence-flast-cases}
 use Rattle.types.specs.laws.SetOrder.{implied-both, and-rises, or-rises, or-most, false-falls, _⊆_, included-both, union-rises, union-most}
 
 pub ⊑-refl : (a : LanguageType) → a ⊑ a
@@ -34,15 +35,28 @@ pub bottom-least : (a : LanguageType) → bottom-type ⊑ a
 unfolding bottom-type
 bottom-least a = record { null-rises = λ e. absurd (false≢true e); first-rises = λ i m. ∈-zero i m; flast-rises = λ i m. ∈-zero i m }
 
+-- What lies above a type that is not that of ⊥ is not that of ⊥.
+not-bottom-rises : {a a' : LanguageType} → a ⊑ a' → is-bottom a ≡ false → is-bottom a' ≡ false
+not-bottom-rises {a} {a'} p h = not-bottom a' (λ e. bottom-not a h (⊑-antisym (subst (λ c. a ⊑ c) e p) (bottom-least a)))
+
 pub sequence-rises : {a a' b b' : LanguageType} → a ⊑ a' → b ⊑ b' → sequence-type a b ⊑ sequence-type a' b'
 sequence-rises {a} {a'} {b} {b'} p q = record {
   null-rises = λ e. sequence-null a' b' (p .null-rises (sequence-null-left a b e)) (q .null-rises (sequence-null-right a b e));
-  first-rises = λ i m. ⊎-elim (λ x. sequence-first-left a' b' i (p .first-rises i x))
+  first-rises = λ i m.
+      let parts = sequence-parts a b (first-not-bottom (sequence-type a b) i m) in
+      ⊎-elim (λ x. sequence-first-left a' b' i (not-bottom-rises q (parts .1)) (p .first-rises i x))
       (λ x. sequence-first-right a' b' i (p .null-rises (x .0)) (q .first-rises i (x .1))) (sequence-first-cases a b i m);
-  flast-rises = λ i m. ⊎-elim (λ x. sequence-flast-right a' b' i (q .flast-rises i x))
-      (λ x. let n = q .null-rises (x .0) in ⊎-elim (λ y. sequence-flast-first a' b' i n (q .first-rises i y))
+  flast-rises = λ i m.
+      let left = not-bottom-rises p (sequence-parts a b (flast-not-bottom (sequence-type a b) i m) .0) in
+      ⊎-elim (λ x. sequence-flast-right a' b' i left (q .flast-rises i x))
+      (λ x. let n = q .null-rises (x .0) in ⊎-elim (λ y. sequence-flast-first a' b' i left n (q .first-rises i y))
       (λ y. sequence-flast-left a' b' i n (p .flast-rises i y)) (x .1)) (sequence-flast-cases a b i m);
 }
+
+-- A sequence has no more than the flap paper gives it.
+pub sequence-below : (a b : LanguageType) → sequence-type a b ⊑ flap-sequence-type a b
+sequence-below a b = sequence-either a b (λ c. c ⊑ flap-sequence-type a b) (bottom-least (flap-sequence-type a b))
+    (⊑-refl (flap-sequence-type a b))
 
 pub alternative-rises : {a a' b b' : LanguageType} → a ⊑ a' → b ⊑ b' → alternative-type a b ⊑ alternative-type a' b'
 unfolding alternative-type
@@ -78,7 +92,7 @@ above-least {a} {b} {c} p q = record {
 }
 
 pub repetition-rises : {a a' b b' : LanguageType} → a ⊑ a' → b ⊑ b' → repetition-type a b ⊑ repetition-type a' b'
-unfolding repetition-type
+unfolding repetition-type-with
 repetition-rises p q = alternative-rises (⊑-refl epsilon-type) (sequence-rises p q)
 
 disjoint-falls : (s s' t t' : ℕ) → s ⊆ s' → t ⊆ t' → bitAnd s' t' ≡ 0 → bitAnd s t ≡ 0
@@ -101,15 +115,19 @@ apart-falls {a} {a'} {b} {b'} p q k = record {
 -- and only if it is separable from the repetition.
 module _ (a b : LanguageType) (e : b ≡ repetition-type a b) where
   first-of-part : a .null ≡ false → b .first ⊆ a .first
-  unfolding repetition-type alternative-type epsilon-type
+  unfolding repetition-type-with alternative-type epsilon-type
   first-of-part n i m = ⊎-elim (λ z. ∈-zero i z)
       (λ x. ⊎-elim (λ y. y) (λ y. absurd (true≢false (sym (y .0) ∙ n))) (sequence-first-cases a b i x))
       (∈-cases 0 ((sequence-type a b) .first) i (subst (λ (s : ℕ). i ∈ s) (ap (λ (x : LanguageType). x .first) e) m))
 
+  repetition-null : b .null ≡ true
+  unfolding repetition-type-with alternative-type epsilon-type
+  repetition-null = ap (λ (x : LanguageType). x .null) e
+
   part-first : a .first ⊆ b .first
-  unfolding repetition-type
+  unfolding repetition-type-with
   part-first i m = subst (λ (x : LanguageType). i ∈ x .first) (sym e)
-      (above-right epsilon-type (sequence-type a b) .first-rises i (sequence-first-left a b i m))
+      (above-right epsilon-type (sequence-type a b) .first-rises i (sequence-first-left a b i (null-not-bottom b repetition-null) m))
 
   pub separable-from-repetition : Separable a a → Separable a b
   separable-from-repetition s = record {

@@ -8,7 +8,7 @@ use lib.Bits.{bitOr}
 use Rattle.basics.specs.Bits.{_∈_}
 use Rattle.basics.specs.laws.BitLaws.{∈-zero, ∈-one, ∈-cases, bit-below, lt-pow-self}
 use Rattle.sheet.specs.Limits.{most-tokens}
-use Rattle.types.specs.Types.{LanguageType, epsilon-type, bottom-type, token-type, sequence-type, alternative-type, repetition-type}
+use Rattle.types.specs.Types.{LanguageType, epsilon-type, bottom-type, token-type, sequence-type, alternative-type, repetition-type, repetition-type-with}
 use Rattle.types.specs.LeastTypes.{type-height}
 use Rattle.types.specs.laws.SetOrder.{flag, flag-rises, flag-most, flag-implies, count, count-most, count-rises, count-full}
 use Rattle.types.specs.laws.SequenceTypeLaws.{sequence-first-cases, sequence-flast-cases}
@@ -58,7 +58,7 @@ alternative-fits {a} {b} p q = record {
 }
 
 pub repetition-fits : {a b : LanguageType} → Fits a → Fits b → Fits (repetition-type a b)
-unfolding repetition-type
+unfolding repetition-type-with
 repetition-fits p q = alternative-fits epsilon-fits (sequence-fits p q)
 
 -- Both sets are then numbers of 24 bits.

@@ -6,14 +6,14 @@ use mathlib.Core.List.{List, [], _∷_, map}
 use Prim.Native.Nat.{ℕ, zero, suc, _+_}
 use lib.ListN.{getD}
 use Rattle.sheet.specs.Expression.{Expression, epsilon, bottom, token, sequence, alternative, fixed-point, variable, repetition, size}
-use Rattle.types.specs.Types.{LanguageType, Hypothesis, all-usable, Usable, here, there}
+use Rattle.types.specs.Types.{LanguageType, Operation, Hypothesis, all-usable, Usable, here, there}
 use Rattle.types.specs.TypeNames.{Context}
 use Rattle.types.specs.Nodes.{Node, Binder, no-binder, guard, nodes-from}
-use Rattle.types.specs.LeastTypes.{type-of, node-type}
+use Rattle.types.specs.LeastTypes.{type-of, node-type-with}
 use Rattle.types.specs.Questions.{separable, apart, node-fault}
 use Rattle.types.specs.laws.EachFrom.{EachFrom, each-left}
 use Rattle.types.specs.laws.QuestionLaws.{separable-iff, apart-iff, unless-iff, PassesAt}
-use Rattle.types.specs.laws.NodeLaws.{Solved, right-nodes, both-nodes}
+use Rattle.types.specs.laws.NodeLaws.{SolvedWith, right-nodes, both-nodes}
 use Rattle.types.specs.laws.TypedAt.{TypedAt}
 
 abbrev binder-at : List Binder → ℕ → Binder
@@ -43,15 +43,15 @@ module _ (types : List LanguageType) where
   usable-guarded (and-more u t s) (there v) = usable-guarded s v
 
 -- Node x at place p has the type that its equation gives, and passes.
-pub record Holds (types : List LanguageType) (p : ℕ) (x : Node) : Type 0 where
-  pub equation : Solved types p x
+pub record Holds (op : Operation) (types : List LanguageType) (p : ℕ) (x : Node) : Type 0 where
+  pub equation : SolvedWith op types p x
   pub passes : PassesAt types p x
 
 -- What holds at every node of g is that g is typed.
-module _ (types : List LanguageType) where
+module _ (op : Operation) (types : List LanguageType) where
   pub nodes-typed : (g : Expression) (p : ℕ) {binders : List Binder} {Γ : Context} → Agrees types binders Γ
-      → EachFrom (Holds types) p (nodes-from g p binders) → TypedAt types g p Γ
-  unfolding nodes-from node-type node-fault
+      → EachFrom (Holds op types) p (nodes-from g p binders) → TypedAt op types g p Γ
+  unfolding nodes-from node-type-with node-fault
   nodes-typed epsilon p s h = h .0 .equation
   nodes-typed bottom p s h = h .0 .equation
   nodes-typed (token k) p s h = h .0 .equation
@@ -61,8 +61,8 @@ module _ (types : List LanguageType) where
       let right = nodes-from k (suc p + size g) (map guard binders) in (
         h .0 .equation,
         separable-iff a b .0 (unless-iff (separable a b) 9 p .0 (h .0 .passes)),
-        nodes-typed g (suc p) s (each-left (Holds types) (suc p) (nodes-from g (suc p) binders) right (h .1)),
-        nodes-typed k (suc p + size g) (agrees-guarded types s) (right-nodes (Holds types) g (suc p) binders right (h .1)),
+        nodes-typed g (suc p) s (each-left (Holds op types) (suc p) (nodes-from g (suc p) binders) right (h .1)),
+        nodes-typed k (suc p + size g) (agrees-guarded types s) (right-nodes (Holds op types) g (suc p) binders right (h .1)),
       )
   nodes-typed (alternative g k) p {binders} s h =
       let a = type-of types (suc p) in
@@ -70,8 +70,8 @@ module _ (types : List LanguageType) where
       let right = nodes-from k (suc p + size g) binders in (
         h .0 .equation,
         apart-iff a b .0 (unless-iff (apart a b) 10 p .0 (h .0 .passes)),
-        nodes-typed g (suc p) s (each-left (Holds types) (suc p) (nodes-from g (suc p) binders) right (h .1)),
-        nodes-typed k (suc p + size g) s (right-nodes (Holds types) g (suc p) binders right (h .1)),
+        nodes-typed g (suc p) s (each-left (Holds op types) (suc p) (nodes-from g (suc p) binders) right (h .1)),
+        nodes-typed k (suc p + size g) s (right-nodes (Holds op types) g (suc p) binders right (h .1)),
       )
   nodes-typed (fixed-point g) p s h = (h .0 .equation, nodes-typed g (suc p) (and-more refl refl s) (h .1))
   nodes-typed (variable n) p {binders} {Γ} s h =
@@ -85,8 +85,8 @@ module _ (types : List LanguageType) where
       )
 
   pub typed-nodes : (g : Expression) (p : ℕ) {binders : List Binder} {Γ : Context} → Agrees types binders Γ
-      → TypedAt types g p Γ → EachFrom (Holds types) p (nodes-from g p binders)
-  unfolding nodes-from node-type node-fault
+      → TypedAt op types g p Γ → EachFrom (Holds op types) p (nodes-from g p binders)
+  unfolding nodes-from node-type-with node-fault
   typed-nodes epsilon p s t = (record { equation = t; passes = refl }, tt)
   typed-nodes bottom p s t = (record { equation = t; passes = refl }, tt)
   typed-nodes (token k) p s t = (record { equation = t; passes = refl }, tt)
@@ -95,7 +95,7 @@ module _ (types : List LanguageType) where
       let b = type-of types (suc p + size g) in
       let right = nodes-from k (suc p + size g) (map guard binders) in (
         record { equation = t .0; passes = unless-iff (separable a b) 9 p .1 (separable-iff a b .1 (t .1)) },
-        both-nodes (Holds types) g (suc p) binders right (typed-nodes g (suc p) s (t .2))
+        both-nodes (Holds op types) g (suc p) binders right (typed-nodes g (suc p) s (t .2))
             (typed-nodes k (suc p + size g) (agrees-guarded types s) (t .3)),
       )
   typed-nodes (alternative g k) p {binders} s t =
@@ -103,7 +103,7 @@ module _ (types : List LanguageType) where
       let b = type-of types (suc p + size g) in
       let right = nodes-from k (suc p + size g) binders in (
         record { equation = t .0; passes = unless-iff (apart a b) 10 p .1 (apart-iff a b .1 (t .1)) },
-        both-nodes (Holds types) g (suc p) binders right (typed-nodes g (suc p) s (t .2)) (typed-nodes k (suc p + size g) s (t .3)),
+        both-nodes (Holds op types) g (suc p) binders right (typed-nodes g (suc p) s (t .2)) (typed-nodes k (suc p + size g) s (t .3)),
       )
   typed-nodes (fixed-point g) p s t = (record { equation = t .0; passes = refl }, typed-nodes g (suc p) (and-more refl refl s) (t .1))
   typed-nodes (variable n) p {binders} s t =
