@@ -246,6 +246,7 @@ fn refusals_lead_back_to_their_parts() {
         let sheet = match random.below(5) {
             0 => generate::overfull_sheet(random),
             1 | 2 => generate::untyped_sheet(random),
+            3 => generate::nearly_unfinished_sheet(random),
             _ => generate::nearly_passing_sheet(random),
         };
         // With 3 bytes a number, none of these sheets is too long.
@@ -282,10 +283,10 @@ fn runs_give_the_sheets_own_answer() {
     let mut tally = BTreeMap::new();
     for case in 0..cases {
         let random = &mut for_case(seed, case);
-        let sheet = if random.once_in(3) {
-            generate::untyped_sheet(random)
-        } else {
-            generate::passing_sheet(random)
+        let sheet = match random.below(3) {
+            0 => generate::untyped_sheet(random),
+            1 => generate::unfinished_sheet(random),
+            _ => generate::passing_sheet(random),
         };
         let sheet = sheet.as_bytes();
         for engine in engines() {
@@ -319,9 +320,10 @@ fn runs_give_the_sheets_own_answer() {
 /// A sheet, and the same with its repetitions spelled out as fixed points, if it has some and both keep
 /// the limits: a repetition that is spelled out has four nodes more.
 fn two_spellings(random: &mut Random) -> Option<[builder::Sheet; 2]> {
-    let sheet = match random.below(4) {
+    let sheet = match random.below(5) {
         0 | 1 => generate::passing_sheet(random),
         2 => generate::nearly_passing_sheet(random),
+        3 => generate::nearly_unfinished_sheet(random),
         _ => generate::untyped_sheet(random),
     };
     let spelled_out = generate::spelled_out_sheet(&sheet);

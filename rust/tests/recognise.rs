@@ -23,9 +23,10 @@ use std::collections::BTreeMap;
 use vinzagew::{stack_length, RECOGNISER_TEXT_LIMIT, SHEET_LIMIT};
 use vinzagew_reference::answer;
 use vinzagew_reference::answer::longest_front;
-use vinzagew_reference::recogniser::{descend, languages, lex, Language};
-use vinzagew_reference::sheet::{Kind, Node, Regex, Sheet};
-use vinzagew_reference::types::least_types;
+use vinzagew_reference::normal_form::derives_some;
+use vinzagew_reference::recogniser::{descend, lex};
+use vinzagew_reference::sheet::{Kind, Regex, Sheet};
+use vinzagew_reference::types::{least_types, least_types_by, Type};
 
 /// How many cases a random test has if `VINZAGEW_CASES` does not say. From so many on, everything
 /// that is counted must come up.
@@ -262,37 +263,26 @@ fn recognised_as_run() {
     assert!(cases < CASES || tally.keys().eq(&all), "{tally:?}");
 }
 
-/// Figure 2's nullable and first set of each node, which know nothing of what denotes nothing.
-fn by_types(nodes: &[Node]) -> Vec<Language> {
-    let types = least_types(nodes).into_iter();
-    types
-        .map(|own| Language {
-            inhabited: true,
-            nullable: own.nullable,
-            first: own.first,
-        })
-        .collect()
-}
-
 /// What is counted of a case, and whether it is so here.
 type Events = Vec<(&'static str, bool)>;
 
 /// What is counted of a sheet that passes and of a text's tokens.
 fn sheet_events(sheet: &Sheet, text: &[u8], number: u64) -> Events {
-    let found = languages(&sheet.nodes);
+    let nodes = &sheet.nodes;
     let (tokens, unmatched) = lex(sheet, text);
     let tokens: Vec<u64> = tokens.into_iter().map(|(token, _)| token).collect();
-    let none = !found[0].inhabited;
+    let derives_some = derives_some(nodes);
+    let none = !derives_some[0];
     let some_kind = |kind: fn(&Kind) -> bool| sheet.nodes.iter().any(|node| kind(&node.kind));
-    let by_types = || descend(&sheet.nodes, &by_types(&sheet.nodes), &tokens);
-    let entered = || by_types() != descend(&sheet.nodes, &found, &tokens);
+    // By these types a branch that denotes nothing may have tokens in FIRST.
+    let flap_types = || least_types_by(nodes, Type::flap_sequence);
+    let by_flap_types = || descend(nodes, &flap_types(), &tokens);
+    let entered = || by_flap_types() != descend(nodes, &least_types(nodes), &tokens);
     vec![
-        ("part that denotes nothing", {
-            found.iter().any(|own| !own.inhabited)
-        }),
+        ("part that denotes nothing", derives_some.contains(&false)),
         ("whole that denotes nothing, 15", none && number == 15),
         ("whole that denotes nothing, 16", none && number == 16),
-        ("types would enter a dead branch", {
+        ("flap types would enter what denotes nothing", {
             !none && unmatched.is_none() && entered()
         }),
         ("variable, accepted", {
@@ -446,10 +436,38 @@ fn branches_that_denote_nothing() {
     let sheet = with_rules(&[7, 3, 2, 0, 1]);
     gives(&sheet, b"1", 15, 0, &[0]);
     gives(&sheet, b" ", 0, 1, &[]);
-    // S·(N·(μα.N·α) ∨ S): the dead branch is a fixed point without an end.
+    // S·(N·(μα.N·α) ∨ S): a fixed point without an end instead of ⊥.
     let sheet = with_rules(&[3, 2, 1, 4, 3, 2, 0, 5, 3, 2, 0, 6, 0, 2, 1]);
     gives(&sheet, b"/1", 15, 1, &[1, 0]);
     gives(&sheet, b"//", 0, 2, &[1, 1]);
+}
+
+/// Such a branch is not entered either if what it begins with may begin another part that could be
+/// read there.
+#[test]
+fn branches_that_denote_nothing_and_begin_like_other_parts() {
+    // N·⊥ ∨ N, and with the branch last: N alone.
+    for expression in [&[4, 3, 2, 0, 1, 2, 0][..], &[4, 2, 0, 3, 2, 0, 1]] {
+        let sheet = with_rules(expression);
+        gives(&sheet, b"1", 0, 1, &[0]);
+        gives(&sheet, b"1 1", 15, 2, &[0, 0]);
+        gives(&sheet, b"/", 15, 0, &[1]);
+        gives(&sheet, b"", 16, 0, &[]);
+    }
+    // N·(S·⊥ ∨ S·N) ∨ N·⊥
+    let parts = [
+        &[4, 3, 2, 0, 4, 3, 2, 1, 1, 3, 2, 1, 2, 0][..],
+        &[3, 2, 0, 1],
+    ];
+    let sheet = with_rules(&parts.concat());
+    gives(&sheet, b"1/1", 0, 3, &[0, 1, 0]);
+    gives(&sheet, b"1//", 15, 2, &[0, 1, 1]);
+    gives(&sheet, b"1/", 16, 2, &[0, 1]);
+    // (S·(N·⊥ ∨ ε))·N: the N after S is that of the last part.
+    let sheet = with_rules(&[3, 3, 2, 1, 4, 3, 2, 0, 1, 0, 2, 0]);
+    gives(&sheet, b"/1", 0, 2, &[1, 0]);
+    gives(&sheet, b"/1 1", 15, 3, &[1, 0, 0]);
+    gives(&sheet, b"/", 16, 1, &[1]);
 }
 
 /// If the whole denotes nothing, the first token is 15, and a text without one 16.

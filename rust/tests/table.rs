@@ -47,7 +47,8 @@ struct Case {
 fn readable_image(random: &mut Random) -> (Image, Option<usize>) {
     let of_sheet = |sheet: vinzagew::builder::Sheet| image_of(sheet.as_bytes()).expect("it passes");
     let image = match random.below(16) {
-        0..=2 => of_sheet(generate::passing_sheet(random)),
+        0 | 1 => of_sheet(generate::passing_sheet(random)),
+        2 => of_sheet(generate::unfinished_sheet(random)),
         3 | 4 => of_sheet(generate::overlapping_sheet(random)),
         5 => of_sheet(generate::large_sheet(random)),
         6 | 7 => generate::readable_image(random),

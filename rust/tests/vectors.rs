@@ -1,13 +1,17 @@
 //! The test vectors, against the reference and, if it was linked, the library.
 //!
-//! The vectors come from elsewhere and say what is right; nothing is made up here. Where a vector names a
-//! length, that much is lent; where it names none, enough. Two requests changed what older files say:
+//! The vectors come from elsewhere and say what is right; nothing is made up here. Where a vector
+//! names a length, that much is lent; where it names none, enough. Three requests changed what
+//! older files say:
 //!
 //! - Before request 3 a padded number was refused in sheets too. The vectors that say so are told apart by
 //!   [`padded_place`], counted for each file, and held against their twins in the fewest bytes.
 //! - Before request 4 the lower of two rules won, whatever their kinds, and images numbered the rules as they
 //!   stand. The vectors to which this matters are told apart by [`order_matters`], counted for each file, and
 //!   held against the same sheets without word rules, of which it is still so.
+//! - Before request 8 sequences had the types of the flap paper, and 9 or 10 was said of nodes that
+//!   are separable or apart now. The vectors that say so are told apart by [`retyped`], counted for
+//!   each file, and held against those types, of which it is still so.
 
 mod common;
 
@@ -23,7 +27,8 @@ use vinzagew::stack_length;
 use vinzagew_reference::answer;
 use vinzagew_reference::image::Image;
 use vinzagew_reference::number;
-use vinzagew_reference::sheet::Sheet;
+use vinzagew_reference::sheet::{Kind, Node, Sheet};
+use vinzagew_reference::types::{check_by, least_types, least_types_by, SequenceType, Type};
 use vinzagew_reference::Table;
 
 /// A file of vectors.
@@ -42,16 +47,19 @@ struct File {
     /// To how many of its vectors it matters that word rules win over patterns: how many images, lengths that
     /// are needed, readings and lines differ. In the files before that of request 4 it changes these.
     order_matters: [usize; 4],
-    /// How many of its vectors say something else than what is right now. One of the base and one of request 1
-    /// both requests change.
+    /// How many of its vectors request 8 changes.
+    retyped: usize,
+    /// How many of its vectors say something else than what is right now. One of the base and one
+    /// of request 1 both request 3 and request 4 change.
     changed: usize,
 }
 
 /// The files of vectors: of the base; of request 1, which has sheets with tag 7; of request 2, from
 /// which on sheets come with the verdict of checking; of request 3, which has sheets with padded
 /// numbers; of request 4, by which word rules win over patterns; of request 6, which has runs with
-/// a table; and of request 7, which has calls of the recogniser.
-const FILES: [File; 7] = [
+/// a table; of request 7, which has calls of the recogniser; and of request 8, by which sequences
+/// have the types of the typing paper.
+const FILES: [File; 8] = [
     File {
         name: "base",
         lines: include_str!("data/base.jsonl"),
@@ -61,7 +69,8 @@ const FILES: [File; 7] = [
         padded: 5,
         words_win: false,
         order_matters: [88, 30, 16, 8],
-        changed: 146,
+        retyped: 5,
+        changed: 151,
     },
     File {
         name: "request 1",
@@ -72,7 +81,8 @@ const FILES: [File; 7] = [
         padded: 3,
         words_win: false,
         order_matters: [91, 25, 12, 4],
-        changed: 134,
+        retyped: 3,
+        changed: 137,
     },
     File {
         name: "request 2",
@@ -83,7 +93,8 @@ const FILES: [File; 7] = [
         padded: 3,
         words_win: false,
         order_matters: [82, 25, 9, 5],
-        changed: 124,
+        retyped: 5,
+        changed: 129,
     },
     File {
         name: "request 3",
@@ -94,7 +105,8 @@ const FILES: [File; 7] = [
         padded: 0,
         words_win: false,
         order_matters: [96, 41, 14, 14],
-        changed: 165,
+        retyped: 5,
+        changed: 170,
     },
     File {
         name: "request 4",
@@ -105,7 +117,8 @@ const FILES: [File; 7] = [
         padded: 0,
         words_win: true,
         order_matters: [91, 20, 11, 8],
-        changed: 0,
+        retyped: 5,
+        changed: 5,
     },
     File {
         name: "request 6",
@@ -116,7 +129,8 @@ const FILES: [File; 7] = [
         padded: 0,
         words_win: true,
         order_matters: [66, 22, 6, 2],
-        changed: 0,
+        retyped: 2,
+        changed: 2,
     },
     File {
         name: "request 7",
@@ -127,6 +141,19 @@ const FILES: [File; 7] = [
         padded: 0,
         words_win: true,
         order_matters: [52, 19, 9, 6],
+        retyped: 4,
+        changed: 4,
+    },
+    File {
+        name: "request 8",
+        lines: include_str!("data/request-08.jsonl"),
+        of_each_kind: 250,
+        tables: 250,
+        recognised: 250,
+        padded: 0,
+        words_win: true,
+        order_matters: [53, 15, 5, 1],
+        retyped: 0,
         changed: 0,
     },
 ];
@@ -154,11 +181,12 @@ fn vectors(file: &File, kind: &str) -> Vec<Object> {
     vectors
 }
 
-/// Holds every vector of a kind that request 3 does not change, from all files, against every engine.
+/// Holds every vector of a kind that neither request 3 nor request 8 changes, from all files,
+/// against every engine.
 fn compare(kind: &str, differs: impl Fn(&File, Engine, &Object) -> Option<String>) {
     for file in &FILES {
         let mut vectors = vectors(file, kind);
-        vectors.retain(|vector| padded_place(vector).is_none());
+        vectors.retain(|vector| padded_place(vector).is_none() && !retyped(vector));
         for engine in engines() {
             let differences = vectors.iter().filter_map(|vector| {
                 let difference = differs(file, engine, vector)?;
@@ -228,6 +256,101 @@ fn padded_numbers_are_no_longer_3() {
                 let context = format!("{}, case {case}, {}", file.name, engine.name);
                 judged_as_unpadded(engine, vector, place, &context);
             }
+        }
+    }
+}
+
+/// The verdict on a vector's sheet, which can be read, if sequences are typed in this way. Only
+/// questions 8 to 10 are put.
+fn verdict_by(sequence: SequenceType, vector: &Object) -> [u64; 2] {
+    let sheet = Sheet::read(&vector.bytes("sheet")).expect("readable");
+    match check_by(&sheet.nodes, sequence) {
+        Ok(()) => [0, 0],
+        Err(refusal) => [refusal.number, refusal.place as u64],
+    }
+}
+
+/// The number and place with which a vector refuses its sheet; both 0 if it does not.
+fn refusal(vector: &Object) -> [u64; 2] {
+    match vector.text("kind") {
+        "compile" => verdict(vector),
+        "program" => verdict_of_line(vector.text("line")),
+        "recognise" if matches!(vector.number("number"), 1..=10) => {
+            ["number", "place"].map(|key| vector.number(key))
+        }
+        _ => [0, 0],
+    }
+}
+
+/// Whether request 8 changes a vector: it says 9 or 10 of a node of a sheet, and by the types of
+/// the typing paper the sheet passes or is refused for another node.
+fn retyped(vector: &Object) -> bool {
+    let told = refusal(vector);
+    matches!(told, [9 | 10, _]) && verdict_by(Type::sequence, vector) != told
+}
+
+/// Whether a part of the node at a place has another type by the flap paper.
+fn has_retyped_part(nodes: &[Node], place: u64) -> bool {
+    let flap = least_types_by(nodes, Type::flap_sequence);
+    let now = least_types(nodes);
+    let differs = |part: usize| flap[part] != now[part];
+    let node = nodes.iter().find(|node| node.place as u64 == place);
+    match node.expect("a node").kind {
+        Kind::Sequence(left, right) | Kind::Alternative(left, right) => {
+            differs(left) || differs(right)
+        }
+        Kind::Repetition(part) => differs(part),
+        _ => false,
+    }
+}
+
+/// Holds an older vector, which says 9 or 10 of a sheet that is judged in another way now, against
+/// an engine. By the flap paper's types what it says is so, and a part of the node that it names
+/// has another type now. The sheet passes, or is refused for a later node, and the engine gives
+/// what the reference gives.
+fn judged_by_other_types(engine: Engine, vector: &Object, context: &str) {
+    let told = refusal(vector);
+    assert_eq!(verdict_by(Type::flap_sequence, vector), told, "{context}");
+    let sheet = &vector.bytes("sheet");
+    let nodes = Sheet::read(sheet).expect("readable").nodes;
+    assert!(has_retyped_part(&nodes, told[1]), "{context}");
+    let found = full_check(engine, sheet, 65_536);
+    assert_eq!(found, verdict_by(Type::sequence, vector), "{context}");
+    assert!(found == [0, 0] || found[1] > told[1], "{context}");
+    let expected = outcome(REFERENCE, vector, sheet);
+    assert_eq!(outcome(engine, vector, sheet), expected, "{context}");
+}
+
+/// The vectors that request 8 changes are as many as each file says. None is of the recogniser.
+#[test]
+fn what_denotes_nothing_is_no_longer_9_or_10() {
+    for file in &FILES {
+        let mut vectors = vectors_with_sheets(file);
+        vectors.retain(retyped);
+        assert_eq!(vectors.len(), file.retyped, "{}", file.name);
+        let of_recogniser = self::vectors(file, "recognise");
+        assert!(!of_recogniser.iter().any(retyped), "{}", file.name);
+        for vector in &vectors {
+            for engine in engines() {
+                let case = vector.number("case");
+                let context = format!("{}, case {case}, {}", file.name, engine.name);
+                judged_by_other_types(engine, vector, &context);
+            }
+        }
+    }
+}
+
+/// In the file of request 8 every kind of vector with a sheet has some that pass by the typing
+/// paper's types alone, refused before with 9 and with 10.
+#[test]
+fn unfinished_branches_come_up_in_request_8() {
+    for kind in ["compile", "read", "program", "recognise"] {
+        let mut vectors = vectors(&FILES[7], kind);
+        vectors.retain(|vector| Sheet::read(&vector.bytes("sheet")).is_ok());
+        vectors.retain(|vector| verdict_by(Type::sequence, vector) == [0, 0]);
+        for number in [9, 10] {
+            let some = |vector: &Object| verdict_by(Type::flap_sequence, vector)[0] == number;
+            assert!(vectors.iter().any(some), "{kind}, {number}");
         }
     }
 }
@@ -361,12 +484,13 @@ fn outcome(engine: Engine, vector: &Object, sheet: &[u8]) -> Outcome {
     }
 }
 
-/// Whether it matters to a vector that word rules win over patterns, and have the lower numbers in images: its
-/// sheet passes, and the reference gives something else if it has no word rule.
+/// Whether it matters to a vector that word rules win over patterns, and have the lower numbers in
+/// images: its sheet passes, as the vector says, and the reference gives something else if it has
+/// no word rule.
 fn order_matters(vector: &Object) -> bool {
     let sheet = &vector.bytes("sheet");
     let passes = |sheet: &[u8]| full_check(REFERENCE, sheet, 65_536) == [0, 0];
-    if !passes(sheet) {
+    if retyped(vector) || !passes(sheet) {
         return false;
     }
     let without = &without_words(sheet);
@@ -432,8 +556,8 @@ fn word_rules_win_over_patterns() {
     }
 }
 
-/// The vectors that say something else than what is right now are as many as each file says, and each is one
-/// that request 3 or request 4 changes.
+/// The vectors that say something else than what is right now are as many as each file says, and
+/// each is one that request 3, request 4 or request 8 changes.
 #[test]
 fn nothing_else_changed() {
     for file in &FILES {
@@ -444,7 +568,8 @@ fn nothing_else_changed() {
             .collect();
         assert_eq!(changed.len(), file.changed, "{}", file.name);
         for vector in changed {
-            let by_a_request = padded_place(vector).is_some() || order_matters(vector);
+            let by_a_request =
+                padded_place(vector).is_some() || order_matters(vector) || retyped(vector);
             assert!(
                 by_a_request,
                 "{}, case {}",
@@ -697,13 +822,21 @@ fn recognise_the_texts_that_are_read() {
     });
 }
 
-/// Every answer comes up in the calls of the recogniser but 2 and 6, and so do 14 after a 15 of the
-/// machine, lists that are longer than the text, and texts of 2,049 bytes.
+/// Every answer comes up in the calls of the recogniser, but 2 and 6 in neither file, and 10 not in
+/// that of request 8. In both there are also 14 after a 15 of the machine, lists that are longer
+/// than the text, and texts of 2,049 bytes.
 #[test]
-fn answers_of_request_7() {
-    let vectors = vectors(&FILES[6], "recognise");
+fn answers_of_the_recogniser() {
+    let numbers = [0, 1, 3, 4, 5, 7, 8, 9, 12, 14, 15, 16, 20];
+    recogniser_comes_up(&FILES[6], &[&numbers[..], &[10]].concat());
+    recogniser_comes_up(&FILES[7], &numbers);
+}
+
+/// All this comes up in the recogniser's calls of a file.
+fn recogniser_comes_up(file: &File, numbers: &[u64]) {
+    let vectors = vectors(file, "recognise");
     let some = |holds: &dyn Fn(&Object) -> bool| vectors.iter().any(holds);
-    for number in [0, 1, 3, 4, 5, 7, 8, 9, 10, 12, 14, 15, 16, 20] {
+    for &number in numbers {
         assert!(some(&|own| own.number("number") == number), "{number}");
     }
     assert!(some(

@@ -282,6 +282,30 @@ fn a_refused_repetition_is_named() {
     }
 }
 
+/// A branch that is not finished changes nothing, and a part that is refused is still named.
+#[test]
+fn an_unfinished_branch_is_left_out() {
+    let (number, slash) = tokens();
+    let unfinished = number.then(slash).then(Expression::bottom());
+    let finished = number.then(slash.then(number).star());
+    let sheet = builder().finish(unfinished.clone().or(finished)).unwrap();
+    let words = "expression node 0: (((N·S)·⊥) ∨ (N·(S·N)*))";
+    assert_eq!(sheet.locate(20).to_string(), words);
+    let refused = unfinished.or(number.or(number).label("twice"));
+    let refused = builder().finish(refused).unwrap();
+    for engine in engines() {
+        let (written, image) = full_write(engine, sheet.as_bytes(), 65_536, 65_536);
+        assert_eq!(written[0], 0);
+        let run = |text: &[u8]| full_run(engine, &image, text, stack_length(text.len()));
+        assert_eq!(run(b"12 /7"), [0, 5, 3]);
+        assert_eq!(run(b"12/"), [16, 3, 2]);
+        assert_eq!(run(b"12//"), [15, 3, 2]);
+        assert_eq!(full_check(engine, refused.as_bytes(), 65_536), [10, 28]);
+    }
+    let words = "expression node 6 in twice: (N ∨ N)";
+    assert_eq!(refused.locate(28).to_string(), words);
+}
+
 #[test]
 fn a_variable_outside_its_fixed_point_is_refused() {
     let error = builder().finish(Expression::variable("x")).unwrap_err();

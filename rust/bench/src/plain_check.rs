@@ -300,7 +300,8 @@ pub struct Type {
     pub nullable: u32,
 }
 
-const LEAST: Type = Type {
+/// The type of the empty language.
+pub const LEAST: Type = Type {
     first: 0,
     follow_last: 0,
     nullable: 0,
@@ -396,6 +397,7 @@ fn from_parts(types: &[Type; NODE_LIMIT], index: usize, node: Node) -> Type {
             first: 1 << (node.other % 32),
             ..LEAST
         },
+        SEQUENCE if one == LEAST || other == LEAST => LEAST,
         SEQUENCE => Type {
             first: one.first | one.nullable & other.first,
             follow_last: other.follow_last | other.nullable & (other.first | one.follow_last),

@@ -152,7 +152,14 @@ impl Chart {
 
 /// Whether the expression denotes the tokens.
 pub fn denotes(nodes: &[Node], tokens: &[u64]) -> bool {
-    Chart::new(nodes, tokens).get(0, 0, tokens.len())
+    which_denote(nodes, tokens)[0]
+}
+
+/// For each node, whether it denotes the tokens. A variable denotes what its fixed point does.
+pub fn which_denote(nodes: &[Node], tokens: &[u64]) -> Vec<bool> {
+    let chart = Chart::new(nodes, tokens);
+    let all = 0..nodes.len();
+    all.map(|node| chart.get(node, 0, tokens.len())).collect()
 }
 
 /// For each node and each place, whether some sequence that the node denotes begins with the tokens
@@ -161,6 +168,11 @@ type Fronts = Vec<Vec<bool>>;
 
 /// Whether some sequence that the expression denotes begins with the tokens.
 pub fn begins(nodes: &[Node], tokens: &[u64]) -> bool {
+    which_begin(nodes, tokens)[0]
+}
+
+/// For each node, whether some sequence that it denotes begins with the tokens.
+pub fn which_begin(nodes: &[Node], tokens: &[u64]) -> Vec<bool> {
     let chart = Chart::new(nodes, tokens);
     let mut fronts: Fronts = vec![vec![false; tokens.len() + 1]; nodes.len()];
     let mut changed = true;
@@ -175,7 +187,7 @@ pub fn begins(nodes: &[Node], tokens: &[u64]) -> bool {
             }
         }
     }
-    fronts[0][0]
+    fronts.into_iter().map(|own| own[0]).collect()
 }
 
 /// What the equation of a node says of the tokens from a place on.

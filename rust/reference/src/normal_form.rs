@@ -11,7 +11,8 @@ pub enum Production {
     Token(u64, Vec<usize>),
 }
 
-/// The productions of a node, for an expression that passed questions 8 to 10.
+/// The productions of a node, for an expression that passed questions 8 to 10. The same token may
+/// come several times, but at most one of them is in a branch that denotes something.
 pub fn productions(nodes: &[Node], node: usize) -> Vec<Production> {
     match nodes[node].kind {
         Kind::Epsilon => vec![Production::Epsilon],
@@ -46,8 +47,8 @@ fn followed_by(mut productions: Vec<Production>, node: usize) -> Vec<Production>
 }
 
 /// For each node, whether it derives some token sequence.
-pub fn fruitful(nodes: &[Node]) -> Vec<bool> {
-    let mut fruitful = vec![false; nodes.len()];
+pub fn derives_some(nodes: &[Node]) -> Vec<bool> {
+    let mut derives_some = vec![false; nodes.len()];
     loop {
         let next: Vec<bool> = nodes
             .iter()
@@ -55,27 +56,28 @@ pub fn fruitful(nodes: &[Node]) -> Vec<bool> {
                 // A repetition derives the empty sequence, whatever its part derives.
                 Kind::Epsilon | Kind::Token(_) | Kind::Repetition(_) => true,
                 Kind::Bottom => false,
-                Kind::Sequence(left, right) => fruitful[left] && fruitful[right],
-                Kind::Alternative(left, right) => fruitful[left] || fruitful[right],
-                Kind::Fix(other) | Kind::Variable(other) => fruitful[other],
+                Kind::Sequence(left, right) => derives_some[left] && derives_some[right],
+                Kind::Alternative(left, right) => derives_some[left] || derives_some[right],
+                Kind::Fix(other) | Kind::Variable(other) => derives_some[other],
             })
             .collect();
-        if next == fruitful {
-            return fruitful;
+        if next == derives_some {
+            return derives_some;
         }
-        fruitful = next;
+        derives_some = next;
     }
 }
 
-/// The productions of every node, without those whose tail holds a node that derives nothing.
+/// The productions of every node, without those whose tail holds a node that derives nothing. Now
+/// no token comes twice.
 pub fn normal_form(nodes: &[Node]) -> Vec<Vec<Production>> {
-    let fruitful = fruitful(nodes);
+    let derives_some = derives_some(nodes);
     (0..nodes.len())
         .map(|node| {
             let mut productions = productions(nodes, node);
             productions.retain(|production| match production {
                 Production::Epsilon => true,
-                Production::Token(_, tail) => tail.iter().all(|&member| fruitful[member]),
+                Production::Token(_, tail) => tail.iter().all(|&member| derives_some[member]),
             });
             productions
         })

@@ -6,80 +6,12 @@ use crate::image::{numbered, Image};
 use crate::lexer::positions;
 use crate::machine::{longest_match, Ran};
 use crate::sheet::{Kind, Node, Sheet, NODE_LIMIT};
+use crate::types::{least_types, Type};
 use crate::{check, Refusal};
 use std::thread;
 
 /// The most bytes that a text for the recogniser may have.
 pub const RECOGNISER_TEXT_LIMIT: usize = 2_048;
-
-/// What is known of the sequences that a node denotes. Each of the three is exact, so that a branch
-/// which denotes nothing has nothing in its first set; Figure 2's types are larger.
-#[derive(Clone, Copy, Debug, Default, PartialEq, Eq)]
-pub struct Language {
-    /// Whether there is any.
-    pub inhabited: bool,
-    /// Whether the empty one is among them.
-    pub nullable: bool,
-    /// The tokens that begin one; bit k for token k.
-    pub first: u32,
-}
-
-impl Language {
-    fn sequence(self, other: Language) -> Language {
-        if !self.inhabited || !other.inhabited {
-            return Language::default();
-        }
-        Language {
-            inhabited: true,
-            nullable: self.nullable && other.nullable,
-            first: self.first | if self.nullable { other.first } else { 0 },
-        }
-    }
-
-    fn alternative(self, other: Language) -> Language {
-        Language {
-            inhabited: self.inhabited || other.inhabited,
-            nullable: self.nullable || other.nullable,
-            first: self.first | other.first,
-        }
-    }
-
-    fn begins_with(self, token: u64) -> bool {
-        self.first >> token & 1 == 1
-    }
-}
-
-/// What is known of the sequences that each node denotes: the least solution for all nodes
-/// together.
-pub fn languages(nodes: &[Node]) -> Vec<Language> {
-    const EMPTY_WORD: Language = Language {
-        inhabited: true,
-        nullable: true,
-        first: 0,
-    };
-    let mut found = vec![Language::default(); nodes.len()];
-    loop {
-        let step = |(index, node): (usize, &Node)| match node.kind {
-            Kind::Epsilon => EMPTY_WORD,
-            Kind::Bottom => Language::default(),
-            Kind::Token(token) => Language {
-                inhabited: true,
-                nullable: false,
-                first: 1 << token,
-            },
-            Kind::Sequence(left, right) => found[left].sequence(found[right]),
-            Kind::Alternative(left, right) => found[left].alternative(found[right]),
-            Kind::Fix(other) | Kind::Variable(other) => found[other],
-            // As μβ.(ε ∨ part·β), where β is the repetition itself.
-            Kind::Repetition(part) => EMPTY_WORD.alternative(found[part].sequence(found[index])),
-        };
-        let next: Vec<Language> = nodes.iter().enumerate().map(step).collect();
-        if next == found {
-            return found;
-        }
-        found = next;
-    }
-}
 
 /// How a descent ends.
 #[derive(Clone, Copy, Debug, PartialEq, Eq)]
@@ -94,7 +26,7 @@ pub enum Descent {
 /// The expression and the tokens that are descended.
 struct Descending<'a> {
     nodes: &'a [Node],
-    languages: &'a [Language],
+    types: &'a [Type],
     tokens: &'a [u64],
 }
 
@@ -124,7 +56,7 @@ impl Descending<'_> {
     /// The part that has the token in its first set; else the part that is nullable. At the end
     /// of the tokens neither is descended.
     fn alternative(&self, one: usize, other: usize, left: usize) -> Descent {
-        let [first, second] = [one, other].map(|part| self.languages[part]);
+        let [first, second] = [one, other].map(|part| self.types[part]);
         match self.next(left) {
             Some(token) if first.begins_with(token) => self.node(one, left),
             Some(token) if second.begins_with(token) => self.node(other, left),
@@ -137,7 +69,7 @@ impl Descending<'_> {
 
     /// The part again and again, as long as it has the token in its first set.
     fn repetition(&self, part: usize, mut left: usize) -> Descent {
-        let begins = |token| self.languages[part].begins_with(token);
+        let begins = |token| self.types[part].begins_with(token);
         while self.next(left).map_or(false, begins) {
             match self.node(part, left) {
                 Descent::Left(after) => left = after,
@@ -153,16 +85,19 @@ impl Descending<'_> {
 const STACK_BYTES: usize = (RECOGNISER_TEXT_LIMIT + 1) * (NODE_LIMIT + 1) * 1_024;
 
 /// Descends an expression that passed questions 8 to 10 over tokens, of which there are at most
-/// 2,048. Of what the nodes denote only `languages` is asked. An expression that denotes nothing is
-/// not entered.
-pub fn descend(nodes: &[Node], languages: &[Language], tokens: &[u64]) -> Descent {
+/// 2,048. Of what the nodes denote only `types` is asked.
+///
+/// A node that denotes nothing has the type of the empty language and is not entered. For the whole
+/// that is asked here. A part of an alternative or a repetition is entered only if its type has the
+/// token or is nullable. A sequence that is entered has no such part.
+pub fn descend(nodes: &[Node], types: &[Type], tokens: &[u64]) -> Descent {
     assert!(tokens.len() <= RECOGNISER_TEXT_LIMIT);
-    if !languages[0].inhabited {
+    if types[0] == Type::BOTTOM {
         return Descent::Stuck(tokens.len());
     }
     let descending = Descending {
         nodes,
-        languages,
+        types,
         tokens,
     };
     thread::scope(|scope| {
@@ -231,7 +166,7 @@ pub fn recognise(sheet: &[u8], text: &[u8], work: &mut [u8], list: &mut [u8]) ->
         return answer(14, place);
     }
     let tokens: Vec<u64> = found.iter().map(|(token, _)| *token).collect();
-    match descend(&sheet.nodes, &languages(&sheet.nodes), &tokens) {
+    match descend(&sheet.nodes, &least_types(&sheet.nodes), &tokens) {
         Descent::Left(0) => answer(0, text.len()),
         Descent::Stuck(0) => answer(16, text.len()),
         Descent::Left(left) | Descent::Stuck(left) => answer(15, found[found.len() - left].1),

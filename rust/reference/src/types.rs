@@ -1,10 +1,13 @@
-//! Figure 2: the least types of all nodes, and questions 8 to 10.
+//! The least types of all nodes, by Figure 2 of the typing paper, and questions 8 to 10.
+//!
+//! The flap paper's type of a sequence is here too. It is part of the other, and by itself it
+//! decides nothing.
 
 use crate::sheet::{Kind, Node};
 use crate::Refusal;
 
 /// A type; a set of tokens has bit k for token k.
-#[derive(Clone, Copy, Debug, Default, PartialEq, Eq)]
+#[derive(Clone, Copy, Debug, PartialEq, Eq)]
 pub struct Type {
     /// Whether the empty sequence may be denoted.
     pub nullable: bool,
@@ -14,13 +17,27 @@ pub struct Type {
     pub follow_last: u32,
 }
 
+/// How the type of a sequence is made of those of its parts.
+pub type SequenceType = fn(Type, Type) -> Type;
+
 impl Type {
-    /// The type of ε.
-    const EPSILON: Type = Type {
-        nullable: true,
+    /// The type of the empty language.
+    pub const BOTTOM: Type = Type {
+        nullable: false,
         first: 0,
         follow_last: 0,
     };
+
+    /// The type of ε.
+    const EPSILON: Type = Type {
+        nullable: true,
+        ..Type::BOTTOM
+    };
+
+    /// Whether the token may begin a sequence.
+    pub fn begins_with(self, token: u64) -> bool {
+        self.first >> token & 1 == 1
+    }
 
     fn only_if(condition: bool, set: u32) -> u32 {
         if condition {
@@ -30,7 +47,19 @@ impl Type {
         }
     }
 
-    fn sequence(self, other: Type) -> Type {
+    /// The type of a sequence by the typing paper: if a part has the type of the empty language, so
+    /// has the sequence.
+    pub fn sequence(self, other: Type) -> Type {
+        if self == Type::BOTTOM || other == Type::BOTTOM {
+            Type::BOTTOM
+        } else {
+            self.flap_sequence(other)
+        }
+    }
+
+    /// The type of a sequence by the flap paper, which makes no exception for a part that has the
+    /// type of the empty language.
+    pub fn flap_sequence(self, other: Type) -> Type {
         Type {
             nullable: self.nullable && other.nullable,
             first: self.first | Type::only_if(self.nullable, other.first),
@@ -58,24 +87,29 @@ impl Type {
 
 /// The least types that solve the equations of all nodes together.
 pub fn least_types(nodes: &[Node]) -> Vec<Type> {
-    let mut types = vec![Type::default(); nodes.len()];
+    least_types_by(nodes, Type::sequence)
+}
+
+/// The same, with sequences typed in this way.
+pub fn least_types_by(nodes: &[Node], sequence: SequenceType) -> Vec<Type> {
+    let mut types = vec![Type::BOTTOM; nodes.len()];
     loop {
         let next: Vec<Type> = nodes
             .iter()
             .enumerate()
             .map(|(index, node)| match node.kind {
                 Kind::Epsilon => Type::EPSILON,
-                Kind::Bottom => Type::default(),
+                Kind::Bottom => Type::BOTTOM,
                 Kind::Token(token) => Type {
                     first: 1 << token,
-                    ..Type::default()
+                    ..Type::BOTTOM
                 },
-                Kind::Sequence(left, right) => types[left].sequence(types[right]),
+                Kind::Sequence(left, right) => sequence(types[left], types[right]),
                 Kind::Alternative(left, right) => types[left].alternative(types[right]),
                 Kind::Fix(other) | Kind::Variable(other) => types[other],
                 // As μβ.(ε ∨ part·β), where β has the repetition's own type.
                 Kind::Repetition(part) => {
-                    Type::EPSILON.alternative(types[part].sequence(types[index]))
+                    Type::EPSILON.alternative(sequence(types[part], types[index]))
                 }
             })
             .collect();
@@ -92,11 +126,20 @@ pub fn least_types(nodes: &[Node]) -> Vec<Type> {
 ///
 /// The first question that is answered with no.
 pub fn check(nodes: &[Node]) -> Result<(), Refusal> {
-    check_node(nodes, &least_types(nodes), 0, 0, 0)
+    check_by(nodes, Type::sequence)
 }
 
-/// Checks a node under Figure 2's two contexts, each a set of fixed points. A node comes before its
-/// parts, and the left part before the right one: that is sheet order.
+/// The same, with sequences typed in this way.
+///
+/// # Errors
+///
+/// The first question that is answered with no.
+pub fn check_by(nodes: &[Node], sequence: SequenceType) -> Result<(), Refusal> {
+    check_node(nodes, &least_types_by(nodes, sequence), 0, 0, 0)
+}
+
+/// Checks a node under the two contexts of the flap paper's Figure 2, each a set of fixed points. A
+/// node comes before its parts, and the left part before the right one: that is sheet order.
 fn check_node(
     nodes: &[Node],
     types: &[Type],

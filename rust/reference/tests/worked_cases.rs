@@ -1,9 +1,11 @@
-//! The contract's worked cases, and those of requests 1 to 7 of document 02: no random ones.
+//! The contract's worked cases, and those of requests 1 to 8 of document 02: no random ones.
 
 use vinzagew_reference::image::Image;
+use vinzagew_reference::normal_form::{productions, Production};
 use vinzagew_reference::number::write_padded;
 use vinzagew_reference::sheet::Sheet;
 use vinzagew_reference::table::{NO_WINNER, TABLE_ENTRIES, WINNER_ENTRIES};
+use vinzagew_reference::types::{check_by, least_types, Type};
 use vinzagew_reference::{
     answer, check, recognise, run, run_table, stack_length, write, Ran, Refusal, Table, Written,
 };
@@ -75,7 +77,6 @@ fn other_expressions() {
     assert_eq!(refusal(&[3, 4, 0, 2, 0, 2, 1]), (9, 20));
     assert_eq!(refusal(&[5, 6, 0]), (8, 21));
     assert_eq!(refusal(&[5, 4, 6, 0, 4, 2, 0, 2, 0]), (10, 21));
-    assert_eq!(refusal(&[4, 3, 2, 0, 1, 2, 0]), (10, 20));
     let ends_in = |token| [3, 3, 2, 1, 5, 4, 0, 3, 2, 0, 6, 0, 2, token];
     assert_eq!(refusal(&ends_in(0)), (9, 20));
     assert_eq!(written(&with_rules(&ends_in(1))).0.number, 0);
@@ -765,4 +766,85 @@ fn questions_12_and_20() {
         assert!(list.iter().all(|&byte| byte == 0xa5));
     }
     assert_eq!(recognised(&sheet, &long[1..]), (0, 2_048, vec![0]));
+}
+
+/// What the flap paper's types say of an expression with sheet D's rules.
+fn flap_verdict(expression: &[u8]) -> (u64, usize) {
+    let nodes = Sheet::read(&with_rules(expression)).unwrap().nodes;
+    match check_by(&nodes, Type::flap_sequence) {
+        Ok(()) => (0, 0),
+        Err(Refusal { number, place }) => (number, place),
+    }
+}
+
+/// Request 8 of document 02: a sequence with a part of the empty language's type has that type.
+/// What the verdict was before, and what it is.
+#[test]
+fn unfinished_branches_and_their_verdicts() {
+    for (expression, before, now) in [
+        // N·⊥ ∨ N; N·(μα.N·α) ∨ N; N·⊥ ∨ N·⊥
+        (&[4, 3, 2, 0, 1, 2, 0][..], (10, 20), (0, 0)),
+        (&[4, 3, 2, 0, 5, 3, 2, 0, 6, 0, 2, 0], (10, 20), (0, 0)),
+        (&[4, 3, 2, 0, 1, 3, 2, 0, 1], (10, 20), (0, 0)),
+        // (S·(N·⊥ ∨ ε))·N
+        (&[3, 3, 2, 1, 4, 3, 2, 0, 1, 0, 2, 0], (9, 20), (0, 0)),
+        // ε·⊥; (N·⊥ ∨ ε)·N; ε* after a branch that is not finished
+        (&[3, 0, 1], (9, 20), (9, 20)),
+        (&[3, 4, 3, 2, 0, 1, 0, 2, 0], (9, 20), (9, 20)),
+        (&[4, 3, 2, 0, 1, 7, 0], (9, 25), (9, 25)),
+        // ⊥·N; (N·⊥)*
+        (&[3, 1, 2, 0], (0, 0), (0, 0)),
+        (&[7, 3, 2, 0, 1], (0, 0), (0, 0)),
+        // N·⊥ ∨ (N ∨ N); N·⊥ ∨ N·μα.α
+        (&[4, 3, 2, 0, 1, 4, 2, 0, 2, 0], (10, 20), (10, 25)),
+        (&[4, 3, 2, 0, 1, 3, 2, 0, 5, 6, 0], (10, 20), (8, 29)),
+    ] {
+        assert_eq!(flap_verdict(expression), before);
+        assert_eq!(verdict(&with_rules(expression)), now);
+    }
+}
+
+/// The image and the readings are those of the expression without the branch.
+#[test]
+fn unfinished_branches_add_nothing() {
+    let number = with_rules(&[2, 0]);
+    for expression in [
+        // N·⊥ ∨ N; N ∨ N·⊥; N·(μα.N·α) ∨ N; (N·⊥ ∨ N·⊥) ∨ N
+        &[4, 3, 2, 0, 1, 2, 0][..],
+        &[4, 2, 0, 3, 2, 0, 1],
+        &[4, 3, 2, 0, 5, 3, 2, 0, 6, 0, 2, 0],
+        &[4, 4, 3, 2, 0, 1, 3, 2, 0, 1, 2, 0],
+    ] {
+        let sheet = with_rules(expression);
+        assert_eq!(written(&sheet).1, written(&number).1);
+        assert_eq!(written(&sheet).1[27..], [1, 0, 1, 2, 0]);
+        for text in [&b"1"[..], b"", b"1 2", b"/", b"1/"] {
+            assert_eq!(read(&sheet, text), read(&number, text));
+            assert_eq!(recognised(&sheet, text), recognised(&number, text));
+        }
+    }
+    // (S·(N·⊥ ∨ ε))·N: the N after S is that of the last part.
+    let sheet = with_rules(&[3, 3, 2, 1, 4, 3, 2, 0, 1, 0, 2, 0]);
+    assert_eq!(read(&sheet, b"/1"), (0, 2, 2));
+    assert_eq!(recognised(&sheet, b"/1"), (0, 2, vec![1, 0]));
+    assert_eq!(read(&sheet, b"/1 1"), (15, 3, 2));
+    assert_eq!(read(&sheet, b"/"), (16, 1, 1));
+}
+
+/// μα.N·μβ.(α ∨ α)·β: all nodes but N have the type of the empty language, so the two α are apart.
+#[test]
+fn alternatives_of_what_denotes_nothing() {
+    let expression = [5, 3, 2, 0, 5, 3, 4, 6, 1, 6, 1, 6, 0];
+    assert_eq!(flap_verdict(&expression), (10, 26));
+    let sheet = with_rules(&expression);
+    assert_eq!(written(&sheet).1[27..], [1, 0, 0]);
+    let nodes = Sheet::read(&sheet).unwrap().nodes;
+    let rows = [0, 3].map(|node| productions(&nodes, node));
+    assert_eq!(rows[0], [Production::Token(0, vec![3])]);
+    // Twice the same token with the same tail.
+    let one = Production::Token(0, vec![3, 8]);
+    assert_eq!(rows[1], [one.clone(), one]);
+    let types = least_types(&nodes).into_iter();
+    let others: Vec<bool> = types.map(|own| own != Type::BOTTOM).collect();
+    assert_eq!(others, [0, 1, 2, 3, 4, 5, 6, 7, 8].map(|node| node == 2));
 }

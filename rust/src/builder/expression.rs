@@ -113,7 +113,29 @@ impl Expression {
         Expression::Epsilon
     }
 
-    /// No token sequence.
+    /// No token sequence: what an author leaves where a branch is still to come.
+    ///
+    /// A sequence with a part that denotes nothing denotes nothing, and so does a fixed point that
+    /// never ends, such as μx.a·x. A branch that denotes nothing is never entered: it takes no
+    /// token, and what stands before ⊥ in it may be what another branch begins with. Its parts are
+    /// still checked: ε·⊥ is refused with 9.
+    #[cfg_attr(vinzagew_library, doc = "```")]
+    #[cfg_attr(not(vinzagew_library), doc = "```no_run")]
+    /// use vinzagew::builder::{Expression, Regex, SheetBuilder};
+    ///
+    /// let mut builder = SheetBuilder::new();
+    /// let number = builder.token("number");
+    /// builder.rule(number, Regex::class(b'0', b'9').plus());
+    /// builder.skip(Regex::byte(b' '));
+    /// let unfinished = number.then(Expression::bottom());
+    /// let sheet = builder.finish(unfinished.or(number))?;
+    ///
+    /// let image = vinzagew::write(sheet.as_bytes())?;
+    /// assert_eq!(image.run(b"12"), Ok(1));
+    /// let refusal = image.run(b"12 7").unwrap_err();
+    /// assert_eq!((refusal.number, refusal.place), (15, 3));
+    /// # Ok::<(), Box<dyn std::error::Error>>(())
+    /// ```
     pub fn bottom() -> Expression {
         Expression::Bottom
     }

@@ -5,8 +5,9 @@
 //! variables, and it leads from the place of a refusal back to the part that was written there: see
 //! [`Sheet::locate`].
 //!
-//! The builder refuses only what cannot be written down: a variable outside its fixed point, and a width
-//! that no number has. Limits, value ranges and types are the business of checking.
+//! The builder refuses only what cannot be written down: a variable outside its fixed point, and a
+//! width that no number has. Limits, value ranges and types are the business of checking. Where a
+//! branch is still to come, [`Expression::bottom`] stands for it.
 //!
 //! The longest match wins. Of two rules that match equally far, a word rule ([`Regex::is_word`]) wins over any
 //! other, and of two of a kind the one that was added first. So a name pattern may stand above a fixed word.

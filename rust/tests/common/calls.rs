@@ -162,13 +162,15 @@ pub fn sheet(random: &mut Random) -> Vec<u8> {
 /// A sheet of any kind, passing or not, with no number padded but by damage.
 fn unpadded_sheet(random: &mut Random) -> Vec<u8> {
     match random.below(27) {
-        0..=7 => generate::passing_sheet(random).to_bytes(),
+        0..=5 => generate::passing_sheet(random).to_bytes(),
+        6 | 7 => generate::unfinished_sheet(random).to_bytes(),
         8 => generate::long_tailed_sheet(random).to_bytes(),
         9..=13 => {
             let sheet = generate::passing_sheet(random).to_bytes();
             generate::damage(random, &sheet)
         }
-        14..=17 => generate::nearly_passing_sheet(random).to_bytes(),
+        14..=16 => generate::nearly_passing_sheet(random).to_bytes(),
+        17 => generate::nearly_unfinished_sheet(random).to_bytes(),
         18 | 19 => generate::untyped_sheet(random).to_bytes(),
         20 => generate::number_soup(random),
         21 if random.once_in(2) => generate::crowded_sheet(random),
@@ -417,9 +419,10 @@ pub fn list_length(random: &mut Random, text: &[u8]) -> usize {
 }
 
 fn recognise_call(random: &mut Random) -> Call {
-    let sheet = match random.below(4) {
+    let sheet = match random.below(6) {
         0 => sheet(random),
         1 => generate::unfinished_sheet(random).to_bytes(),
+        2 => generate::untyped_sheet(random).to_bytes(),
         _ => generate::passing_sheet(random).to_bytes(),
     };
     let text = text_for(random, &sheet);

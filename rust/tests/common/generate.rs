@@ -205,6 +205,14 @@ struct Bounds {
     avoid: u32,
 }
 
+/// Those of an expression that denotes nothing: its type is the empty language's and keeps any
+/// bounds.
+const NOTHING: Bounds = Bounds {
+    first: 0,
+    nullable: false,
+    avoid: u32::MAX,
+};
+
 /// An open fixed point.
 #[derive(Clone)]
 struct Open {
@@ -222,13 +230,23 @@ impl Open {
     }
 }
 
+/// The open fixed points, as they are in the right part of a sequence.
+fn guarded(open: &[Open]) -> Vec<Open> {
+    let guarded = |open: &Open| Open {
+        guarded: true,
+        ..open.clone()
+    };
+    open.iter().map(guarded).collect()
+}
+
 struct Typed<'a> {
     random: &'a mut Random,
     tokens: Vec<Token>,
     /// Whether a bound may be forgotten now and then, so that some node may fail its question.
     slips: bool,
-    /// In how many leaves one is ⊥.
-    bottoms: usize,
+    /// In how many expressions one has a branch beside it that denotes nothing, or is a repetition
+    /// of what denotes nothing. Of the leaves half as many are ⊥.
+    unfinished: usize,
 }
 
 impl Typed<'_> {
@@ -258,7 +276,7 @@ impl Typed<'_> {
             .copied()
             .filter(|token| bounds.first >> token.number() & 1 == 1)
             .collect();
-        if tokens.is_empty() || self.random.once_in(self.bottoms) {
+        if tokens.is_empty() || self.random.once_in(2 * self.unfinished) {
             return Expression::bottom();
         }
         Expression::token(*self.random.pick(&tokens))
@@ -266,6 +284,12 @@ impl Typed<'_> {
 
     /// An expression of at most `size` nodes that has a type within the bounds.
     fn expression(&mut self, size: usize, bounds: Bounds, open: &[Open]) -> Expression {
+        if bounds.first == 0 && !bounds.nullable {
+            return self.denoting_nothing(size, open);
+        }
+        if size >= 5 && self.random.once_in(self.unfinished) {
+            return self.with_unfinished(size, bounds, open);
+        }
         let repeats = bounds.nullable && self.random.once_in(3);
         let least = if repeats { 2 } else { 3 };
         if size < least || self.random.once_in(16) {
@@ -283,6 +307,70 @@ impl Typed<'_> {
         } else {
             made
         }
+    }
+
+    /// All tokens, as a set.
+    fn all(&self) -> u32 {
+        let numbers = self.tokens.iter().map(|token| token.number());
+        numbers.fold(0, |set, number| set | 1 << number)
+    }
+
+    /// An alternative with a branch that denotes nothing. That may begin with the tokens that the
+    /// other part begins with.
+    fn with_unfinished(&mut self, size: usize, bounds: Bounds, open: &[Open]) -> Expression {
+        let unfinished_size = self.random.range(1, size - 2);
+        let unfinished = self.denoting_nothing(unfinished_size, open);
+        let other = self.expression(size - 1 - unfinished_size, bounds, open);
+        match self.random.below(2) {
+            0 => unfinished.or(other),
+            _ => other.or(unfinished),
+        }
+    }
+
+    /// An expression of at most `size` nodes that denotes nothing. Of a sequence one part is such,
+    /// and the other need not be.
+    fn denoting_nothing(&mut self, size: usize, open: &[Open]) -> Expression {
+        if size < 3 || self.random.once_in(8) {
+            return self.leaf(NOTHING, open);
+        }
+        let left = self.random.range(1, size - 2);
+        let right = size - 1 - left;
+        let any = Bounds {
+            first: self.all(),
+            nullable: false,
+            avoid: 0,
+        };
+        let inner = guarded(open);
+        match self.random.below(8) {
+            0 | 1 => self.fix_denoting_nothing(size, open),
+            2 => {
+                let left = self.denoting_nothing(left, open);
+                left.or(self.denoting_nothing(right, open))
+            }
+            3 => {
+                let nullable = self.random.once_in(2);
+                let right_bounds = Bounds { nullable, ..any };
+                let left = self.denoting_nothing(left, open);
+                left.then(self.expression(right, right_bounds, &inner))
+            }
+            _ => {
+                let left = self.expression(left, any, open);
+                left.then(self.denoting_nothing(right, &inner))
+            }
+        }
+    }
+
+    /// A fixed point that denotes nothing, such as μα.N·α. Its variable denotes nothing either.
+    fn fix_denoting_nothing(&mut self, size: usize, open: &[Open]) -> Expression {
+        Expression::fix(|variable| {
+            let mut inner = open.to_vec();
+            inner.push(Open {
+                variable,
+                bounds: NOTHING,
+                guarded: self.slip(),
+            });
+            self.denoting_nothing(size - 1, &inner)
+        })
     }
 
     /// An alternative; its parts may have different open fixed points.
@@ -344,8 +432,8 @@ impl Typed<'_> {
         if self.slip() {
             part.avoid = 0;
         }
-        if self.random.once_in(40) {
-            return Expression::bottom().star();
+        if self.random.once_in(self.unfinished) {
+            return self.denoting_nothing(size - 1, open).star();
         }
         self.expression(size - 1, part, open).star()
     }
@@ -380,22 +468,13 @@ impl Typed<'_> {
     }
 
     fn sequence(&mut self, size: usize, bounds: Bounds, open: &[Open]) -> Expression {
-        let inner: Vec<Open> = open
-            .iter()
-            .map(|open| Open {
-                guarded: true,
-                ..open.clone()
-            })
-            .collect();
+        let inner = guarded(open);
         let left_size = match self.random.below(6) {
             0 | 1 => self.random.range(1, size - 2),
             2 => size - 2,
             _ => 1,
         };
-        let all = self
-            .tokens
-            .iter()
-            .fold(0, |set, token| set | 1 << token.number());
+        let all = self.all();
         let nullable = bounds.nullable && self.random.once_in(2);
         let nullable = nullable || self.random.once_in(3);
         let mut right = Bounds {
@@ -427,7 +506,7 @@ impl Typed<'_> {
     }
 }
 
-/// A sheet that passes checking.
+/// A sheet that passes checking. Some have branches that denote nothing.
 pub fn passing_sheet(random: &mut Random) -> Sheet {
     typed_sheet(random, false)
 }
@@ -451,10 +530,38 @@ pub fn overlapping_sheet(random: &mut Random) -> Sheet {
 
 /// A sheet that passes checking, with many branches that denote nothing.
 pub fn unfinished_sheet(random: &mut Random) -> Sheet {
+    sheet_with_unfinished(random, false)
+}
+
+/// A sheet with many branches that denote nothing, which would pass checking but for few nodes, if
+/// any.
+pub fn nearly_unfinished_sheet(random: &mut Random) -> Sheet {
+    sheet_with_unfinished(random, true)
+}
+
+fn sheet_with_unfinished(random: &mut Random, slips: bool) -> Sheet {
     let (builder, tokens) = rules(random);
-    let size = random.range(3, 40);
-    let expression = expression_within(random, tokens, size, false, 5);
+    let token = *random.pick(&tokens);
+    let size = match random.below(6) {
+        0 => NODE_LIMIT,
+        1 => random.range(41, NODE_LIMIT),
+        _ => random.range(3, 40),
+    };
+    let expression = expression_within(random, tokens, size, slips, 4);
+    let expression = match size {
+        NODE_LIMIT => filled_up(expression, token),
+        _ => expression,
+    };
     builder.finish(expression).expect("every variable is open")
+}
+
+/// The expression in 64 nodes: beside it branches that denote nothing, and around it fixed points
+/// that no variable names.
+fn filled_up(expression: Expression, token: Token) -> Expression {
+    let left = NODE_LIMIT - expression_nodes(&expression);
+    let branch = token.then(Expression::bottom());
+    let branches = (0..left / 4).fold(expression, |other, _| branch.clone().or(other));
+    (0..left % 4).fold(branches, |body, _| Expression::fix(|_| body))
 }
 
 /// A sheet that passes checking, with one to four tokens of one byte each and up to 64 expression
@@ -501,29 +608,28 @@ fn typed_expression(
     size: usize,
     slips: bool,
 ) -> Expression {
-    expression_within(random, tokens, size, slips, 40)
+    expression_within(random, tokens, size, slips, 20)
 }
 
-/// The same, with one ⊥ in so many leaves.
+/// The same, with a branch that denotes nothing in one of so many expressions.
 fn expression_within(
     random: &mut Random,
     tokens: Vec<Token>,
     size: usize,
     slips: bool,
-    bottoms: usize,
+    unfinished: usize,
 ) -> Expression {
-    let bounds = Bounds {
-        first: tokens
-            .iter()
-            .fold(0, |set, token| set | 1 << token.number()),
-        nullable: random.once_in(3),
-        avoid: 0,
-    };
+    let nullable = random.once_in(3);
     let mut typed = Typed {
         random,
         tokens,
         slips,
-        bottoms,
+        unfinished,
+    };
+    let bounds = Bounds {
+        first: typed.all(),
+        nullable,
+        avoid: 0,
     };
     typed.expression(size, bounds, &[])
 }
@@ -723,10 +829,14 @@ fn remade(
     builder.finish(expression).expect("every variable is open")
 }
 
+/// A sheet with the same tokens and rules and another expression.
+pub fn with_expression(sheet: &Sheet, expression: Expression) -> Sheet {
+    remade(sheet, |_, regex| regex.clone(), expression)
+}
+
 /// The sheet with each repetition written as the fixed point that it stands for.
 pub fn spelled_out_sheet(sheet: &Sheet) -> Sheet {
-    let expression = spelled_out(sheet.expression());
-    remade(sheet, |_, regex| regex.clone(), expression)
+    with_expression(sheet, spelled_out(sheet.expression()))
 }
 
 /// A large sheet of which one regex has a star, or a sequence and a class, too many.
@@ -751,7 +861,7 @@ fn untyped(
     if size < 3 || random.once_in(10) {
         return match random.below(8) {
             0 => Expression::epsilon(),
-            1 if random.once_in(4) => Expression::bottom(),
+            1 if random.once_in(2) => Expression::bottom(),
             2..=4 if !open.is_empty() => random.pick(open).clone(),
             _ => Expression::token(*random.pick(tokens)),
         };
