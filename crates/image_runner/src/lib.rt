@@ -67,7 +67,7 @@ fn build_and_run<'a>(
     text: &'a [u8],
     stack: &mut [u8],
 ) -> RunAnswer
-    requires { ⌜ (Short (scanner-by «by_rows» (now table) (now winners)) → ⊥)
+    requires { ⌜ (Short (scanner-by «by_rows» (now table) (now winners)) → ⊥) × (length (now text) ≤ 1048576)
         × ((i : Image) × Decoded (now image) (tables-of read (now tables) (now productions)) i × InRange i) ⌝ }
     ensures { λ r. ⌜ ((i : Image) → Decoded (now (image .entry)) (tables-of read (now (tables .entry)) (now (productions .entry))) i → InRange i
         → (ran r (lent-by «by_rows» (now (stack .exit)) (now (table .exit)) (now (winners .exit)))

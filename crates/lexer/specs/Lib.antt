@@ -9,5 +9,6 @@ pub mod Walk
 pub mod Table
 -- Cited by contracts, by what the requests claim and by proofs; the demands do not rest on it:
 pub mod SetWalk
+pub mod Alive
 -- Theorems about both:
 pub mod laws

@@ -13,6 +13,8 @@ pub mod LongestMatchLaws
 pub mod OrderedMatches
 pub mod PositionBounds
 pub mod LowestPosition
+pub mod ToldLaws
+pub mod AliveLaws
 pub mod TableLaws
 pub mod SetWalkExamples
 pub mod TableExamples

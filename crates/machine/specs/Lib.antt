@@ -7,5 +7,6 @@ pub mod OwnAnswer
 -- Cited by contracts, by what the requests claim and by proofs; the demands do not rest on it:
 pub mod Run
 pub mod Lexes
+pub mod Work
 -- Theorems about both:
 pub mod laws

@@ -10,4 +10,5 @@ pub mod AcceptanceLaws
 pub mod SpelledOutAnswers
 pub mod RunAnswers
 pub mod FaithfulImage
+pub mod WorkLaws
 pub mod Examples

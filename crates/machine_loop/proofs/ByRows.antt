@@ -7,7 +7,8 @@ use lib.ListN.{getD, length}
 use Rattle.basics.specs.Lists.{All}
 use Rattle.basics.specs.laws.Members.{all-of, all-member}
 use Rattle.lexer.specs.Table.{row-entries, no-winner, match-by-rows}
-use Rattle.lexer.specs.laws.TableLaws.{by-rows}
+use Rattle.lexer.specs.Alive.{Told, told, told-by-rows}
+use Rattle.lexer.specs.laws.TableLaws.{by-rows, told-rows}
 use Rattle.lexer.specs.Walk.{longest-match}
 use Rattle.table_scanner.specs.Rows.{RowsIn}
 use Rattle.table_scanner.specs.laws.BuiltRows.{built-rows}
@@ -43,3 +44,11 @@ module _ (i : Image) (range : InRange i) (table winners : List ℕ) (built : Bui
       e
       ∙ ap₂ (λ (t w : List ℕ). match-by-rows t w text) (built .entries) (built .row-winners)
       ∙ by-rows (i .positions) (i .first) below (built .few-rows) (built .more) (built .rest) text (all-entries row-entries text bytes)
+
+  -- What one walk by rows tells is what one walk tells.
+  pub told-by-table : (text : List ℕ) → ((j : ℕ) → getD text j 0 < row-entries) → (t : Told) → t ≡ told-by-rows table winners text
+      → t ≡ told (i .positions) (i .first) text
+  told-by-table text bytes t e =
+      e
+      ∙ ap₂ (λ (t w : List ℕ). told-by-rows t w text) (built .entries) (built .row-winners)
+      ∙ told-rows (i .positions) (i .first) below (built .few-rows) (built .more) (built .rest) text (all-entries row-entries text bytes)

@@ -1,3 +1,6 @@
--- The laws that the functions' proofs cite: what is found by rows, and how runs end.
+-- The laws that the functions' proofs cite: what is found by rows, what is seen at a place, and how runs end.
 pub mod ByRows
+pub mod Looking
+pub mod TurningLaws
+pub mod Charging
 pub mod Ending

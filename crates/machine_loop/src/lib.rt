@@ -1,25 +1,208 @@
 // The machine: runs a readable image over a text, turn by turn. Question 17 of a stack without an entry is answered here, the others by the
-// turns. What is asked before the text is read is not here.
+// turns. Walks are made once, and again where one is in vain; once these cost too much, the rest is read with alive positions. What is asked
+// before the text is read is not here.
 ghost use mathlib.Core.Path.{_≡_};
 ghost use mathlib.Core.List.{List};
-ghost use Prim.Native.Nat.{ℕ, _≤_};
-ghost use lib.ListN.{length, replicate};
+ghost use Prim.Native.Nat.{ℕ, _+_, _≤_, _<_, max};
+ghost use lib.ListN.{length, replicate, drop};
 ghost use Rattle.lexer.specs.Walk.{longest-match};
-ghost use Rattle.scanner.specs.Meaning.{match-of};
+ghost use Rattle.lexer.specs.Alive.{told};
+ghost use Rattle.scanner.specs.Meaning.{match-of, told-of};
 ghost use Rattle.image.specs.Image.{Image};
 ghost use Rattle.image_reader.specs.Decoded.{tables-of};
 ghost use Rattle.machine.specs.Trace.{Ended, answer-of};
 ghost use Rattle.machine.specs.Run.{trace};
+ghost use Rattle.machine.specs.Work.{budget};
 ghost use Rattle.machine_turn.specs.Steps.{answer-held};
-ghost use Rattle.machine_turn.specs.laws.Going.{Going, TurnsLead};
+ghost use Rattle.machine_turn.specs.laws.Going.{Going};
+ghost use Rattle.alive_scanner.specs.Ahead.{word-match, Ahead};
 ghost use Rattle.machine_loop.specs.Prepared.{WithTables};
+ghost use Rattle.machine_loop.specs.Turning.{SeenBy, SeenAt, Charged, TurnsLead, WordFits, PlainLead};
 use image_reader::ImageRead;
 use machine_turn::RunAnswer;
 use machine_turn::State;
 use machine_turn::Turn;
 use scanner::Found;
+use scanner::WalkEnd;
 
-// The longest match at the front of a text: by the rows of the image's table, or by sets of positions.
+// A text may be charged at least so many bytes.
+const LEAST_BUDGET: usize = 4096;
+
+// What is seen at a place: the match, or how many bytes a walk went over in vain, and 0 where it is not in vain.
+struct Seen {
+    found: Found,
+    vain: usize,
+}
+
+// What turns from a state on leave: the answer; a state, once a place is reached; or a state where a walk went over so many bytes in vain.
+enum Turns {
+    Done(RunAnswer),
+    Reached(State),
+    InVain(State, usize),
+}
+
+// The match that a word stands for.
+fn word_seen(word: u64) -> Seen
+    ensures { λ r. ⌜ (r .vain ≡ 0) × (match-of (r .found) ≡ word-match word) ⌝ }
+{
+    if word == 0 {
+        return Seen {
+            found: Found::Nothing,
+            vain: 0,
+        };
+    }
+    let rule = (word % 256) as u8;
+    let n = (word / 256) as usize;
+    Seen {
+        found: Found::Rule(rule, n),
+        vain: 0,
+    }
+}
+
+// What a walk tells.
+fn walk_seen(end: WalkEnd) -> Seen
+    ensures { λ r. ⌜ SeenBy r (told-of end) ⌝ }
+{
+    match end {
+        WalkEnd::Nothing => {
+            return Seen {
+                found: Found::Nothing,
+                vain: 0,
+            };
+        }
+        WalkEnd::Rule(rule, n) => {
+            return Seen {
+                found: Found::Rule(rule, n),
+                vain: 0,
+            };
+        }
+        WalkEnd::InVain(n) => {
+            return Seen {
+                found: Found::Nothing,
+                vain: n,
+            };
+        }
+    }
+}
+
+// One walk over the front of a text: by the rows of the image's table, or by sets of positions.
+fn walk<'a>(
+    text: &'a [u8],
+    read: ImageRead,
+    tables: &'a [u64; 448],
+    table: &'a [u16],
+    winners: &'a [u16],
+    by_rows: bool,
+) -> WalkEnd
+    requires { ⌜ ((image productions : List ℕ) × (i : Image)
+        × WithTables image (tables-of read (now tables) productions) «by_rows» (now table) (now winners) i) ⌝ }
+    ensures { λ r. ⌜ ((image productions : List ℕ) (i : Image)
+        → WithTables image (tables-of read (now (tables .entry)) productions) «by_rows» (now (table .entry)) (now (winners .entry)) i
+        → told-of r ≡ told (i .positions) (i .first) (now (text .entry))) ⌝ }
+{
+    if by_rows {
+        return table_scanner::walk_rows(text, table, winners);
+    }
+    scanner::walk_once(text, tables, read.last, read.first)
+}
+
+// What is seen at a place in a turn: the match that was found ahead for it, or what one walk tells.
+fn look<'a>(
+    text: &'a [u8],
+    place: usize,
+    read: ImageRead,
+    tables: &'a [u64; 448],
+    table: &'a [u16],
+    winners: &'a [u16],
+    by_rows: bool,
+    matches: &'a [u64],
+    turn: usize,
+) -> Seen
+    requires { ⌜ (place ≤ length (now text)) × ((image productions : List ℕ) × (i : Image)
+        × WithTables image (tables-of read (now tables) productions) «by_rows» (now table) (now winners) i) ⌝ }
+    ensures { λ r. ⌜ ((image productions : List ℕ) (i : Image)
+        → WithTables image (tables-of read (now (tables .entry)) productions) «by_rows» (now (table .entry)) (now (winners .entry)) i
+        → Ahead (i .positions) (i .first) (now (text .entry)) place (drop turn (now (matches .entry)))
+        → SeenAt i (now (text .entry)) place (drop turn (now (matches .entry))) r) ⌝ }
+{
+    if turn < matches.len() {
+        return word_seen(matches[turn]);
+    }
+    let end = walk(&text[place..], read, tables, table, winners, by_rows);
+    walk_seen(end)
+}
+
+// The turns of a readable image over a text, from a state on until a place is reached, a walk is in vain, or the run ends: the first by the
+// matches that were found ahead, the others by walks. There is one loop for all ways of finding a match, so that the compiler puts the code of
+// a turn into it: a function that is called from two places it leaves apart. So the walk that a walk in vain leads to is not made here.
+fn run_turns<'a>(
+    image: &[u8],
+    read: ImageRead,
+    tables: &'a [u64; 448],
+    productions: &[u16; 2048],
+    table: &'a [u16],
+    winners: &'a [u16],
+    by_rows: bool,
+    matches: &'a [u64],
+    text: &'a [u8],
+    stack: &mut [u8],
+    from: State,
+    stop: usize,
+) -> Turns
+    requires { ⌜ (stop ≤ length (now text)) × ((i : Image) × (whole : Ended)
+        × WithTables (now image) (tables-of read (now tables) (now productions)) «by_rows» (now table) (now winners) i
+        × Going i (now image) (tables-of read (now tables) (now productions)) (now text) (now stack) from whole
+        × Ahead (i .positions) (i .first) (now text) (from .place) (now matches)) ⌝ }
+    ensures { λ r. ⌜ ((i : Image) (whole : Ended)
+        → WithTables (now (image .entry)) (tables-of read (now (tables .entry)) (now (productions .entry))) «by_rows» (now (table .entry))
+        (now (winners .entry)) i
+        → Going i (now (image .entry)) (tables-of read (now (tables .entry)) (now (productions .entry))) (now (text .entry))
+        (now (stack .entry)) from whole
+        → Ahead (i .positions) (i .first) (now (text .entry)) (from .place) (now (matches .entry))
+        → TurnsLead i (now (image .entry)) (tables-of read (now (tables .entry)) (now (productions .entry))) (now (text .entry))
+        (from .place + length (now (matches .entry))) stop whole (now (stack .exit))
+        (Charged i (now (text .entry)) (from .place) (now (matches .entry))) r) ⌝ }
+{
+    let mut state = from;
+    let mut turn: usize = 0;
+    while state.place < stop {
+        let p = state.place;
+        let seen = look(
+            text,
+            p,
+            read,
+            tables,
+            table,
+            winners,
+            by_rows,
+            matches,
+            turn,
+        );
+        let vain = seen.vain;
+        if vain != 0 {
+            return Turns::InVain(state, vain);
+        }
+        let found = seen.found;
+        let after = machine_turn::one_turn(
+            image,
+            tables,
+            productions,
+            read.empty,
+            read.skips,
+            stack,
+            found,
+            state,
+        );
+        match after {
+            Turn::Done(done) => return Turns::Done(done),
+            Turn::Next(next) => state = next,
+        }
+        turn += 1;
+    }
+    Turns::Reached(state)
+}
+
+// The longest match at the front of a text, by a walk that notes it: by the rows of the image's table, or by sets of positions.
 fn scan<'a>(
     text: &'a [u8],
     read: ImageRead,
@@ -40,10 +223,92 @@ fn scan<'a>(
     scanner::longest_match(text, tables, read.last, read.first)
 }
 
-// The turns of a readable image over a text, by rows or by sets, from a state on until a place is reached or the run ends. With the text's
-// length as that place they are all turns, with the place after the state's own one turn. There is one loop for both ways of scanning, so
-// that the compiler puts the code of a turn into it: a function that is called from two places it leaves apart.
-fn run_turns<'a>(
+// The word of a match that is not empty, or of none.
+fn word_of(found: Found) -> u64
+    requires { ⌜ WordFits found ⌝ }
+    ensures { λ r. ⌜ word-match r ≡ match-of found ⌝ }
+{
+    match found {
+        Found::Nothing => return 0,
+        Found::Rule(rule, n) => return alive_scanner::match_word(rule, n),
+    }
+}
+
+// What may be charged for a text of so many bytes.
+fn budget_of(bytes: usize) -> usize
+    ensures { λ r. ⌜ r ≡ max bytes 4096 ⌝ }
+{
+    if bytes < LEAST_BUDGET {
+        return LEAST_BUDGET;
+    }
+    bytes
+}
+
+// All turns from the start, by walks. A walk in vain is made again, noting the match on the way, and the turn is made with that match, as one
+// found ahead. Both walks are charged. Once the budget does not allow it, the state is answered where the next walk is in vain. What is left on
+// the stack is not promised.
+fn run_plain<'a>(
+    image: &[u8],
+    read: ImageRead,
+    tables: &'a [u64; 448],
+    productions: &[u16; 2048],
+    table: &'a [u16],
+    winners: &'a [u16],
+    by_rows: bool,
+    text: &'a [u8],
+    stack: &mut [u8],
+) -> Turn
+    requires { ⌜ (length (now text) ≤ 1048576) × ((i : Image) × WithTables (now image) (tables-of read (now tables) (now productions)) «by_rows» (now table) (now winners) i) ⌝ }
+    ensures { λ r. ⌜ ((i : Image)
+        → WithTables (now (image .entry)) (tables-of read (now (tables .entry)) (now (productions .entry))) «by_rows» (now (table .entry))
+        (now (winners .entry)) i
+        → PlainLead i (now (image .entry)) (tables-of read (now (tables .entry)) (now (productions .entry))) (now (text .entry))
+        (trace i (length (now (stack .entry))) (now (text .entry))) (now (stack .exit)) r) ⌝ }
+{
+    if stack.len() < 1 {
+        return Turn::Done(machine_turn::answer(17, 0, 0));
+    }
+    let mut state = machine_turn::first_state();
+    let mut words = [0u64; 1];
+    let mut count: usize = 0;
+    let mut left = budget_of(text.len());
+    loop {
+        let stop = text.len();
+        let turned = run_turns(
+            image,
+            read,
+            tables,
+            productions,
+            table,
+            winners,
+            by_rows,
+            &words[..count],
+            text,
+            stack,
+            state,
+            stop,
+        );
+        match turned {
+            Turns::Done(done) => return Turn::Done(done),
+            Turns::Reached(s) => return Turn::Done(machine_turn::at_end(read.empty, stack, s)),
+            Turns::InVain(s, n) => {
+                if left < n + n {
+                    return Turn::Next(s);
+                }
+                left -= n + n;
+                let p = s.place;
+                let found = scan(&text[p..p + n], read, tables, table, winners, by_rows);
+                words[0] = word_of(found);
+                count = 1;
+                state = s;
+            }
+        }
+    }
+}
+
+// The turns from a state on, with alive positions: each byte is walked once. Their memory is this function's own, 41 KiB. No walk is in vain,
+// so the last case of what turns leave does not come; it would be read on from its state.
+fn run_rest<'a>(
     image: &[u8],
     read: ImageRead,
     tables: &'a [u64; 448],
@@ -54,9 +319,8 @@ fn run_turns<'a>(
     text: &'a [u8],
     stack: &mut [u8],
     from: State,
-    stop: usize,
-) -> Turn
-    requires { ⌜ (stop ≤ length (now text)) × ((i : Image) × (whole : Ended)
+) -> RunAnswer
+    requires { ⌜ (length (now text) ≤ 1048576) × ((i : Image) × (whole : Ended)
         × WithTables (now image) (tables-of read (now tables) (now productions)) «by_rows» (now table) (now winners) i
         × Going i (now image) (tables-of read (now tables) (now productions)) (now text) (now stack) from whole) ⌝ }
     ensures { λ r. ⌜ ((i : Image) (whole : Ended)
@@ -64,33 +328,73 @@ fn run_turns<'a>(
         (now (winners .entry)) i
         → Going i (now (image .entry)) (tables-of read (now (tables .entry)) (now (productions .entry))) (now (text .entry))
         (now (stack .entry)) from whole
-        → TurnsLead i (now (image .entry)) (tables-of read (now (tables .entry)) (now (productions .entry))) (now (text .entry)) stop whole
-        (now (stack .exit)) r) ⌝ }
+        → answer-held r ≡ answer-of whole) ⌝ }
 {
+    let unions = leading_sets::unions_of(tables);
+    let mut marks = [0u64; 1024];
+    let mut block = [0u64; 1024];
+    let mut words = [0u64; 1024];
+    let last = read.last;
+    let first = read.first;
+    let from_block = from.place / 1024;
+    alive_scanner::mark_blocks(
+        text,
+        from_block,
+        last,
+        tables,
+        &unions,
+        &mut marks,
+        &mut block,
+    );
     let mut state = from;
-    while state.place < stop {
+    let mut end: usize = 0;
+    while state.place < text.len() {
         let p = state.place;
-        let found = scan(&text[p..], read, tables, table, winners, by_rows);
-        let after = machine_turn::one_turn(
+        let ahead = alive_scanner::find_ahead(
+            text,
+            p,
+            end,
+            last,
+            first,
+            tables,
+            &unions,
+            &marks,
+            &mut block,
+            &mut words,
+        );
+        let count = ahead.count;
+        let turned = run_turns(
             image,
+            read,
             tables,
             productions,
-            read.empty,
-            read.skips,
+            table,
+            winners,
+            by_rows,
+            &words[..count],
+            text,
             stack,
-            found,
             state,
+            ahead.stop,
         );
-        match after {
-            Turn::Done(done) => return Turn::Done(done),
-            Turn::Next(next) => state = next,
+        match turned {
+            Turns::Done(done) => return done,
+            Turns::Reached(s) => {
+                state = s;
+                end = ahead.end;
+            }
+            Turns::InVain(s, n) => {
+                state = s;
+                end = 0;
+            }
         }
     }
-    Turn::Next(state)
+    machine_turn::at_end(read.empty, stack, state)
 }
 
-// All turns, from the start to the text's end. What is left on the stack is not promised.
-fn run_text<'a>(
+// The answer, from what the turns by walks left. The rest is called from two places, so that the compiler leaves it a function of its own: its
+// memory is then taken only where it is needed.
+fn run_on<'a>(
     image: &[u8],
     read: ImageRead,
     tables: &'a [u64; 448],
@@ -100,34 +404,48 @@ fn run_text<'a>(
     by_rows: bool,
     text: &'a [u8],
     stack: &mut [u8],
+    turned: Turn,
 ) -> RunAnswer
-    requires { ⌜ ((i : Image) × WithTables (now image) (tables-of read (now tables) (now productions)) «by_rows» (now table) (now winners) i) ⌝ }
-    ensures { λ r. ⌜ ((i : Image)
+    requires { ⌜ (length (now text) ≤ 1048576) × ((i : Image) × (whole : Ended)
+        × WithTables (now image) (tables-of read (now tables) (now productions)) «by_rows» (now table) (now winners) i
+        × PlainLead i (now image) (tables-of read (now tables) (now productions)) (now text) whole (now stack) turned) ⌝ }
+    ensures { λ r. ⌜ ((i : Image) (whole : Ended)
         → WithTables (now (image .entry)) (tables-of read (now (tables .entry)) (now (productions .entry))) «by_rows» (now (table .entry))
         (now (winners .entry)) i
-        → answer-held r ≡ answer-of (trace i (length (now (stack .entry))) (now (text .entry)))) ⌝ }
+        → PlainLead i (now (image .entry)) (tables-of read (now (tables .entry)) (now (productions .entry))) (now (text .entry)) whole
+        (now (stack .entry)) turned
+        → answer-held r ≡ answer-of whole) ⌝ }
 {
-    if stack.len() < 1 {
-        return machine_turn::answer(17, 0, 0);
-    }
-    let first = machine_turn::first_state();
-    let stop = text.len();
-    let turned = run_turns(
-        image,
-        read,
-        tables,
-        productions,
-        table,
-        winners,
-        by_rows,
-        text,
-        stack,
-        first,
-        stop,
-    );
     match turned {
         Turn::Done(done) => return done,
-        Turn::Next(last) => return machine_turn::at_end(read.empty, stack, last),
+        Turn::Next(at) => {
+            if by_rows {
+                return run_rest(
+                    image,
+                    read,
+                    tables,
+                    productions,
+                    table,
+                    winners,
+                    true,
+                    text,
+                    stack,
+                    at,
+                );
+            }
+            return run_rest(
+                image,
+                read,
+                tables,
+                productions,
+                table,
+                winners,
+                false,
+                text,
+                stack,
+                at,
+            );
+        }
     }
 }
 
@@ -144,13 +462,13 @@ pub fn run_image<'a>(
     text: &'a [u8],
     stack: &mut [u8],
 ) -> RunAnswer
-    requires { ⌜ ((i : Image) × WithTables (now image) (tables-of read (now tables) (now productions)) «by_rows» (now table) (now winners) i) ⌝ }
+    requires { ⌜ (length (now text) ≤ 1048576) × ((i : Image) × WithTables (now image) (tables-of read (now tables) (now productions)) «by_rows» (now table) (now winners) i) ⌝ }
     ensures { λ r. ⌜ (now (stack .exit) ≡ replicate (length (now (stack .entry))) 0) × ((i : Image)
         → WithTables (now (image .entry)) (tables-of read (now (tables .entry)) (now (productions .entry))) «by_rows» (now (table .entry))
         (now (winners .entry)) i
         → answer-held r ≡ answer-of (trace i (length (now (stack .entry))) (now (text .entry)))) ⌝ }
 {
-    let ran = run_text(
+    let turned = run_plain(
         image,
         read,
         tables,
@@ -160,6 +478,18 @@ pub fn run_image<'a>(
         by_rows,
         text,
         stack,
+    );
+    let ran = run_on(
+        image,
+        read,
+        tables,
+        productions,
+        table,
+        winners,
+        by_rows,
+        text,
+        stack,
+        turned,
     );
     let entries = stack.len();
     buffers::clear_front(stack, entries);

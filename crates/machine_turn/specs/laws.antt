@@ -3,3 +3,4 @@ pub mod StackLaws
 pub mod TakingLaws
 pub mod TurnLaws
 pub mod Going
+pub mod Places

@@ -1,4 +1,4 @@
--- The laws that the functions' proofs cite: the walk over a set, one byte by sets, and all bytes of a text.
+-- The laws that the functions' proofs cite: the walk over a set, one byte by sets, all bytes of a text, and a walk that notes no match.
 pub mod Walked
-pub mod Byte
 pub mod Text
+pub mod Once

@@ -8,10 +8,13 @@ use Rattle.basics.specs.Bits.{bit}
 use Rattle.lexer.specs.Positions.{Position}
 use Rattle.lexer.specs.Match.{Match, no-match, matched}
 use Rattle.lexer.specs.Walk.{keep, follows, ended-rule}
+use Rattle.lexer.specs.Alive.{Told, ends-with, in-vain}
 use Rattle.lexer.specs.laws.PositionBounds.{NeverFalling}
 use Rattle.scanner.specs.ClassTable.{ClassTable}
 use Rattle.scanner.specs.declared.Found.{Found}
 use Rattle.scanner.specs.declared.Found.the-variants.{Nothing, Rule}
+use Rattle.scanner.specs.declared.WalkEnd.{WalkEnd}
+use Rattle.scanner.specs.declared.WalkEnd.the-variants as end
 use Rattle.scanner.specs.declared.EndedRule.{EndedRule}
 use Rattle.scanner.specs.declared.EndedRule.the-variants.{NoRule, Lowest}
 use Rattle.scanner.specs.declared.AfterByte.{AfterByte}
@@ -20,6 +23,12 @@ use Rattle.scanner.specs.declared.AfterByte.{AfterByte}
 unfoldable pub match-of : Found → Match
 match-of Nothing = no-match
 match-of (Rule rule n) = matched rule n
+
+-- What an answer of the function that walks once tells.
+unfoldable pub told-of : WalkEnd → Told
+told-of end.Nothing = ends-with no-match
+told-of (end.Rule rule n) = ends-with (matched rule n)
+told-of (end.InVain n) = in-vain n
 
 -- The rule of which a match ends with a byte, if there is one.
 unfoldable pub rule-of : EndedRule → Option ℕ

@@ -4,17 +4,26 @@ ghost use mathlib.Core.Path.{_≡_};
 ghost use mathlib.Core.List.{_∷_};
 ghost use Prim.Native.Nat.{_<_};
 ghost use Rattle.lexer.specs.Walk.{longest-match};
+ghost use Rattle.lexer.specs.Alive.{told};
 ghost use Rattle.lexer.specs.SetWalk.{members, set-walk};
 ghost use mathlib.Core.List.{List};
 ghost use lib.ListN.{drop};
 ghost use Rattle.lexer.specs.Positions.{Position};
-ghost use Rattle.scanner.specs.Meaning.{match-of, rule-of, LeadsTo, Prepared};
+ghost use Rattle.scanner.specs.Meaning.{match-of, told-of, rule-of, LeadsTo, Prepared};
 ghost use Rattle.scanner.specs.Sets.{joined, first-entry, match-by, latest-ended};
 
 // The longest match: the lowest rule that has it, and its length.
 pub enum Found {
     Nothing,
     Rule(u8, usize),
+}
+
+// What one walk tells: that there is no match; the longest one, if the walk ends with it; or that it went over so many bytes in vain, past the
+// end of its match.
+pub enum WalkEnd {
+    Nothing,
+    Rule(u8, usize),
+    InVain(usize),
 }
 
 // The lowest rule of which a match ends with a byte.
@@ -103,7 +112,7 @@ fn latest(ending: u64, n: usize, earlier: EndedBy) -> EndedBy
 }
 
 // The match that last positions stand for.
-fn found_match(ending: u64, length: usize, tables: &[u64; 448]) -> Found
+pub fn found_match(ending: u64, length: usize, tables: &[u64; 448]) -> Found
     ensures { λ r. ⌜ match-of r ≡ match-by (drop 320 (now (tables .entry))) ending length ⌝ }
 {
     let ended = lowest_rule(ending, tables);
@@ -156,4 +165,41 @@ pub fn longest_match<'a>(text: &'a [u8], tables: &'a [u64; 448], last: u64, firs
         return found_match(ending, n, tables);
     }
     found_match(earlier.ending, earlier.length, tables)
+}
+
+// What one walk over a text tells. It goes as in `longest_match`, but notes no match on the way: where no match ends with its latest byte, the
+// answer is only how many bytes it went over.
+pub fn walk_once<'a>(text: &'a [u8], tables: &'a [u64; 448], last: u64, first: u64) -> WalkEnd
+    requires { ⌜ ((ps : List Position) × Prepared ps last (now tables)) ⌝ }
+    ensures { λ r. ⌜ ((ps : List Position) → Prepared ps last (now (tables .entry)) → told-of r ≡ told ps first (now (text .entry))) ⌝ }
+{
+    if text.len() < 1 {
+        return WalkEnd::Nothing;
+    }
+    let front = text[0];
+    let mut kept = first & tables[front as usize];
+    if kept == 0 {
+        return WalkEnd::Nothing;
+    }
+    let begun = after_byte(front, first, last, tables);
+    let mut held = begun.held;
+    let mut walked: usize = 1;
+    while walked < text.len() {
+        let byte = text[walked];
+        let next = held & tables[byte as usize];
+        if next != kept {
+            if next == 0 {
+                break;
+            }
+            let after = after_byte(byte, held, last, tables);
+            held = after.held;
+            kept = next;
+        }
+        walked += 1;
+    }
+    let winner = lowest_rule(kept & last, tables);
+    match winner {
+        EndedRule::NoRule => return WalkEnd::InVain(walked),
+        EndedRule::Lowest(number) => return WalkEnd::Rule(number, walked),
+    }
 }

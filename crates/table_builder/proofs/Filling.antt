@@ -19,7 +19,7 @@ use Rattle.lexer.specs.Table.{row-entries, no-winner, bytes-from, start-row, he
 use Rattle.lexer.specs.Table.{rule-or-none, winner-in, table-winners}
 use Rattle.basics.specs.Lists.{written-over}
 use Rattle.lexer.specs.laws.TableLaws.{power-some, bytes-count, mapped-byte, rows-length, row-length, rows-front, start-held, start-winner, set-winner, empty-second, entries-length}
-use Rattle.scanner.proofs.Byte.{ended-of}
+use Rattle.scanner.specs.laws.ByteLaws.{ended-of}
 use Rattle.scanner.specs.Meaning.{Prepared}
 use Rattle.scanner.specs.Sets.{joined, first-entry}
 use Rattle.table_builder.specs.Rows.{AllHeld, numbers-by, sets-by}

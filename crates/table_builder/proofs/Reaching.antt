@@ -26,7 +26,7 @@ use Rattle.lexer.specs.laws.SetWalkLaws.{walk-meets-members}
 use Rattle.lexer.specs.Table.{most-rows, row-entries, bytes-from, start-row, held-in, next-sets, table-rows}
 use Rattle.lexer.specs.laws.TableLaws.{power-some, start-held}
 use Rattle.lexer.specs.Walk.{keep}
-use Rattle.scanner.proofs.Byte.{kept-is, follows-of}
+use Rattle.scanner.specs.laws.ByteLaws.{kept-is, follows-of}
 use Rattle.scanner.specs.Meaning.{Prepared}
 use Rattle.scanner.specs.Sets.{joined}
 use Rattle.table_builder.specs.Rows.{RowsHeld, all-held, too-many, sets-by, SetsBelow}

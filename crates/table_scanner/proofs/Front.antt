@@ -11,6 +11,8 @@ use lib.Seq.{take-suc, take-all, drop-cons, getD-drop}
 use borrow.Author.Tests.{ne-eqb}
 use Rattle.lexer.specs.Match.{Match, no-match, matched, longer}
 use Rattle.lexer.specs.Table.{row-entries, no-winner, winning, row-walk, match-by-rows}
+use Rattle.lexer.specs.Alive.{match-bytes}
+use Rattle.lexer.specs.laws.ToldLaws.{longer-bytes}
 use Rattle.table_scanner.specs.Rows.{RowsIn}
 
 -- ---- the table as the code reads it
@@ -29,7 +31,7 @@ pub winner-most : {table winners : List ℕ} (k : RowsIn table winners) (row : �
 winner-most k row h = rw (winner-read k row h) (k .winner-below row h)
 
 -- Row 0 is the start: the first byte alone is the entry's place.
-at-start : (table : List ℕ) (b : ℕ) → getD table b 0 ≡ getD table (0 * row-entries + b) 0
+pub at-start : (table : List ℕ) (b : ℕ) → getD table b 0 ≡ getD table (0 * row-entries + b) 0
 at-start table b = ap (λ (i : ℕ). getD table i 0) (let z : b ≡ 0 * row-entries + b = omega arith in z)
 
 pub first-below : {table winners : List ℕ} (k : RowsIn table winners) (b : ℕ) → b < row-entries → getD table b 0 < k .row-count
@@ -58,6 +60,17 @@ walk-append table winners row (b ∷ u) v n m =
     walk-append table winners next u v (suc n) best
     ∙ ap (λ (k : ℕ). row-walk table winners (row-after table next u) v k (row-walk table winners next u (suc n) best))
     (let z : length u + suc n ≡ suc (length u) + n = omega arith in z)
+
+-- A match has no more bytes than the text.
+walk-most : (table winners : List ℕ) (row : ℕ) (text : List ℕ) (n : ℕ) (m : Match) → match-bytes m ≤ n
+    → match-bytes (row-walk table winners row text n m) ≤ length text + n
+unfolding row-walk
+walk-most table winners row [] n m h = omega arith
+walk-most table winners row (b ∷ text) n m h =
+    let next = getD table (row * row-entries + b) 0 in
+    let most =
+    walk-most table winners next text (suc n) _ (longer-bytes (winning (getD winners next no-winner)) (suc n) m (omega arith)) in
+    omega (arith, most)
 
 -- From row 1 on nothing more is found.
 empty-rest : (table winners : List ℕ) → RowsIn table winners → (text : List ℕ) → ((i : ℕ) → getD text i 0 < row-entries)
@@ -113,11 +126,10 @@ module _ (table winners text : List ℕ) where
       let all : length (take n text) + 0 ≡ n = omega (arith, length-take n text) in
       rw (k, e, add-one n, take-suc text n 0 h, walk-append table winners 0 (take n text) (getD text n 0 ∷ []) 0 no-match, all)
 
-  -- A winner of the latest row is the match.
-  pub match-won : (row n winner : ℕ) → 1 ≤ n → n ≤ length text → row ≡ front-row table text n → winner ≡ getD winners row no-winner
-      → (winner ≡ no-winner → ⊥) → matched winner n ≡ front-match table winners text n
-  unfolding winning longer
-  match-won row n winner one h e f w =
+  -- The match with the latest row's winner.
+  match-latest : (row n : ℕ) → 1 ≤ n → n ≤ length text → row ≡ front-row table text n
+      → longer (winning (getD winners row no-winner)) n (front-match table winners text (n - 1)) ≡ front-match table winners text n
+  match-latest row n one h e =
       let k = n - 1 in
       let there : k + 1 ≡ n = omega arith in
       let inside-text : k < length text = omega arith in
@@ -125,7 +137,24 @@ module _ (table winners text : List ℕ) where
       let last : row ≡ getD table (before * row-entries + getD text k 0) 0 =
       e ∙ ap (front-row table text) (sym there) ∙ sym (row-more table text before k inside-text refl) in
       let more = match-more before k row inside-text refl last in
-      rw (sym f, ne-eqb winner no-winner w, there) at more
+      rw there at more
+
+  -- A winner of the latest row is the match, and where it has none, the match has fewer bytes.
+  pub match-won : (row n winner : ℕ) → 1 ≤ n → n ≤ length text → row ≡ front-row table text n → winner ≡ getD winners row no-winner
+      → (winner ≡ no-winner → ⊥) → matched winner n ≡ front-match table winners text n
+  unfolding winning longer
+  match-won row n winner one h e f w =
+      let latest = match-latest row n one h e in
+      rw (sym f, ne-eqb winner no-winner w) at latest
+
+  pub match-shorter : (row n : ℕ) → 1 ≤ n → n ≤ length text → row ≡ front-row table text n → getD winners row no-winner ≡ no-winner
+      → match-bytes (front-match table winners text n) < n
+  unfolding winning longer match-by-rows match-bytes
+  match-shorter row n one h e f =
+      let latest = match-latest row n one h e in
+      let same : front-match table winners text (n - 1) ≡ front-match table winners text n = rw f at latest in
+      let most = walk-most table winners 0 (take (n - 1) text) 0 no-match (omega arith) in
+      rw (sym same) (omega (arith, most, length-take (n - 1) text))
 
   -- The walk may end where a byte leads to row 1.
   pub match-stops : RowsIn table winners → ((i : ℕ) → getD text i 0 < row-entries) → (row n : ℕ) → n < length text

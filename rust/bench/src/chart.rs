@@ -57,13 +57,7 @@ pub fn chart(entries: usize, speeds: &[Speeds]) -> String {
     let height = TOP + GRAMMAR * speeds.len();
     let title =
         format!("Speed of running, MiB/s: texts of almost 1 MiB, a stack of {entries} entries");
-    let mut svg = format!(
-        "<svg xmlns=\"http://www.w3.org/2000/svg\" width=\"{WIDTH}\" height=\"{height}\" \
-        viewBox=\"0 0 {WIDTH} {height}\" role=\"img\">\n<title>{title}</title>\n"
-    );
-    svg.push_str(STYLE);
-    svg.push_str(&bar("ground", 0, 0, WIDTH as f64, height));
-    svg.push_str(&text("name", 16, 28, &title));
+    let mut svg = head(WIDTH, height, &title, STYLE);
     svg.push_str(&bar("library", 16, 42, 12.0, 12));
     svg.push_str(&text("key", 34, 53, "the library, which is proved"));
     svg.push_str(&bar("plain", LEFT, 42, 12.0, 12));
@@ -76,6 +70,18 @@ pub fn chart(entries: usize, speeds: &[Speeds]) -> String {
         svg.push_str(&pair(top + PAIR, "without", own.without_table, fastest));
     }
     svg.push_str("</svg>\n");
+    svg
+}
+
+/// What an SVG file begins with: its size, some style, a ground and a title.
+pub fn head(width: usize, height: usize, title: &str, style: &str) -> String {
+    let mut svg = format!(
+        "<svg xmlns=\"http://www.w3.org/2000/svg\" width=\"{width}\" height=\"{height}\" \
+        viewBox=\"0 0 {width} {height}\" role=\"img\">\n<title>{title}</title>\n"
+    );
+    svg.push_str(style);
+    svg.push_str(&bar("ground", 0, 0, width as f64, height));
+    svg.push_str(&text("name", 16, 28, title));
     svg
 }
 
@@ -100,14 +106,14 @@ fn pair(top: usize, label: &str, speeds: [Option<f64>; 2], fastest: f64) -> Stri
     svg
 }
 
-fn bar(class: &str, x: usize, y: usize, width: f64, height: usize) -> String {
+pub fn bar(class: &str, x: usize, y: usize, width: f64, height: usize) -> String {
     format!(
         "<rect class=\"{class}\" x=\"{x}\" y=\"{y}\" width=\"{width:.1}\" height=\"{height}\"/>\n"
     )
 }
 
 /// A line of text that begins at `x` and stands on `y`. It has none of the signs that SVG escapes.
-fn text(class: &str, x: usize, y: usize, line: &str) -> String {
+pub fn text(class: &str, x: usize, y: usize, line: &str) -> String {
     format!("<text class=\"{class}\" x=\"{x}\" y=\"{y}\">{line}</text>\n")
 }
 

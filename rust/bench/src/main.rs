@@ -2,12 +2,13 @@
 //! machine, in the same process, and prints Markdown.
 //!
 //! `cargo run --release --bin bench`, and with `-- --chart FILE` after it the speeds of running are also drawn
-//! into an SVG file ([`chart`]). Running is measured on accepted texts of up to 1 MiB and of 8 bytes,
-//! and compared with [`baseline`]; [`running`] does this. It is also measured with rules that all skip, so
-//! that nothing but scanning is left. Running with a table is compared with [`baseline::table`], on the same
-//! texts, and on the empty text, so that nothing but building the table is left. Without a table a run over the
-//! empty text leaves nothing but reading the image; what clearing the stack takes is measured alone too.
-//! Checking is compared with
+//! into an SVG file ([`chart`]), and with `--lengths FILE` times against lengths ([`length_chart`]). Running is
+//! measured on accepted texts of up to 1 MiB and of 8 bytes, and compared with [`baseline`]; [`running`] does this.
+//! It is also measured with rules that all skip, so that nothing but scanning is left. Running with a table is
+//! compared with [`baseline::table`], on the same texts, and on the empty text, so that nothing but building the table
+//! is left. Without a table a run over the empty text leaves nothing but reading the image; what clearing the stack
+//! takes is measured alone too. Texts in which walks go far past the ends of their matches are read by the library
+//! alone, beside ordinary texts ([`long_walks`]). Checking is compared with
 //! [`plain_check`], and writing with [`plain_write`]; beside it stands the reference implementation, which
 //! works on vectors. All buffers are lent and stay the same from round to round; both sides clear them as the
 //! contract says, and this time counts. Each figure is the median of several rounds, in which the sides take
@@ -19,6 +20,9 @@ mod chart;
 #[path = "../../tests/common/mod.rs"]
 mod common;
 mod grammars;
+mod length_chart;
+mod long_walk_sheets;
+mod long_walks;
 mod plain_check;
 mod plain_write;
 mod recognising;
@@ -44,13 +48,17 @@ fn black_box<T: Copy>(value: T) -> T {
 }
 
 fn main() {
-    let chart_file = chart_file();
+    let files = files();
     if !LIBRARY_LINKED {
         println!("The library was not linked: only the other side is measured.\n");
     }
     let speeds = running::tables();
-    if let Some(file) = chart_file {
+    if let Some(file) = files.chart {
         write_chart(&file, &chart::chart(running::SMALL_STACK, &speeds));
+    }
+    let lines = long_walks::tables();
+    if let Some(file) = files.lengths {
+        write_chart(&file, &length_chart::chart(&long_walks::LENGTHS, &lines));
     }
     recognising::table();
 
@@ -69,17 +77,30 @@ fn main() {
     }
 }
 
-/// The file that the words after the program's name say the chart goes to, if they name one.
-fn chart_file() -> Option<PathBuf> {
+/// The files that charts go to.
+#[derive(Default)]
+struct Files {
+    /// Of the speeds of running.
+    chart: Option<PathBuf>,
+    /// Of times against lengths.
+    lengths: Option<PathBuf>,
+}
+
+/// The files that the words after the program's name say.
+fn files() -> Files {
     let words: Vec<OsString> = env::args_os().skip(1).collect();
-    match &words[..] {
-        [] => None,
-        [option, file] if *option == "--chart" => Some(file.into()),
-        _ => {
-            eprintln!("usage: bench [--chart FILE]");
-            process::exit(2)
+    let mut files = Files::default();
+    for pair in words.chunks(2) {
+        match pair {
+            [option, file] if *option == "--chart" => files.chart = Some(file.into()),
+            [option, file] if *option == "--lengths" => files.lengths = Some(file.into()),
+            _ => {
+                eprintln!("usage: bench [--chart FILE] [--lengths FILE]");
+                process::exit(2)
+            }
         }
     }
+    files
 }
 
 fn write_chart(file: &Path, svg: &str) {

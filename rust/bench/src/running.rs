@@ -18,14 +18,15 @@ use vinzagew_reference::Table;
 pub const SMALL_STACK: usize = 4_096;
 
 /// The buffers that are lent to all runs.
-struct Buffers {
+pub struct Buffers {
     stack: Vec<u8>,
     table: Vec<u16>,
     winners: Vec<u16>,
 }
 
 impl Buffers {
-    fn new() -> Self {
+    /// Buffers that are long enough for every text.
+    pub fn new() -> Self {
         Buffers {
             stack: vec![0; stack_length(TEXT_LIMIT)],
             table: vec![0; TABLE_ENTRIES],
@@ -36,12 +37,17 @@ impl Buffers {
 
 /// A text that is run by an image on a stack of `room` entries, with or without a table.
 #[derive(Clone)]
-struct Case<'a> {
-    name: &'static str,
-    image: Vec<u8>,
-    text: &'a [u8],
-    room: usize,
-    with_table: bool,
+pub struct Case<'a> {
+    /// What the image is of.
+    pub name: &'static str,
+    /// The image.
+    pub image: Vec<u8>,
+    /// The text.
+    pub text: &'a [u8],
+    /// The entries of the stack.
+    pub room: usize,
+    /// Whether a table is lent.
+    pub with_table: bool,
 }
 
 impl<'a> Case<'a> {
@@ -94,7 +100,7 @@ impl<'a> Case<'a> {
 
     /// Number, place and count, by the library.
     #[inline(always)]
-    fn library(&self, buffers: &mut Buffers) -> [u64; 3] {
+    pub fn library(&self, buffers: &mut Buffers) -> [u64; 3] {
         let (image, text) = (black_box(&self.image[..]), black_box(self.text));
         let stack = &mut buffers.stack[..self.room];
         let (table, winners) = (&mut buffers.table, &mut buffers.winners);
@@ -131,7 +137,7 @@ impl<'a> Case<'a> {
     }
 
     /// The time of a run by the library, if it was linked.
-    fn library_time(&self, repeats: u32, buffers: &mut Buffers) -> Option<Duration> {
+    pub fn library_time(&self, repeats: u32, buffers: &mut Buffers) -> Option<Duration> {
         LIBRARY_LINKED.then(|| {
             time(repeats, || {
                 self.library(buffers);

@@ -36,6 +36,7 @@
 pub mod answer;
 pub mod image;
 pub mod lexer;
+pub mod long_walks;
 pub mod machine;
 pub mod normal_form;
 pub mod number;

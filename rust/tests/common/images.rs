@@ -160,7 +160,7 @@ pub fn image(random: &mut Random) -> Image {
 }
 
 /// A byte of a position's class, often the lowest or the highest.
-fn byte_of(random: &mut Random, position: Position) -> u8 {
+pub fn byte_of(random: &mut Random, position: Position) -> u8 {
     match random.below(3) {
         0 => position.low,
         1 => position.high,
@@ -190,7 +190,7 @@ fn walked(random: &mut Random, image: &Image, length: usize) -> Vec<u8> {
 
 /// A part of a text: the same byte many times, bytes of one class, bytes 0 or 255, any bytes, or bytes that are
 /// kept one after another.
-fn part(random: &mut Random, image: &Image) -> Vec<u8> {
+pub fn part(random: &mut Random, image: &Image) -> Vec<u8> {
     let position = *random.pick(&image.positions);
     let length = *random.pick(&[1, 2, 3, 8, 8, 40, 300]);
     match random.below(8) {

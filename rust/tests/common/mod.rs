@@ -9,6 +9,7 @@ pub mod calls;
 pub mod generate;
 pub mod images;
 pub mod json_lines;
+pub mod long_walks;
 pub mod numbers;
 pub mod random;
 pub mod recognised;

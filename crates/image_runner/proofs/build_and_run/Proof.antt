@@ -46,7 +46,7 @@ with-here c i d range =
     }
 
 build-requires : tie.Need-build-requires
-build-requires c κs = let w = c .before .before .before .before .before .before .before .pre in (w .0, (_, _, w .1 .0, w .1 .1, w .1 .2))
+build-requires c κs = let w = c .before .before .before .before .before .before .before .pre in (w .0, (_, _, w .2 .0, w .2 .1, w .2 .2))
 
 answer-requires : tie.Need-answer-requires
 answer-requires c κs = search needs
@@ -87,7 +87,7 @@ run-image-requires c κs =
     let then = c .before .before .before in
     let passed = then .before in
     let w = start-of (passed .before .before .before .before .before) .pre in
-    (w .1 .0, with-flag passed true (w .1 .0) (then .if2 .taken) (w .1 .1) (w .1 .2))
+    (w .1, (w .2 .0, with-flag passed true (w .2 .0) (then .if2 .taken) (w .2 .1) (w .2 .2)))
 
 same-length-3 : tie.Need-same-length-3
 same-length-3 c = search needs
@@ -118,7 +118,7 @@ run-image-requires-2 c κs =
     let else = c .before .before .before in
     let passed = else .before in
     let w = start-of (passed .before .before .before .before .before) .pre in
-    (w .1 .0, with-flag passed false (w .1 .0) (else .if2 .left) (w .1 .1) (w .1 .2))
+    (w .1, (w .2 .0, with-flag passed false (w .2 .0) (else .if2 .left) (w .2 .1) (w .2 .2)))
 
 same-length-6 : tie.Need-same-length-6
 same-length-6 c = search needs

@@ -61,7 +61,7 @@ build-and-run-requires c κs =
     let told = c .before .before .before .before .before in
     let read = told .before .before in
     let readable = read .read-image .ensures .readable (told .enum-told .given .1) in
-    (start-of read .pre .0, (readable .0, readable .2, read-in-range _ (bytes-of read) _ _ (readable .1) .0))
+    (start-of read .pre .0, start-of read .pre .1, (readable .0, readable .2, read-in-range _ (bytes-of read) _ _ (readable .1) .0))
 
 same-length : tie.Need-same-length
 same-length c = search needs

@@ -1,7 +1,7 @@
 -- Laws of the table of some positions: 256 rows tell whether there are more; the rows stand in the order first reached, and all that a row leads
--- to is a row; the entries and winners by row; and that the longest match by rows is the one by sets.
-use mathlib.Core.Path.{_≡_, refl, sym, ap, subst, _∙_}
-use mathlib.Core.Bool.{true, false}
+-- to is a row; the entries and winners by row; and that the longest match by rows, and what one walk by rows tells, are those by sets.
+use mathlib.Core.Path.{_≡_, refl, sym, ap, ap₂, subst, _∙_}
+use mathlib.Core.Bool.{Bool, true, false, cond}
 use mathlib.Core.List.{List, [], _∷_, _++_, map, flatMap, append-assoc, List·Memᴰ, List·Memᴰ·head, List·Memᴰ·tail}
 use mathlib.Core.Logic.{_⊎_, ⊎-elim}
 use mathlib.Core.Option.{Option, none, some}
@@ -11,7 +11,7 @@ use native.Mathlib.Nat.{not-suc-le-zero}
 use lib.Dec.{eqb, eqb-refl}
 use lib.ListN.{getD, length, length-append, length-map, List·getD-append}
 use lib.Seq.{getD-append-add}
-use borrow.Author.Tests.{eq-eqb, ne-eqb}
+use borrow.Author.Tests.{eq-eqb, ne-eqb, eqb-true, eqb-false}
 use Rattle.basics.specs.laws.BitLaws.{lt-pow-self}
 use Rattle.basics.specs.Lists.{All}
 use Rattle.basics.specs.laws.Truth.{or-left, or-right}
@@ -28,6 +28,7 @@ use Rattle.lexer.specs.laws.PositionList.{all-at}
 use Rattle.lexer.specs.laws.PositionBounds.{keep-below}
 use Rattle.lexer.specs.Table.{most-rows, row-entries, no-winner, bytes-from, start-row, held-in, next-sets, table-rows, table-entries}
 use Rattle.lexer.specs.Table.{rule-or-none, winner-in, table-winners, winning, row-walk, match-by-rows}
+use Rattle.lexer.specs.Alive.{walk-bytes, told-by, told, row-bytes, told-by-rows}
 
 -- ---- lists
 
@@ -164,6 +165,17 @@ module _ (ps : List Position) (first : ℕ) where
   unfolding number-of
   empty-second = rw (rows-front .1, ne-eqb (start-row ps) 0 (λ e. let l = power-some (length ps) in absurd (omega arith)))
 
+  -- Row 1 stands for the empty set alone.
+  one-empty : (x : ℕ) → Met x rows → eqb (number-of rows x) 1 ≡ eqb x 0
+  one-empty x t = go (eqb x 0) refl
+    where
+      go : (b : Bool) → eqb x 0 ≡ b → eqb (number-of rows x) 1 ≡ b
+      go true e = eq-eqb (number-of rows x) 1 (ap (number-of rows) (eqb-true x 0 e) ∙ empty-second)
+      go false e =
+          ne-eqb (number-of rows x) 1
+          (λ one. eqb-false x 0 e
+          (sym (number-below x rows t .1) ∙ ap (λ (i : ℕ). getD rows i 0) (one ∙ sym empty-second) ∙ number-below 0 rows empty-met .1))
+
   module _ (few : length rows ≤ most-rows) where
     all-done : length rows ≤ reached .0
     all-done = ⊎-elim (λ l. l) (λ l. omega arith) (reached .2)
@@ -263,3 +275,25 @@ module _ (ps : List Position) (first : ℕ) (below : All (λ p. p .rule < no-win
       ap (λ (r : ℕ). row-walk table winners r text 0 no-match) (sym (start-first ps first))
       ∙ rows-walk (start-row ps) (start-met ps first) text all 0 no-match
       ∙ ap (λ (h : ℕ). walk ps h text 0 no-match) (start-held ps first)
+
+  -- From a row on the walk by rows goes as far as the walk from the positions held in it.
+  bytes-by-rows : (x : ℕ) → Met x (table-rows ps first) → (text : List ℕ) → All (λ b. b < row-entries) text
+      → row-bytes table (number-of (table-rows ps first) x) text ≡ walk-bytes ps (held-in ps first x) text
+  unfolding row-bytes walk-bytes
+  bytes-by-rows x t [] all = refl
+  bytes-by-rows x t (b ∷ text) all =
+      let kept = keep ps 0 (held-in ps first x) b in
+      let met = next-met ps first few x t b (all .0) in
+      rw (entry-at ps first more x t b (all .0), one-empty ps first kept met)
+      (ap (λ (n : ℕ). cond (eqb kept 0) 0 (suc n))
+      (bytes-by-rows kept met text (all .1) ∙ ap (λ (h : ℕ). walk-bytes ps h text) (kept-held ps first (held-in ps first x) b)))
+
+  -- One walk by rows tells what one by sets tells.
+  pub told-rows : (text : List ℕ) → All (λ b. b < row-entries) text → told-by-rows table winners text ≡ told ps first text
+  unfolding told-by-rows told
+  told-rows text all =
+      ap₂ told-by
+      (ap (λ (r : ℕ). row-bytes table r text) (sym (start-first ps first))
+      ∙ bytes-by-rows (start-row ps) (start-met ps first) text all
+      ∙ ap (λ (h : ℕ). walk-bytes ps h text) (start-held ps first))
+      (by-rows text all)

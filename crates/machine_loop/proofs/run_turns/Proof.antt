@@ -1,179 +1,259 @@
 -- `run_turns` meets its contract. The loop's invariant: the turns from the present state lead to the end of every run that those from the
--- first state lead to.
+-- first state lead to, the matches found ahead that are left are those from its place on, and so much was charged as before.
 use borrow.Author.Needs.{needs}
-use mathlib.Core.Path.{_≡_, refl, sym, _∙_}
-use Prim.Native.Nat.{_-_, _<_}
+use mathlib.Core.Path.{_≡_, refl, sym, ap, subst, _∙_}
+use mathlib.Core.List.{List, []}
+use Prim.Native.Nat.{ℕ, _+_, _-_, _≤_, _<_}
 use native.Mathlib.Omega.{arith}
-use lib.ListN.{length, drop}
+use lib.ListN.{length, drop, length-drop}
 use denote.Ref.{now}
+use Rattle.lexer.specs.Match.{matched}
 use Rattle.scanner.specs.Meaning.{match-of}
 use Rattle.image.specs.Image.{Image}
 use Rattle.image_reader.specs.Decoded.{ImageTables, tables-of}
 use Rattle.machine.specs.Trace.{match-at, Ended}
 use Rattle.machine_turn.specs.Steps.{turn-step, MatchFits}
 use Rattle.machine_turn.specs.declared.Turn.the-variants.{Next, Done}
-use Rattle.machine_turn.specs.laws.Going.{Going, scanned, going-fits, going-done, going-next}
+use Rattle.machine_turn.specs.declared.State.{State}
+use Rattle.machine_turn.specs.laws.Going.{Going, going-fits, going-done, going-next}
+use Rattle.machine_turn.specs.laws.Places.{next-place, done-place}
+use Rattle.alive_scanner.specs.Ahead.{Ahead}
 use Rattle.machine_loop.specs.Prepared.{WithTables}
+use Rattle.machine_loop.specs.Turning.{SeenAt, ChargedAt, Charged}
+use Rattle.machine_loop.proofs.TurningLaws.{ahead-next, charged-next, charged-at}
 use Rattle.machine_loop.proofs.run_turns.Statement.{statement}
 use Rattle.machine_loop.proofs.run_turns.Tie as tie
 
+-- What holds of a state, for an image and a run that the turns lead to.
+pub record TurnedTo (i : Image) (bytes : List ℕ) (t : ImageTables) (text matches : List ℕ) (start : ℕ) (stack : List ℕ) (state : State) (turn : ℕ) (whole : Ended)
+    : Type 0 where
+  pub going : Going i bytes t text stack state whole
+  pub left-ahead : Ahead (i .positions) (i .first) text (state .place) (drop turn matches)
+  pub charged : (v : ℕ) → Charged i text start matches v → Charged i text (state .place) (drop turn matches) v
+
 abbrev Inv-loop : tie.InvT-loop
-Inv-loop image read tables productions table winners by-rows text stack₀ stop state₀ stack state =
-    (length stack ≡ length stack₀)
+Inv-loop image read tables productions table winners by-rows matches text stack₀ stop state₀ turn₀ stack state turn =
+    (length stack ≡ length stack₀) × (state₀ .place + turn ≤ state .place)
     × ((i : Image) (whole : Ended) → WithTables image (tables-of read tables productions) by-rows table winners i
-    → Going i image (tables-of read tables productions) text stack₀ state₀ whole
-    → Going i image (tables-of read tables productions) text stack state whole)
+    → Going i image (tables-of read tables productions) text stack₀ state₀ whole → Ahead (i .positions) (i .first) text (state₀ .place) matches
+    → TurnedTo i image (tables-of read tables productions) text matches (state₀ .place) stack state turn whole)
 
 abbrev μ-loop : tie.MeasureT-loop
-μ-loop image read tables productions table winners by-rows text stack₀ stop state₀ stack state = length text - state .place
+μ-loop image read tables productions table winners by-rows matches text stack₀ stop state₀ turn₀ stack state turn = length text - state .place
 
--- The start, from the head of the loop.
+-- The start, from the head of the loop, and the head, from what is seen and what a turn leaves.
 abbrev start-of : tie.At-loop Inv-loop μ-loop → tie.Start Inv-loop μ-loop
-start-of head = head .before .before .before .before .before .before
+start-of head = head .before .before .before .before .before .before .before
 
-abbrev scan-head : tie.After-scan Inv-loop μ-loop → tie.At-loop Inv-loop μ-loop
-scan-head c = c .before .before .before .before
+abbrev look-head : tie.After-look Inv-loop μ-loop → tie.At-loop Inv-loop μ-loop
+look-head c = c .before .before .before
 
--- The machine's tables, that they hold an image, and what the turns lead to.
+abbrev turn-look : tie.After-one-turn Inv-loop μ-loop → tie.After-look Inv-loop μ-loop
+turn-look c = c .before .before .before
+
+-- The machine's tables, and what the turns from the first state rely on.
 abbrev tables-here : tie.Start Inv-loop μ-loop → ImageTables
-tables-here s =
-    let a = s .args in
-    tables-of (a .read) (now (a .tables)) (now (a .productions))
+tables-here s = let a = s .args in tables-of (a .read) (now (a .tables)) (now (a .productions))
 
 abbrev Held : tie.Start Inv-loop μ-loop → Image → Ended → Type 0
 Held s i whole =
     let a = s .args in
     WithTables (now (a .image)) (tables-here s) (a .by-rows) (now (a .table)) (now (a .winners)) i
     × Going i (now (a .image)) (tables-here s) (now (a .text)) (now (a .stack)) (a .from) whole
+    × Ahead (i .positions) (i .first) (now (a .text)) (a .from .place) (now (a .matches))
 
-going-here : (head : tie.At-loop Inv-loop μ-loop) (i : Image) (whole : Ended) → Held (start-of head) i whole
+turned-here : (head : tie.At-loop Inv-loop μ-loop) (i : Image) (whole : Ended) → Held (start-of head) i whole
     → let a = start-of head .args in
-    Going i (now (a .image)) (tables-here (start-of head)) (now (a .text)) (head .loop .stack) (head .loop .state) whole
-going-here head i whole w = head .loop .inv .1 i whole (w .0) (w .1)
+    TurnedTo i (now (a .image)) (tables-here (start-of head)) (now (a .text)) (now (a .matches)) (a .from .place) (head .loop .stack)
+    (head .loop .state) (head .loop .turn) whole
+turned-here head i whole w = head .loop .inv .2 i whole (w .0) (w .1) (w .2)
 
 -- ---- what is known within a turn, for any image that the tables hold
 
--- What was found is the image's longest match.
-found-here : (c : tie.After-scan Inv-loop μ-loop) (i : Image) (whole : Ended) → Held (start-of (scan-head c)) i whole
-    → match-of (c .scan .result) ≡ match-at i (now (start-of (scan-head c) .args .text)) (scan-head c .loop .state .place)
-found-here c i whole w =
-    let head = scan-head c in
-    let start = start-of head in
-    scanned i (now (start .args .text)) (head .loop .state .place) (c .scan .result) (c .scan .ensures _ _ i (w .0))
+seen-here : (c : tie.After-look Inv-loop μ-loop) (i : Image) (whole : Ended) → Held (start-of (look-head c)) i whole
+    → let l = look-head c .loop in
+    let a = start-of (look-head c) .args in
+    SeenAt i (now (a .text)) (l .state .place) (drop (l .turn) (now (a .matches))) (c .look .result)
+seen-here c i whole w = c .look .ensures _ _ i (w .0) (turned-here (look-head c) i whole w .left-ahead)
 
-more-here : (c : tie.After-scan Inv-loop μ-loop) → scan-head c .loop .state .place < length (now (start-of (scan-head c) .args .text))
-more-here c = omega (arith, c .before .before .if1 .taken, start-of (scan-head c) .pre .0)
+more-here : (c : tie.After-look Inv-loop μ-loop) → look-head c .loop .state .place < length (now (start-of (look-head c) .args .text))
+more-here c = omega (arith, c .before .if1 .taken, start-of (look-head c) .pre .0)
 
 small : (head : tie.At-loop Inv-loop μ-loop) → length (now (start-of head .args .text)) < 18446744073709551616
 small head = omega arith
 
--- It fits the state.
-fits-here : (c : tie.After-scan Inv-loop μ-loop) (i : Image) (whole : Ended) → Held (start-of (scan-head c)) i whole
-    → MatchFits (c .scan .result) (scan-head c .loop .state)
-fits-here c i whole w =
-    let head = scan-head c in
+-- The match fits the state.
+fits-here : (c : tie.After-look Inv-loop μ-loop) → c .look .result .vain ≡ 0 → (i : Image) (whole : Ended) → Held (start-of (look-head c)) i whole
+    → MatchFits (c .look .result .found) (look-head c .loop .state)
+fits-here c z i whole w =
+    let head = look-head c in
     let l = head .loop in
     let a = start-of head .args in
-    going-fits i (now (a .image)) (tables-here (start-of head)) (w .0 .decoded) (now (a .text)) (l .stack) (l .state) whole (going-here head i whole w)
-    (more-here c) (c .scan .result) (found-here c i whole w) (small head)
+    going-fits i (now (a .image)) (tables-here (start-of head)) (w .0 .decoded) (now (a .text)) (l .stack) (l .state) whole
+    (turned-here head i whole w .going) (more-here c) (c .look .result .found) (seen-here c i whole w .longest z) (small head)
 
--- From what a turn leaves to the match and the head of the loop.
-abbrev turn-scan : tie.After-one-turn Inv-loop μ-loop → tie.After-scan Inv-loop μ-loop
-turn-scan c = c .before .before
+-- The turn was given the match that was seen, and no walk in vain.
+abbrev quiet : (t : tie.After-one-turn Inv-loop μ-loop) → turn-look t .look .result .vain ≡ 0
+quiet t = t .before .before .if2 .left
 
-abbrev next-turn : tie.After-after2 Inv-loop μ-loop → tie.After-one-turn Inv-loop μ-loop
-next-turn c = c .before .before .before .before
+abbrev next-turn : tie.After-known-told2 Inv-loop μ-loop → tie.After-one-turn Inv-loop μ-loop
+next-turn c = c .before .before .before .before .before
 
 -- The state after the turn.
-next-here : (c : tie.After-after2 Inv-loop μ-loop) (i : Image) (whole : Ended)
+next-here : (c : tie.After-known-told2 Inv-loop μ-loop) (i : Image) (whole : Ended)
     → let turn = next-turn c in
-    let head = scan-head (turn-scan turn) in
+    let head = look-head (turn-look turn) in
+    let l = head .loop in
     let a = start-of head .args in
+    let next = c .before .after2 .given .0 .0 in
     Held (start-of head) i whole
-    → Going i (now (a .image)) (tables-here (start-of head)) (now (a .text)) (turn .one-turn .last .1 .1 .1 .1 .1 .0) (c .after2 .given .0 .0) whole
-    × (head .loop .state .place < c .after2 .given .0 .0 .place)
+    → TurnedTo i (now (a .image)) (tables-here (start-of head)) (now (a .text)) (now (a .matches)) (a .from .place)
+    (turn .one-turn .last .1 .1 .1 .1 .1 .0) next (l .turn + 1) whole
+    × (l .state .place < next .place)
+unfolding match-of
 next-here c i whole w =
     let turn = next-turn c in
-    let scan = turn-scan turn in
-    let head = scan-head scan in
+    let look = turn-look turn in
+    let head = look-head look in
     let l = head .loop in
     let a = start-of head .args in
     let t = tables-here (start-of head) in
-    let e : turn-step (now (a .image)) (drop 384 (t .tables)) (t .productions) (t .empty) (t .skips) (l .stack) (scan .scan .result) (l .state) .outcome
-    ≡ Next (c .after2 .given .0 .0) = sym (turn .one-turn .ensures .0) ∙ c .after2 .given .1 in
-    going-next i (now (a .image)) t (w .0 .decoded) (now (a .text)) (l .stack) (l .state) whole (going-here head i whole w) (more-here scan)
-    (scan .scan .result) (found-here scan i whole w) (fits-here scan i whole w) _ (c .after2 .given .0 .0)
-    (turn .one-turn .kept .1 .1 .1 .1 .1 .0) (turn .one-turn .ensures .1) e
+    let next = c .before .after2 .given .0 .0 in
+    let found = look .look .result .found in
+    let old = turned-here head i whole w in
+    let seen = seen-here look i whole w in
+    let z = quiet turn in
+    let e : turn-step (now (a .image)) (drop 384 (t .tables)) (t .productions) (t .empty) (t .skips) (l .stack) found (l .state) .outcome ≡ Next next =
+    sym (turn .one-turn .ensures .0) ∙ c .before .after2 .given .1 in
+    let g = going-next i (now (a .image)) t (w .0 .decoded) (now (a .text)) (l .stack) (l .state) whole (old .going) (more-here look)
+    found (seen .longest z) (fits-here look z i whole w) _ next (turn .one-turn .kept .1 .1 .1 .1 .1 .0) (turn .one-turn .ensures .1) e in
+    let m = next-place (now (a .image)) (drop 384 (t .tables)) (t .productions) (t .empty) (t .skips) (l .stack) (l .state) found next e in
+    let matched-here : match-at i (now (a .text)) (l .state .place) ≡ matched (m .0) (m .1) = sym (seen .longest z) ∙ ap match-of (m .2) in (
+      record {
+        going = g .0;
+        left-ahead = subst (λ (p : ℕ). Ahead (i .positions) (i .first) (now (a .text)) p (drop (l .turn + 1) (now (a .matches)))) (sym (m .3))
+            (ahead-next i (now (a .text)) (now (a .matches)) (l .state .place) (m .0) (m .1) (l .turn) matched-here (old .left-ahead));
+        charged = λ v x. subst (λ (p : ℕ). Charged i (now (a .text)) p (drop (l .turn + 1) (now (a .matches))) v) (sym (m .3))
+            (charged-next i (now (a .text)) (now (a .matches)) (l .state .place) (m .0) (m .1) (l .turn) matched-here v (more-here look)
+            (seen .not-in-vain z) (old .charged v x));
+      },
+      g .1,
+    )
 
 loop-holds : tie.Need-loop-holds Inv-loop μ-loop
-loop-holds c = (refl, λ i whole w g. g)
+loop-holds c = (refl, omega arith, λ i whole w g a. record { going = g; left-ahead = a; charged = λ v x. x })
 
-sub-scan : tie.Need-sub-scan Inv-loop μ-loop
-sub-scan c = omega (arith, c .if1 .taken, start-of (c .before .before) .pre .0)
+look-requires : tie.Need-look-requires Inv-loop μ-loop
+look-requires c κs =
+    let s = start-of (c .before .before) in
+    let w = s .pre .1 in
+    (omega (arith, c .if1 .taken, s .pre .0), (_, _, w .0, w .2))
 
-part-scan-start : tie.Need-part-scan-start Inv-loop μ-loop
-part-scan-start c = omega (arith, c .if1 .taken, start-of (c .before .before) .pre .0)
+same-length : tie.Need-same-length Inv-loop μ-loop
+same-length c = look-head (c .before) .loop .inv .0
 
-part-scan-end : tie.Need-part-scan-end Inv-loop μ-loop
-part-scan-end c = search needs
-
-scan-requires : tie.Need-scan-requires Inv-loop μ-loop
-scan-requires c κs = let w = start-of (c .before .before .before) .pre .1 in (_, _, w .0, w .2)
+returns : tie.Need-returns Inv-loop μ-loop
+returns c =
+    let look = c .before in
+    let head = look-head look in
+    let l = head .loop in
+    let a = start-of head .args in
+    λ i whole w g h.
+    let held : Held (start-of head) i whole = (w, g, h) in
+    let old = turned-here head i whole held in
+    let vain = seen-here look i whole held .went-in-vain (c .if2 .taken) in
+    let used : length (now (a .matches)) ≤ l .turn =
+    omega (arith, length-drop (l .turn) (now (a .matches)), ap (λ (x : List ℕ). length x) (vain .0)) in (
+      old .going,
+      more-here look,
+      omega (arith, l .inv .1, used),
+      c .if2 .taken,
+      vain .1,
+      λ v x. subst (λ (k : List ℕ). Charged i (now (a .text)) (l .state .place) k v) (vain .0) (old .charged v x),
+    )
 
 one-turn-requires : tie.Need-one-turn-requires Inv-loop μ-loop
 one-turn-requires c κs =
-    let scan = c .before in
-    let head = scan-head scan in
+    let look = c .before .before in
+    let head = look-head look in
     let w = start-of head .pre .1 in
-    (fits-here scan (w .0) (w .1) (w .2, w .3), (_, _, going-here head (w .0) (w .1) (w .2, w .3) .ready))
+    let held : Held (start-of head) (w .0) (w .1) = (w .2, w .3, w .4) in
+    (fits-here look (c .before .if2 .left) (w .0) (w .1) held, (_, _, turned-here head (w .0) (w .1) held .going .ready))
 
 enum-known-after : tie.Need-enum-known-after Inv-loop μ-loop
 enum-known-after c = search needs
 
 -- The stack keeps its length.
 kept-here : (turn : tie.After-one-turn Inv-loop μ-loop)
-    → length (turn .one-turn .last .1 .1 .1 .1 .1 .0) ≡ length (now (start-of (scan-head (turn-scan turn)) .args .stack))
-kept-here turn =
-    let head = scan-head (turn-scan turn) in
-    turn .one-turn .kept .1 .1 .1 .1 .1 .0 ∙ head .loop .inv .0
+    → length (turn .one-turn .last .1 .1 .1 .1 .1 .0) ≡ length (now (start-of (look-head (turn-look turn)) .args .stack))
+kept-here turn = turn .one-turn .kept .1 .1 .1 .1 .1 .0 ∙ look-head (turn-look turn) .loop .inv .0
 
-same-length : tie.Need-same-length Inv-loop μ-loop
-same-length c = kept-here (c .before .before .before .before .before)
+same-length-2 : tie.Need-same-length-2 Inv-loop μ-loop
+same-length-2 c = kept-here (c .before .before .before .before .before)
 
-returns : tie.Need-returns Inv-loop μ-loop
-returns c =
+returns-2 : tie.Need-returns-2 Inv-loop μ-loop
+returns-2 c =
     let turn = c .before .before .before .before .before in
-    let scan = turn-scan turn in
-    let head = scan-head scan in
+    let look = turn-look turn in
+    let head = look-head look in
     let l = head .loop in
     let a = start-of head .args in
     let t = tables-here (start-of head) in
     let done = c .before .after .given .0 .0 in
-    let e : turn-step (now (a .image)) (drop 384 (t .tables)) (t .productions) (t .empty) (t .skips) (l .stack) (scan .scan .result) (l .state) .outcome ≡ Done done =
+    let found = look .look .result .found in
+    let e : turn-step (now (a .image)) (drop 384 (t .tables)) (t .productions) (t .empty) (t .skips) (l .stack) found (l .state) .outcome ≡ Done done =
     sym (turn .one-turn .ensures .0) ∙ c .before .after .given .1 in
-    λ i whole w g.
-    going-done i (now (a .image)) t (w .decoded) (now (a .text)) (l .stack) (l .state) whole (going-here head i whole (w, g)) (more-here scan)
-    (scan .scan .result) (found-here scan i whole (w, g)) (fits-here scan i whole (w, g)) done e
+    let p = done-place (now (a .image)) (drop 384 (t .tables)) (t .productions) (t .empty) (t .skips) (l .stack) (l .state) found done e in
+    λ i whole w g h.
+    let held : Held (start-of head) i whole = (w, g, h) in
+    let old = turned-here head i whole held in (
+      going-done i (now (a .image)) t (w .decoded) (now (a .text)) (l .stack) (l .state) whole (old .going) (more-here look)
+          found (seen-here look i whole held .longest (quiet turn)) (fits-here look (quiet turn) i whole held) done e,
+      λ v x. subst (λ (q : ℕ). ChargedAt i (now (a .text)) q v) (sym p)
+          (charged-at i (now (a .text)) (now (a .matches)) (l .state .place) v (drop (l .turn) (now (a .matches))) (old .charged v x)),
+    )
 
 enum-known-after-2 : tie.Need-enum-known-after-2 Inv-loop μ-loop
 enum-known-after-2 c = search needs
 
+add-turn : tie.Need-add-turn Inv-loop μ-loop
+add-turn c =
+    let look = turn-look (next-turn c) in
+    omega (arith, look-head look .loop .inv .1, more-here look, small (look-head look))
+
+-- The place rises.
+rises : (c : tie.After-known-told2 Inv-loop μ-loop)
+    → let head = look-head (turn-look (next-turn c)) in
+    let next = c .before .after2 .given .0 .0 in
+    (head .loop .state .place < next .place) × (next .place ≤ length (now (start-of head .args .text)))
+rises c =
+    let w = start-of (look-head (turn-look (next-turn c))) .pre .1 in
+    let t = next-here c (w .0) (w .1) (w .2, w .3, w .4) in
+    (t .1, t .0 .going .within)
+
 loop-less : tie.Need-loop-less Inv-loop μ-loop
-loop-less c =
-    let w = start-of (scan-head (turn-scan (next-turn (c .before)))) .pre .1 in
-    let t = next-here (c .before) (w .0) (w .1) (w .2, w .3) in
-    omega (arith, t .0 .within, t .1)
+loop-less c = let r = rises c in omega (arith, r .0, r .1)
 
 loop-again : tie.Need-loop-again Inv-loop μ-loop
 loop-again c =
-    let turn = next-turn (c .before) in
-    (turn .one-turn .kept .1 .1 .1 .1 .1 .0 ∙ scan-head (turn-scan turn) .loop .inv .0, λ i whole w g. next-here (c .before) i whole (w, g) .0)
+    let turn = next-turn c in
+    let r = rises c in
+    (kept-here turn, omega (arith, r .0, look-head (turn-look turn) .loop .inv .1), λ i whole w g h. next-here c i whole (w, g, h) .0)
 
-same-length-2 : tie.Need-same-length-2 Inv-loop μ-loop
-same-length-2 c = c .before .before .loop .inv .0
+same-length-3 : tie.Need-same-length-3 Inv-loop μ-loop
+same-length-3 c = c .before .before .loop .inv .0
 
-returns-2 : tie.Need-returns-2 Inv-loop μ-loop
-returns-2 c = λ i whole w g. (going-here (c .before .before) i whole (w, g), c .if1 .left)
+returns-3 : tie.Need-returns-3 Inv-loop μ-loop
+returns-3 c =
+    let head = c .before .before in
+    let l = head .loop in
+    let a = start-of head .args in
+    λ i whole w g h.
+    let old = turned-here head i whole (w, g, h) in (
+      old .going,
+      c .if1 .left,
+      λ v x. charged-at i (now (a .text)) (now (a .matches)) (l .state .place) v (drop (l .turn) (now (a .matches))) (old .charged v x),
+    )
 
 pub run-turns-spec : {M : Type 1} → statement M
 run-turns-spec =
@@ -182,16 +262,16 @@ run-turns-spec =
     Inv-loop
     μ-loop
     loop-holds
-    sub-scan
-    part-scan-start
-    part-scan-end
-    scan-requires
-    one-turn-requires
-    enum-known-after
+    look-requires
     same-length
     returns
+    one-turn-requires
+    enum-known-after
+    same-length-2
+    returns-2
     enum-known-after-2
+    add-turn
     loop-less
     loop-again
-    same-length-2
-    returns-2)
+    same-length-3
+    returns-3)

@@ -37,16 +37,6 @@ pub record Going (i : Image) (bytes : List ℕ) (t : ImageTables) (text stack : 
   pub same : trace-from i (length stack) text turns (state-held takes stack s) ≡ whole
   pub ready : Ready bytes (drop 384 (t .tables)) (t .productions) (t .empty) (i .rows) (t .nonterminals) stack (s .depth) (s .first)
 
--- What turns from a state on leave: the answer of the whole run; or a state from which its turns go on, once a place is reached.
-abbrev pub TurnsLead : Image → List ℕ → ImageTables → List ℕ → ℕ → Ended → List ℕ → Turn → Type 0
-TurnsLead i bytes t text stop whole stack (Done a) = answer-held a ≡ answer-of whole
-TurnsLead i bytes t text stop whole stack (Next s) = Going i bytes t text stack s whole × (stop ≤ s .place)
-
--- The scanner sees the rest of a text from the place on, and finds the image's longest match there.
-pub scanned : (i : Image) (text : List ℕ) (p : ℕ) (f : Found)
-    → match-of f ≡ longest-match (i .positions) (i .first) (take (length text - p) (drop p text)) → match-of f ≡ match-at i text p
-scanned i text p f e = e ∙ ap (λ (l : List ℕ). longest-match (i .positions) (i .first) l) (rest-from text p)
-
 -- At the start: 0 alone is pending.
 going-start : (i : Image) (bytes : List ℕ) (t : ImageTables) → Decoded bytes t i → (text stack : List ℕ) → 1 ≤ length stack
     → Going i bytes t text stack (state-at 0 1 0 0) (trace-from i (length stack) text (length text) start-state)

@@ -4,7 +4,7 @@ use native.Mathlib.Omega.{arith}
 use lib.Bits.{and-le-l}
 use lib.ListN.{getD}
 use denote.Ref.{now}
-use Rattle.scanner.proofs.Byte.{leads-to}
+use Rattle.scanner.specs.laws.ByteLaws.{leads-to}
 use Rattle.scanner.proofs.after_byte.Statement.{statement}
 use Rattle.scanner.proofs.after_byte.Tie as tie
 

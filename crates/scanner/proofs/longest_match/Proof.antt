@@ -15,7 +15,7 @@ use Rattle.lexer.specs.SetWalk.{members}
 use Rattle.lexer.specs.Walk.{keep, follows, walk, longest-match}
 use Rattle.scanner.specs.Meaning.{match-of, Prepared}
 use Rattle.scanner.specs.Sets.{first-entry, match-by}
-use Rattle.scanner.proofs.Byte.{kept-is, ended-kept}
+use Rattle.scanner.specs.laws.ByteLaws.{kept-is, ended-kept}
 use Rattle.scanner.proofs.Text.{match-new, match-old, match-latest, longer-again, so-far}
 use Rattle.scanner.proofs.Text.{walk-start, walk-begun, walk-turn, walk-stops, walk-end}
 use Rattle.scanner.proofs.longest_match.Statement.{statement}

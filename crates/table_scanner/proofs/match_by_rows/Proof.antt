@@ -1,161 +1,155 @@
--- `table_scanner::match_by_rows` meets its contract. The facts stand before what the operations ask for, so that a walk which finds
--- another match is refused at them.
-use mathlib.Core.Path.{_≡_, sym, _∙_}
-use mathlib.Core.Logic.{⊎-elim}
-use Prim.Native.Nat.{_+_, _-_, _*_, _≤_, _<_}
+-- `table_scanner::match_by_rows` meets its contract. The facts of a turn stand before what the operations ask for, so that a turn which
+-- notes another match is refused at them.
+use mathlib.Core.Path.{_≡_, refl, sym, ap, _∙_}
+use Prim.Native.Nat.{ℕ, _+_, _-_, _*_, _≤_, _<_}
 use native.Mathlib.Omega.{arith}
-use lib.ListN.{length, getD, length-take}
+use lib.ListN.{length, getD}
 use denote.Ref.{now}
-use Rattle.lexer.specs.Table.{row-entries, match-by-rows}
+use Rattle.lexer.specs.Match.{no-match, longer}
+use Rattle.lexer.specs.Table.{row-entries, no-winner, winning, match-by-rows}
 use Rattle.scanner.specs.Meaning.{match-of}
 use Rattle.table_scanner.specs.Rows.{RowsIn}
-use Rattle.table_scanner.proofs.Front.{front-row, front-match, row-first, row-more, first-below, winner-read, winner-most}
-use Rattle.table_scanner.proofs.Front.{match-none, match-all, match-won, match-stops, match-never}
+use Rattle.table_scanner.proofs.Front.{front-row, front-match, row-none, row-more, match-none, match-all, match-more}
+use Rattle.table_scanner.proofs.Front.{winner-read, winner-most, noted, noted-none, noted-new, noted-old}
 use Rattle.table_scanner.proofs.match_by_rows.Statement.{statement}
 use Rattle.table_scanner.proofs.match_by_rows.Tie as tie
 
 abbrev Inv-loop : tie.InvT-loop
-Inv-loop text table winners row₀ n₀ row n =
-    (row ≡ front-row table text n) × (1 ≤ n) × (n ≤ length text) × ((k : RowsIn table winners) → row < k .row-count)
+Inv-loop text table winners winner₀ length₀ row₀ n₀ winner length-found row n =
+    (noted winner length-found ≡ front-match table winners text n) × (row ≡ front-row table text n) × (n ≤ length text)
+    × ((k : RowsIn table winners) → row < k .row-count) × (winner ≤ no-winner)
 
 abbrev μ-loop : tie.MeasureT-loop
-μ-loop text table winners row₀ n₀ row n = length text - n
-
--- Where the text's bytes are known, just after the start.
-abbrev text-known : tie.At-loop Inv-loop μ-loop → tie.After-shared-slice-known Inv-loop μ-loop
-text-known c = c .before .before .before .before .before .before .before
+μ-loop text table winners winner₀ length₀ row₀ n₀ winner length-found row n = length text - n
 
 -- ---- the facts
 
-returns : tie.Need-returns Inv-loop μ-loop
-unfolding match-of
-returns c =
-    let a = c .before .before .before .before .args in
-    match-none (now (a .table)) (now (a .winners)) (now (a .text))
-    ∙ match-all (now (a .table)) (now (a .winners)) (now (a .text)) 0 (omega arith)
-
-returns-2 : tie.Need-returns-2 Inv-loop μ-loop
-unfolding match-of
-returns-2 c =
-    let known = c .before .before .before .before .before .before in
-    let s = known .before in
-    let a = s .args in
-    match-never (now (a .table)) (now (a .winners)) (now (a .text)) (s .pre) (λ i. known .shared-slice-known .given i .fits) (omega arith)
-    (c .if2 .taken)
-
 loop-holds : tie.Need-loop-holds Inv-loop μ-loop
 loop-holds c =
-    let known = c .before .before .before .before .before .before in
-    let a = known .before .args in (
-      row-first (now (a .table)) (now (a .text)) (omega arith),
+    let a = c .args in (
+      noted-none ∙ match-none (now (a .table)) (now (a .winners)) (now (a .text)),
+      row-none (now (a .table)) (now (a .text)),
       omega arith,
+      λ k. omega (arith, k .two-rows),
       omega arith,
-      λ k. first-below k _ (known .shared-slice-known .given 0 .fits),
     )
 
--- The row after the byte is the one that it leads to, also where that is the same.
-step-here : (c : tie.Joined3 Inv-loop μ-loop)
-    → let l = c .before .before .before .before .loop in
-    let a = text-known (c .before .before .before .before) .before .args in
-    c .if3 .row ≡ getD (now (a .table)) (l .row * row-entries + getD (now (a .text)) (l .n) 0) 0
-step-here c = ⊎-elim (λ w. w .2) (λ w. w .1 ∙ sym (w .0 .left)) (c .if3 .came)
+-- The row that the byte leads to is one of the rows.
+next-below : (c : tie.After-shared-slice-known Inv-loop μ-loop)
+    → let l = c .before .before .loop in
+    let a = c .before .before .before .args in
+    (k : RowsIn (now (a .table)) (now (a .winners)))
+    → getD (now (a .table)) (l .row * row-entries + getD (now (a .text)) (l .n) 0) 0 < k .row-count
+next-below c k =
+    let l = c .before .before .loop in
+    k .next-row (l .row) _ (l .inv .3 k) (c .shared-slice-known .given (l .n) .fits)
+
+-- The match with the byte's, by the winner as it is read.
+match-next : (c : tie.After-shared-slice-known Inv-loop μ-loop)
+    → let l = c .before .before .loop in
+    let a = c .before .before .before .args in
+    let next = getD (now (a .table)) (l .row * row-entries + getD (now (a .text)) (l .n) 0) 0 in
+    longer (winning (getD (now (a .winners)) next 0)) (l .n + 1) (front-match (now (a .table)) (now (a .winners)) (now (a .text)) (l .n))
+    ≡ front-match (now (a .table)) (now (a .winners)) (now (a .text)) (l .n + 1)
+match-next c =
+    let l = c .before .before .loop in
+    let s = c .before .before .before in
+    let a = s .args in
+    ap (λ (w : ℕ). longer (winning w) (l .n + 1) (front-match (now (a .table)) (now (a .winners)) (now (a .text)) (l .n)))
+    (winner-read (s .pre) _ (next-below c (s .pre)))
+    ∙ match-more (now (a .table)) (now (a .winners)) (now (a .text)) (l .row) (l .n) _ (c .before .loop-test .taken) (l .inv .1) refl
+
+row-next : (c : tie.After-shared-slice-known Inv-loop μ-loop)
+    → let l = c .before .before .loop in
+    let a = c .before .before .before .args in
+    getD (now (a .table)) (l .row * row-entries + getD (now (a .text)) (l .n) 0) 0 ≡ front-row (now (a .table)) (now (a .text)) (l .n + 1)
+row-next c =
+    let l = c .before .before .loop in
+    let a = c .before .before .before .args in
+    row-more (now (a .table)) (now (a .text)) (l .row) (l .n) (c .before .loop-test .taken) (l .inv .1)
 
 loop-again : tie.Need-loop-again Inv-loop μ-loop
 loop-again c =
-    let head = c .before .before .before .before in
-    let l = head .loop in
-    let known = text-known head in
-    let a = known .before .args in (
-      step-here c ∙ row-more (now (a .table)) (now (a .text)) (l .row) (l .n) (c .before .before .before .loop-test .taken) (l .inv .0),
+    let known = c .before .before .before in
+    let k = known .before .before .before .pre in (
+      sym (noted-new _ _ no-match (c .if1 .taken)) ∙ noted-new _ _ _ (c .if1 .taken) ∙ match-next known,
+      row-next known,
       omega arith,
-      omega arith,
-      λ k. rw (step-here c) (k .next-row (l .row) _ (l .inv .3 k) (known .shared-slice-known .given (l .n) .fits)),
+      next-below known,
+      winner-most k _ (next-below known k),
     )
 
--- The walk has come to its end: the text's, or a byte that leads to row 1.
-ended-here : (c : tie.Left-loop Inv-loop μ-loop)
-    → let a = text-known (c .before) .before .args in
-    front-match (now (a .table)) (now (a .winners)) (now (a .text)) (c .before .loop .n)
-    ≡ match-by-rows (now (a .table)) (now (a .winners)) (now (a .text))
+loop-again-2 : tie.Need-loop-again-2 Inv-loop μ-loop
+loop-again-2 c =
+    let known = c .before .before .before in
+    let l = known .before .before .loop in (
+      l .inv .0 ∙ noted-old _ _ _ (c .if1 .left) ∙ match-next known,
+      row-next known,
+      omega arith,
+      next-below known,
+      l .inv .4,
+    )
+
+-- All bytes are behind the walk.
+ended-here : (c : tie.After-loop Inv-loop μ-loop)
+    → let l = c .before .loop in
+    let a = c .before .before .args in
+    noted (l .winner) (l .length) ≡ match-by-rows (now (a .table)) (now (a .winners)) (now (a .text))
 ended-here c =
-    let l = c .before .loop in
-    let known = text-known (c .before) in
-    let s = known .before in
-    let a = s .args in
-    ⊎-elim
-    (λ w. match-all (now (a .table)) (now (a .winners)) (now (a .text)) (l .n) (w .left))
-    (λ w. match-stops (now (a .table)) (now (a .winners)) (now (a .text)) (s .pre) (λ i. known .shared-slice-known .given i .fits)
-    (l .row) (l .n) (w .0 .taken) (l .inv .0) (w .4 .taken))
-    (c .loop-test .came)
+    let a = c .before .before .args in
+    c .before .loop .inv .0 ∙ match-all (now (a .table)) (now (a .winners)) (now (a .text)) _ (c .loop-test .left)
 
-returns-3 : tie.Need-returns-3 Inv-loop μ-loop
+returns : tie.Need-returns Inv-loop μ-loop
 unfolding match-of
-returns-3 c =
-    let left = c .before .before in
-    let l = left .before .loop in
-    let s = text-known (left .before) .before in
-    let a = s .args in
-    match-won (now (a .table)) (now (a .winners)) (now (a .text)) (l .row) (l .n) _ (l .inv .1) (l .inv .2) (l .inv .0)
-    (winner-read (s .pre) (l .row) (l .inv .3 (s .pre))) (c .if5 .taken)
-    ∙ ended-here left
+returns c = noted-old _ _ no-match (c .if2 .taken) ∙ ended-here (c .before)
 
-returns-4 : tie.Need-returns-4 Inv-loop μ-loop
-returns-4 c = c .earlier-match .ensures ∙ ended-here (c .before .before .before .before)
+returns-2 : tie.Need-returns-2 Inv-loop μ-loop
+unfolding match-of
+returns-2 c = noted-new _ _ no-match (c .if2 .left) ∙ ended-here (c .before)
 
 -- ---- what the operations ask for
 
-shared-slice-read-row : tie.Need-shared-slice-read-row Inv-loop μ-loop
-shared-slice-read-row c = omega arith
-
-cast-row : tie.Need-cast-row Inv-loop μ-loop
-cast-row c = omega (arith, c .shared-slice-known4 .given 0)
-
-mul-row : tie.Need-mul-row Inv-loop μ-loop
-mul-row c = omega (arith, c .shared-slice-known4 .given 0)
-
-shared-slice-read-row-2 : tie.Need-shared-slice-read-row-2 Inv-loop μ-loop
-shared-slice-read-row-2 c =
-    omega (arith, c .before .shared-slice-known4 .given 0, c .before .before .before .before .before .before .pre .entries-lent)
-
-cast-row-2 : tie.Need-cast-row-2 Inv-loop μ-loop
-cast-row-2 c =
-    let k = c .before .before .before .before .before .before .pre in
-    omega (arith, first-below k _ (c .before .shared-slice-known4 .given 0 .fits), k .few-rows)
-
 mul-next : tie.Need-mul-next Inv-loop μ-loop
-mul-next c =
-    let k = text-known (c .before) .before .pre in
-    omega (arith, c .before .loop .inv .3 k, k .few-rows)
+mul-next c = let k = c .before .before .pre in omega (arith, c .before .loop .inv .3 k, k .few-rows)
 
 shared-slice-read-next : tie.Need-shared-slice-read-next Inv-loop μ-loop
 shared-slice-read-next c = c .before .loop-test .taken
 
 cast-next : tie.Need-cast-next Inv-loop μ-loop
-cast-next c = omega (arith, c .shared-slice-known6 .given (c .before .before .loop .n))
+cast-next c = omega (arith, c .shared-slice-known .given (c .before .before .loop .n))
 
 add-next : tie.Need-add-next Inv-loop μ-loop
 add-next c =
     let l = c .before .before .loop in
-    let k = text-known (c .before .before) .before .pre in
-    omega (arith, c .shared-slice-known6 .given (l .n), l .inv .3 k, k .few-rows)
+    let k = c .before .before .before .pre in
+    omega (arith, c .shared-slice-known .given (l .n), l .inv .3 k, k .few-rows)
 
 mul-next-2 : tie.Need-mul-next-2 Inv-loop μ-loop
 mul-next-2 c =
     let l = c .before .before .loop in
-    let k = text-known (c .before .before) .before .pre in
-    omega (arith, c .shared-slice-known6 .given (l .n), l .inv .3 k, k .few-rows)
+    let k = c .before .before .before .pre in
+    omega (arith, c .shared-slice-known .given (l .n), l .inv .3 k, k .few-rows)
 
 shared-slice-read-next-2 : tie.Need-shared-slice-read-next-2 Inv-loop μ-loop
 shared-slice-read-next-2 c =
     let l = c .before .before .before .loop in
-    let k = text-known (c .before .before .before) .before .pre in
-    omega (arith, c .before .shared-slice-known6 .given (l .n), l .inv .3 k, k .few-rows, k .entries-lent)
+    let k = c .before .before .before .before .pre in
+    omega (arith, c .before .shared-slice-known .given (l .n), l .inv .3 k, k .few-rows, k .entries-lent)
 
 cast-next-2 : tie.Need-cast-next-2 Inv-loop μ-loop
 cast-next-2 c =
-    let l = c .before .before .before .loop in
-    let k = text-known (c .before .before .before) .before .pre in
-    omega (arith, k .next-row (l .row) _ (l .inv .3 k) (c .before .shared-slice-known6 .given (l .n) .fits), k .few-rows)
+    let k = c .before .before .before .before .pre in
+    omega (arith, next-below (c .before) k, k .few-rows)
+
+mul-latest : tie.Need-mul-latest Inv-loop μ-loop
+mul-latest c =
+    let k = c .before .before .before .before .pre in
+    omega (arith, next-below (c .before) k, k .few-rows)
+
+shared-slice-read-latest : tie.Need-shared-slice-read-latest Inv-loop μ-loop
+shared-slice-read-latest c =
+    let k = c .before .before .before .before .before .pre in
+    omega (arith, next-below (c .before .before) k, k .few-rows, k .winners-lent)
 
 add-n : tie.Need-add-n Inv-loop μ-loop
 add-n c = omega arith
@@ -163,30 +157,11 @@ add-n c = omega arith
 loop-less : tie.Need-loop-less Inv-loop μ-loop
 loop-less c = omega arith
 
-mul-winner : tie.Need-mul-winner Inv-loop μ-loop
-mul-winner c =
-    let k = text-known (c .before) .before .pre in
-    omega (arith, c .before .loop .inv .3 k, k .few-rows)
+loop-less-2 : tie.Need-loop-less-2 Inv-loop μ-loop
+loop-less-2 c = omega arith
 
-shared-slice-read-winner : tie.Need-shared-slice-read-winner Inv-loop μ-loop
-shared-slice-read-winner c =
-    let k = text-known (c .before .before) .before .pre in
-    omega (arith, c .before .before .loop .inv .3 k, k .few-rows, k .winners-lent)
-
-cast-t26 : tie.Need-cast-t26 Inv-loop μ-loop
-cast-t26 c =
-    let l = c .before .before .before .loop in
-    let k = text-known (c .before .before .before) .before .pre in
-    omega (arith, winner-most k (l .row) (l .inv .3 k))
-
-slice-aggregate-earlier-match : tie.Need-slice-aggregate-earlier-match Inv-loop μ-loop
-slice-aggregate-earlier-match c =
-    let l = c .before .before .before .before .loop in
-    let text = now (text-known (c .before .before .before .before) .before .args .text) in
-    omega (arith, l .inv .2, length-take (l .n) text)
-
-earlier-match-requires : tie.Need-earlier-match-requires Inv-loop μ-loop
-earlier-match-requires c κs = text-known (c .before .before .before .before) .before .pre
+cast-t21 : tie.Need-cast-t21 Inv-loop μ-loop
+cast-t21 c = omega arith
 
 pub match-by-rows-spec : {M : Type 1} → statement M
 match-by-rows-spec =
@@ -194,13 +169,6 @@ match-by-rows-spec =
     (tie.spec
     Inv-loop
     μ-loop
-    returns
-    shared-slice-read-row
-    cast-row
-    mul-row
-    shared-slice-read-row-2
-    cast-row-2
-    returns-2
     loop-holds
     mul-next
     shared-slice-read-next
@@ -209,13 +177,13 @@ match-by-rows-spec =
     mul-next-2
     shared-slice-read-next-2
     cast-next-2
+    mul-latest
+    shared-slice-read-latest
     add-n
     loop-less
     loop-again
-    mul-winner
-    shared-slice-read-winner
-    cast-t26
-    returns-3
-    slice-aggregate-earlier-match
-    earlier-match-requires
-    returns-4)
+    loop-less-2
+    loop-again-2
+    returns
+    cast-t21
+    returns-2)

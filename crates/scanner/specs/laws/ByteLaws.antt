@@ -49,6 +49,12 @@ keep-and : (ps : List Position) (held b : ℕ) → bitAnd held (having ps 0 b) �
 keep-and ps held b =
     bit-ext-all (bitAnd held (having ps 0 b)) (keep ps 0 held b) (λ j. bit-and held (having ps 0 b) j ∙ sym (keep-bit ps 0 held b j))
 
+-- Fewer that are held, fewer that are kept.
+pub and-keep : (ps : List Position) (set held b : ℕ) → bitAnd set (keep ps 0 held b) ≡ keep ps 0 (bitAnd set held) b
+and-keep ps set held b =
+    bit-ext-all (bitAnd set (keep ps 0 held b)) (keep ps 0 (bitAnd set held) b)
+    (λ j. simp (bit-and, keep-bit) (sym (B.and-assoc (bit set j) (bit held j) (bit (having ps 0 b) j))))
+
 -- No position past the last is in the set of a byte.
 having-above : (ps : List Position) (i b j : ℕ) → i + length ps ≤ j → bit (having ps i b) j ≡ false
 unfolding having

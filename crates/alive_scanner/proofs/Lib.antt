@@ -1,0 +1,5 @@
+-- The laws that the functions' proofs cite: one byte to the left, passes from the right, and walks with alive positions.
+pub mod Backward
+pub mod Passes
+pub mod CutWalk
+pub mod AheadLaws

@@ -1,0 +1,2 @@
+-- The law that the functions' proofs share: a list whose first entries are right.
+pub mod Entries

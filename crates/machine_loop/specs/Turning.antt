@@ -1,0 +1,71 @@
+-- Turns from a state on, by matches that were found ahead and then by walks that are made once: what they leave, and what was charged for
+-- walks in vain. What a turn does is said by machine_turn, what walks cost by machine's Work.
+use mathlib.Core.Path.{_≡_}
+use mathlib.Core.List.{List, [], _∷_}
+use Prim.Native.Nat.{ℕ, _+_, _≤_, _<_}
+use lib.ListN.{length, drop}
+use Rattle.lexer.specs.Match.{matched}
+use Rattle.lexer.specs.Walk.{longest-match}
+use Rattle.lexer.specs.Alive.{Told, ends-with, in-vain, vain-bytes}
+use Rattle.scanner.specs.Meaning.{match-of}
+use Rattle.scanner.specs.declared.Found.{Found}
+use Rattle.scanner.specs.declared.Found.the-variants as found
+use Rattle.image.specs.Image.{Image}
+use Rattle.image_reader.specs.Decoded.{ImageTables}
+use Rattle.machine.specs.Trace.{Ended, answer-of, match-at}
+use Rattle.machine.specs.Work.{charge, budget, TurnsTo}
+use Rattle.machine_turn.specs.Steps.{answer-held}
+use Rattle.machine_turn.specs.laws.Going.{Going}
+use Rattle.machine_turn.specs.declared.Turn.{Turn}
+use Rattle.machine_turn.specs.declared.Turn.the-variants as turn
+use Rattle.machine_loop.specs.declared.Seen.{Seen}
+use Rattle.machine_loop.specs.declared.Turns.{Turns}
+use Rattle.machine_loop.specs.declared.Turns.the-variants.{Done, Reached, InVain}
+
+-- What a walk told: the match that it ends with, or how far it went in vain.
+abbrev pub SeenBy : Seen → Told → Type 0
+SeenBy r (ends-with m) = (r .vain ≡ 0) × (match-of (r .found) ≡ m)
+SeenBy r (in-vain n) = r .vain ≡ n
+
+-- What is seen at a place, given the words of matches that were found ahead from there on: the longest match, by the first word, or by a walk
+-- that ends with it; or, where there is no word, how many bytes the walk went over in vain.
+pub record SeenAt (i : Image) (text : List ℕ) (p : ℕ) (words : List ℕ) (r : Seen) : Type 0 where
+  pub longest : r .vain ≡ 0 → match-of (r .found) ≡ match-at i text p
+  pub not-in-vain : r .vain ≡ 0 → words ≡ [] → vain-bytes (i .positions) (i .first) (drop p text) ≡ 0
+  pub went-in-vain : (r .vain ≡ 0 → ⊥) → (words ≡ []) × (r .vain ≡ vain-bytes (i .positions) (i .first) (drop p text))
+
+-- The turns up to a place were charged so much, or less.
+abbrev pub ChargedAt : Image → List ℕ → ℕ → ℕ → Type 0
+ChargedAt i text p most =
+    (walked charged cut : ℕ) × TurnsTo (i .positions) (i .first) text p walked charged cut × (charged ≤ most)
+
+-- The same of every place that matches found ahead lead to; at the last of these it is just so much.
+abbrev pub Charged : Image → List ℕ → ℕ → List ℕ → ℕ → Type 0
+Charged i text p [] v = (walked cut : ℕ) × TurnsTo (i .positions) (i .first) text p walked v cut
+Charged i text p (word ∷ words) v =
+    ChargedAt i text p v
+    × ((rule n : ℕ) → match-at i text p ≡ matched rule n → Charged i text (p + n) words v)
+
+-- What the turns from a state leave: the answer of the whole run; a state from which its turns go on, once a place is reached; or one where
+-- the walk went over so many bytes in vain, all matches found ahead being used. `before` says what was charged before them.
+abbrev pub TurnsLead : Image → List ℕ → ImageTables → List ℕ → ℕ → ℕ → Ended → List ℕ → (ℕ → Type 0) → Turns → Type 0
+TurnsLead i bytes t text used stop whole stack before (Done a) = (answer-held a ≡ answer-of whole) × ((v : ℕ) → before v → ChargedAt i text (a .place) v)
+TurnsLead i bytes t text used stop whole stack before (Reached s) =
+    Going i bytes t text stack s whole × (stop ≤ s .place) × ((v : ℕ) → before v → ChargedAt i text (s .place) v)
+TurnsLead i bytes t text used stop whole stack before (InVain s n) =
+    Going i bytes t text stack s whole × (s .place < length text) × (used ≤ s .place) × (n ≡ 0 → ⊥)
+    × (n ≡ vain-bytes (i .positions) (i .first) (drop (s .place) text)) × ((v : ℕ) → before v → Charged i text (s .place) [] v)
+
+-- A match of some bytes and of no more than a text has, or none.
+abbrev pub WordFits : Found → Type 0
+WordFits found.Nothing = Unit
+WordFits (found.Rule rule n) = (1 ≤ n) × (n ≤ 1048576)
+
+-- What is left once the turns are over, or once their walks in vain cost more than the budget allows: the answer of the whole run, within the
+-- budget; or a state from which its turns go on, where the next walk breaks it.
+abbrev pub PlainLead : Image → List ℕ → ImageTables → List ℕ → Ended → List ℕ → Turn → Type 0
+PlainLead i bytes t text whole stack (turn.Done a) = (answer-held a ≡ answer-of whole) × ChargedAt i text (a .place) (budget text)
+PlainLead i bytes t text whole stack (turn.Next s) =
+    Going i bytes t text stack s whole
+    × ((walked charged cut : ℕ) × TurnsTo (i .positions) (i .first) text (s .place) walked charged cut
+    × (charged ≤ budget text) × (budget text < charged + charge (i .positions) (i .first) (drop (s .place) text)))
