@@ -1,9 +1,12 @@
-//! How far the walks of a run go past the ends of their matches: the bytes walked in vain, and the switch.
+//! How far the walks of a run go: which of them are in vain, what is charged for these, and the switch.
 //!
-//! No answer depends on this. The library goes on in another way once too many bytes were walked in vain, and the
-//! tests count how often it has to.
+//! No answer depends on this. Once too much would be charged, the library reads the rest of the text in another way, and
+//! the tests count how often it has to.
 
 use crate::image::Image;
+
+/// A text may be charged at least so many bytes, however short it is.
+pub const LEAST_BUDGET: usize = 4_096;
 
 /// A turn of a run: the walk at a place, and its match.
 #[derive(Clone, Copy, Debug, PartialEq, Eq)]
@@ -14,6 +17,23 @@ pub struct Turn {
     pub walked: usize,
     /// The length of the match, 0 without one.
     pub length: usize,
+}
+
+impl Turn {
+    /// Whether the walk goes past the end of its match, or over some bytes and finds none. Then all of its bytes are
+    /// walked in vain.
+    pub fn is_in_vain(&self) -> bool {
+        self.walked > self.length
+    }
+
+    /// The bytes that are charged. A walk in vain is made again to find its match, so its bytes count twice; a walk
+    /// that ends with its match is free.
+    pub fn charge(&self) -> usize {
+        match self.is_in_vain() {
+            true => 2 * self.walked,
+            false => 0,
+        }
+    }
 }
 
 /// The turns in which a text is read by longest match, whatever the grammar takes. Without a match there is no turn
@@ -61,8 +81,13 @@ fn walk(image: &Image, rest: &[u8]) -> (usize, usize) {
     (rest.len(), length)
 }
 
-/// The number of the first turn before which more bytes were walked in vain than the text has, if there is one: the
-/// switch is made there. In vain are the bytes of a walk past the end of its match.
+/// How many bytes a text of this length may be charged in all.
+pub fn budget(text_length: usize) -> usize {
+    text_length.max(LEAST_BUDGET)
+}
+
+/// The number of the first turn whose charge brings the sum above the budget, if there is one: the switch is made there,
+/// and the rest of the text is read with alive positions.
 ///
 /// ```
 /// use vinzagew_reference::image::fuse;
@@ -72,19 +97,24 @@ fn walk(image: &Image, rest: &[u8]) -> (usize, usize) {
 /// let sheet = [1, 2, 2, 1, 1, 97, 97, 2, 2, 4, 1, 97, 97, 1, 98, 98, 7, 4, 2, 0, 2, 1];
 /// let image = fuse(&vinzagew_reference::check(&sheet, &mut vec![0; 65_536]).unwrap());
 ///
-/// // At each place the walk goes to the text's end, and the match is one byte: 4, 3, 2, 1 and 0 in vain.
-/// let turns = turns(&image, b"aaaaa");
-/// assert_eq!((turns[1].place, turns[1].walked, turns[1].length), (1, 4, 1));
-/// assert_eq!(switch(&turns, 5), Some(2));
-/// assert_eq!(switch(&turns, 10), None);
+/// // At each place the walk goes to the text's end, and the match is one byte.
+/// let turns = turns(&image, &[b'a'; 100]);
+/// assert_eq!((turns[1].place, turns[1].walked, turns[1].length), (1, 99, 1));
+/// // Twice 100, twice 99 and so on are charged, but nothing for the last walk: 4,094 before turn 23, 10,098 in all.
+/// assert_eq!(turns[23].charge(), 154);
+/// assert_eq!(turns[99].charge(), 0);
+/// assert_eq!(switch(&turns, 100), Some(23));
+/// // The budget grows with the text.
+/// assert_eq!(switch(&turns, 10_097), Some(98));
+/// assert_eq!(switch(&turns, 10_098), None);
 /// ```
 pub fn switch(turns: &[Turn], text_length: usize) -> Option<usize> {
-    let mut in_vain = 0;
+    let mut charged = 0;
     for (number, turn) in turns.iter().enumerate() {
-        if in_vain > text_length {
+        charged += turn.charge();
+        if charged > budget(text_length) {
             return Some(number);
         }
-        in_vain += turn.walked - turn.length;
     }
     None
 }

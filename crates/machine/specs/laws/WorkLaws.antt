@@ -3,7 +3,7 @@
 use mathlib.Core.Path.{_≡_, refl, sym, ap, _∙_}
 use mathlib.Core.List.{List}
 use mathlib.Core.Logic.{⊎-elim}
-use Prim.Native.Nat.{ℕ, zero, suc, _+_, _≤_, _<_}
+use Prim.Native.Nat.{ℕ, zero, suc, _+_, _-_, _≤_, _<_}
 use native.Mathlib.Omega.{arith}
 use lib.ListN.{length, drop, length-drop}
 use Rattle.basics.specs.laws.Order.{compare-cases}
@@ -58,6 +58,16 @@ module _ (ps : List Position) (first : ℕ) (text : List ℕ) where
   work-before {p} t h =
       omega (arith, h, walked-at-most t, turns-within t, walk-bytes-most ps first (drop p text), length-drop p text)
 
+  -- The walk that is made again included, where the budget allows it.
+  pub work-again : {p w v c : ℕ} → TurnsTo ps first text p w v c → v + charge ps first (drop p text) ≤ budget text
+      → w + (walk-bytes ps first (drop p text) + vain-bytes ps first (drop p text)) ≤ length text + budget text
+  unfolding charge vain-bytes
+  work-again {p} {w} {v} t h =
+      ⊎-elim
+      (λ z. omega (arith, z .1, work-before t (omega (arith, h))))
+      (λ z. omega (arith, z, walked-at-most t, turns-within t, h))
+      (match-or-vain (walk-bytes ps first (drop p text)) (longest-match ps first (drop p text)))
+
   -- With alive positions alone, whatever is charged.
   pub work-after : {p w v c : ℕ} → TurnsTo ps first text p w v c → c + cut-bytes ps first (drop p text) ≤ length text
   work-after {p} t =
@@ -70,6 +80,11 @@ module _ (ps : List Position) (first : ℕ) (text : List ℕ) where
         walk-bytes-most ps first (drop p text),
         length-drop p text,
       )
+
+  -- A whole reading that goes by alive positions from place p on, to place q: twice the text's length, and the budget.
+  pub work-in-all : {p w v c q w' v' c' : ℕ} → TurnsTo ps first text p w v c → v ≤ budget text → TurnsTo ps first text q w' v' c'
+      → w + walk-bytes ps first (drop p text) + (c' - c + cut-bytes ps first (drop q text)) ≤ length text + length text + budget text
+  work-in-all t h u = omega (arith, work-before t h, work-after u)
 
   -- ---- turns to one place have one cost
 
