@@ -67,6 +67,9 @@ extern "C" {
  */
 #define VINZAGEW_RECOGNISER_STACK_BYTES 131072
 
+/* The same for a run, with a table or without. */
+#define VINZAGEW_RUN_STACK_BYTES 131072
+
 /* The entries that the table must have at least: at row times 256 plus byte stands the next row. */
 #define VINZAGEW_TABLE_ENTRIES 65536
 
@@ -146,6 +149,9 @@ void vinzagew_write(const uint8_t *sheet, size_t sheet_len,
  * that vinzagew_write made and a word rule matches as far. `stack` ends all zero, except after 12
  * and 13, when it is as it was. Numbers of `out` past the third do not change. If out_len is below
  * 3, nothing happens and nothing changes.
+ *
+ * The time of a run grows with the text's length, whatever the image. A call needs up to
+ * VINZAGEW_RUN_STACK_BYTES of the processor's stack.
  */
 void vinzagew_run(const uint8_t *image, size_t image_len,
                   const uint8_t *text, size_t text_len,
@@ -155,7 +161,8 @@ void vinzagew_run(const uint8_t *image, size_t image_len,
 /*
  * Runs an image over a text with a table. It is meant for long texts: every run builds its table
  * before it reads the text, and matching then looks up one entry for each byte that it walks. Where
- * no match ends at the last of these bytes, it walks them once more.
+ * no match ends at the last of these bytes, it walks them once more. Once this has cost too much,
+ * the rest of the text is matched without the table.
  *
  * out[0]  number, 0 or 12 to 19; the order of the questions is 18, 12, 13, 19, then as without a
  *         table

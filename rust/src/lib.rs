@@ -85,6 +85,9 @@ pub const TEXT_LIMIT: usize = 1_048_576;
 /// adds a tail.
 pub const TAIL_LIMIT: usize = 32;
 
+/// The bytes of the processor's stack that a run needs at most. This is measured, not proved.
+pub const RUN_STACK_BYTES: usize = 131_072;
+
 /// The entries that the table of [`run_with_table`] must have at least: at row × 256 + byte stands the next row.
 pub const TABLE_ENTRIES: usize = 65_536;
 

@@ -106,6 +106,7 @@ fn the_header_has_the_same_limits() {
         limit("RECOGNISER_STACK_BYTES"),
         vinzagew::RECOGNISER_STACK_BYTES
     );
+    assert_eq!(limit("RUN_STACK_BYTES"), vinzagew::RUN_STACK_BYTES);
     assert_eq!(limit("TABLE_ENTRIES"), vinzagew::TABLE_ENTRIES);
     assert_eq!(limit("WINNER_ENTRIES"), vinzagew::WINNER_ENTRIES);
     assert_eq!(limit("NO_WINNER"), vinzagew::NO_WINNER.into());

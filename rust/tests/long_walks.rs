@@ -1,8 +1,9 @@
 //! Long walks: the library against the reference where walks go far past the ends of their matches, in texts over
 //! several blocks of 1,024 bytes, with a table and without. Also that no text of a mebibyte takes long.
 //!
-//! Once more bytes were walked in vain than the text has, the library goes on with alive sets: the switch. No answer
-//! tells of it, so how often it is made is counted by the reference's turns, and must come up.
+//! A walk in vain is made again, and twice its bytes are charged. Before the sum would be more than the text's length,
+//! and more than 4,096, the library goes on with alive positions: the switch. No answer tells of it, so how often it is
+//! made is counted by the reference's turns, and must come up.
 //!
 //! `VINZAGEW_SEED` sets the seed and `VINZAGEW_CASES` the number of cases of each random test. By hand:
 //!
@@ -29,8 +30,11 @@ use vinzagew_reference::Table;
 /// must come up.
 const CASES: usize = 400;
 
-/// How many things are counted of a run, beside the numbers that it ends with.
-const EVENTS: usize = 9;
+/// How many things are counted of a run with the switch, beside the numbers that it ends with.
+const EVENTS: usize = 11;
+
+/// The numbers that a run may end with.
+const ENDS: [u64; 5] = [0, 14, 15, 16, 17];
 
 /// An image, a text, and how many entries the stack has.
 struct Case {
@@ -42,8 +46,9 @@ struct Case {
 impl Case {
     fn new(random: &mut Random, draw: impl Fn(&mut Random) -> Image) -> Case {
         let (image, text) = long_walks::reading(random, draw);
-        let room = match random.below(2) {
-            0 => random.below(text.len()),
+        let room = match random.below(3) {
+            0 => random.range(1, 60),
+            1 => random.range(1, text.len()),
             _ => stack_length(text.len()),
         };
         Case { image, text, room }
@@ -90,28 +95,36 @@ fn block(place: usize) -> usize {
     place / BLOCK
 }
 
-/// The turns of a run that ends at this place, from the switch on, if it is made. The reference's turns and its run end
-/// at the same place.
-fn turns_after_the_switch(case: &Case, end: usize) -> Option<Vec<Turn>> {
+/// The turns of a run that ends at this place: those before the switch, which are all if it is not made, and those from
+/// it on. The reference's turns and its run end at the same place.
+fn turns_around_the_switch(case: &Case, end: usize) -> [Vec<Turn>; 2] {
     let mut turns = turns(&case.image, &case.text);
     turns.retain(|turn| turn.place <= end);
     let last = turns.last().expect("no text is empty");
     let ends = [last.place, last.place + last.length];
     assert!(ends.contains(&end), "{end}: {}", case.shown());
-    let first = switch(&turns, case.text.len())?;
-    Some(turns.split_off(first))
+    let first = switch(&turns, case.text.len()).unwrap_or(turns.len());
+    let after = turns.split_off(first);
+    [turns, after]
 }
 
-/// What is counted of the turns from the switch on, and whether it is so here.
-fn events(turns: &[Turn], text: &[u8], with_table: bool) -> [(&'static str, bool); EVENTS] {
-    let place = turns[0].place;
-    let some = |holds: &dyn Fn(&Turn) -> bool| turns.iter().any(holds);
+/// What is counted of the turns before the switch and of those from it on, and whether it is so here.
+fn events(
+    [before, after]: &[Vec<Turn>; 2],
+    text: &[u8],
+    with_table: bool,
+) -> [(&'static str, bool); EVENTS] {
+    let place = after[0].place;
+    let some = |holds: &dyn Fn(&Turn) -> bool| after.iter().any(holds);
     let blocks = |turn: &Turn, bytes: usize| block(turn.place + bytes - 1) - block(turn.place);
     let crossed = |turn: &Turn| blocks(turn, turn.length.max(1));
     let in_vain = |turn: &Turn| blocks(turn, turn.walked.max(1)) > crossed(turn);
+    let made_again = before.iter().any(Turn::is_in_vain);
     let at_an_end = |turn: &Turn| turn.length > 0 && (turn.place + turn.length) % BLOCK == 0;
     [
         ("the switch is made", true),
+        ("at the text's start", place == 0),
+        ("after a walk that is made again", made_again),
         ("past the first block", block(place) > 0),
         ("in the last block", block(place) == block(text.len() - 1)),
         (
@@ -132,29 +145,52 @@ fn events(turns: &[Turn], text: &[u8], with_table: bool) -> [(&'static str, bool
 /// Things that are counted, with how often they came up.
 type Tally = BTreeMap<&'static str, usize>;
 
-/// Compares the library with the reference on random cases, and counts the runs in which the switch is made, what
-/// comes up in them thereafter, and the numbers that they end with.
+/// What is counted of many runs.
+#[derive(Debug, Default)]
+struct Counts {
+    /// What comes up in runs in which the switch is made.
+    tally: Tally,
+    /// The numbers that these runs end with.
+    ends: BTreeMap<u64, usize>,
+    /// The numbers that the others end with in which a walk is made again.
+    ends_without: BTreeMap<u64, usize>,
+}
+
+impl Counts {
+    /// Counts a run that ended with this number at this place.
+    fn add(&mut self, case: &Case, [number, end]: [u64; 2], with_table: bool) {
+        let turns = turns_around_the_switch(case, end as usize);
+        if !turns[1].is_empty() {
+            for (event, holds) in events(&turns, &case.text, with_table) {
+                *self.tally.entry(event).or_insert(0) += usize::from(holds);
+            }
+            *self.ends.entry(number).or_insert(0) += 1;
+        } else if turns[0].iter().any(Turn::is_in_vain) {
+            *self.ends_without.entry(number).or_insert(0) += 1;
+        }
+    }
+
+    /// Of so many cases the switch is made in a third at least, and everything that is counted came up.
+    fn all_came_up(&self, cases: usize) -> bool {
+        self.tally.len() == EVENTS
+            && self.tally.values().all(|&count| count > 0)
+            && self.tally["the switch is made"] >= cases / 3
+            && self.ends.keys().eq(&ENDS)
+            && self.ends_without.keys().eq(&ENDS)
+    }
+}
+
+/// Compares the library with the reference on random cases, and counts what comes up.
 fn compare(kind: &str, draw: impl Fn(&mut Random) -> Image) {
     let (seed, cases) = seed_and_cases(CASES);
-    let mut tally = Tally::new();
-    let mut numbers = BTreeMap::new();
+    let mut counts = Counts::default();
     for number in 0..cases {
         let case = Case::new(&mut for_case(seed, number), &draw);
         let ([answer, end, _], table) = agree(&case, &format!("seed {seed}, case {number}"));
-        if let Some(turns) = turns_after_the_switch(&case, end as usize) {
-            for (event, holds) in events(&turns, &case.text, table.is_some()) {
-                *tally.entry(event).or_insert(0) += usize::from(holds);
-            }
-            *numbers.entry(answer).or_insert(0) += 1;
-        }
+        counts.add(&case, [answer, end], table.is_some());
     }
-    println!("{kind}, seed {seed}, {cases} cases: {tally:#?}\nends after the switch: {numbers:?}");
-    let all_came_up = tally.len() == EVENTS && tally.values().all(|&count| count > 0);
-    assert!(cases < CASES || all_came_up, "{tally:?}");
-    let often = tally.get("the switch is made") >= Some(&(cases / 3));
-    assert!(cases < CASES || often, "{tally:?}");
-    let every_number = numbers.keys().eq(&[0, 14, 15, 16, 17]);
-    assert!(cases < CASES || every_number, "{numbers:?}");
+    println!("{kind}, seed {seed}, {cases} cases: {counts:#?}");
+    assert!(cases < CASES || counts.all_came_up(cases), "{counts:?}");
 }
 
 #[test]

@@ -1,35 +1,25 @@
 -- One byte to the left by the tables: the last positions and those that lead to alive ones, as far as the byte's class has them, are the
 -- positions alive before it.
-use mathlib.Core.Path.{_≡_, refl, sym, ap, ap₂, subst, _∙_}
-use mathlib.Core.Bool.{Bool, true, false, _&&_, cond}
+use mathlib.Core.Path.{_≡_, sym, ap, subst, _∙_}
+use mathlib.Core.Bool.{true, cond}
 use mathlib.Core.List.{List, [], _∷_}
 use mathlib.Core.Logic.{_⊎_, inl, inr, ⊎-elim}
 use Prim.Native.Nat.{ℕ, zero, suc, _+_, _^_, _≤_, _<_}
 use native.Mathlib.Omega.{arith}
 use lib.Bits.{bitOr, bitAnd}
-use lib.ListN.{length, getD, drop}
+use lib.ListN.{getD, drop}
 use Rattle.basics.specs.Bits.{bit, _∈_}
-use Rattle.basics.specs.laws.BitLaws.{bit-and, bit-ext-all, ∈-cases, ∈-left, ∈-right, ∈-zero, ∈-cond, ∈-when, ∈-one, ∈-self}
+use Rattle.basics.specs.laws.BitLaws.{∈-cases, ∈-left, ∈-right, ∈-zero, ∈-cond, ∈-when, ∈-one, ∈-self}
 use Rattle.basics.specs.laws.Order.{compare-cases}
-use Rattle.basics.specs.laws.Truth.{and-true-first, and-true-second}
 use Rattle.lexer.specs.Positions.{Position}
 use Rattle.lexer.specs.Walk.{has-byte}
 use Rattle.lexer.specs.Alive.{meets, alive-before}
 use Rattle.lexer.specs.laws.PositionList.{PositionFrom, first-place, later-place, place-within}
-use Rattle.lexer.specs.laws.AliveLaws.{meets-at, meets-some, last-alive, leading-alive, in-alive}
+use Rattle.lexer.specs.laws.AliveLaws.{in-both, both-in, same-members, meets-some, last-alive, leading-alive, in-alive}
 use Rattle.scanner.specs.ClassTable.{having}
 use Rattle.scanner.specs.Meaning.{HeldAt}
 use Rattle.leading_sets.specs.Leading.{leading-from, leading}
 use Rattle.alive_scanner.specs.Blocks.{AliveReady}
-
--- Two sets with the same members.
-same-members : (a b : ℕ) → ((i : ℕ) → i ∈ a → i ∈ b) → ((i : ℕ) → i ∈ b → i ∈ a) → a ≡ b
-same-members a b f g = bit-ext-all a b (λ i. go i (bit a i) (bit b i) refl refl)
-  where
-    go : (i : ℕ) (x y : Bool) → bit a i ≡ x → bit b i ≡ y → bit a i ≡ bit b i
-    go i true y e h = e ∙ sym (f i e)
-    go i false true e h = g i h ∙ sym h
-    go i false false e h = e ∙ sym h
 
 -- The members of a class table's set.
 having-in : {ps : List Position} {i j : ℕ} {p : Position} → PositionFrom ps i j p → (b : ℕ) → has-byte p b ≡ true → j ∈ having ps i b
@@ -89,23 +79,22 @@ module _ (ps : List Position) (last : ℕ) (tables unions : List ℕ) (ready : A
 
   to-alive : (b next j : ℕ) → j ∈ bitAnd (before next) (having ps 0 b) → j ∈ alive-before ps b next
   to-alive b next j h =
-      let both : (bit (before next) j && bit (having ps 0 b) j) ≡ true = sym (bit-and (before next) (having ps 0 b) j) ∙ h in
-      let k = in-having ps 0 b j (and-true-second (bit (before next) j) (bit (having ps 0 b) j) both) in
+      let both = in-both (before next) (having ps 0 b) j h in
+      let k = in-having ps 0 b j (both .1) in
       let p = held-place tables last (ready .prepared .held) (k .1) in
       ⊎-elim
       (λ l. last-alive (k .1) b next (k .2) (sym (p .1) ∙ l))
       (λ x.
       let y = meets-some (getD follow j 0) next (in-leading follow next 0 64 j x) in
       leading-alive (k .1) b next (y .0) (k .2) (subst (λ (s : ℕ). y .0 ∈ s) (p .0) (y .1)) (y .2))
-      (∈-cases last (leading follow next) j (and-true-first (bit (before next) j) (bit (having ps 0 b) j) both))
+      (∈-cases last (leading follow next) j (both .0))
 
   from-alive : (b next j : ℕ) → j ∈ alive-before ps b next → j ∈ bitAnd (before next) (having ps 0 b)
   from-alive b next j h =
       let a = in-alive ps b next j h in
       let p = held-place tables last (ready .prepared .held) (a .1) in
       let w = place-within (a .1) in
-      bit-and (before next) (having ps 0 b) j
-      ∙ ap₂ _&&_
+      both-in (before next) (having ps 0 b) j
       (⊎-elim
       (λ l. ∈-left last (leading follow next) j (p .1 ∙ l))
       (λ m.

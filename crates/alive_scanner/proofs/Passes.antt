@@ -1,8 +1,8 @@
 -- The passes from the right as the code goes: the alive positions place by place, and the marks block by block.
-use mathlib.Core.Path.{_≡_, refl, sym, ap, _∙_}
-use mathlib.Core.List.{List, []}
+use mathlib.Core.Path.{_≡_, sym, ap, _∙_}
+use mathlib.Core.List.{List}
 use mathlib.Core.Logic.{⊎-elim}
-use Prim.Native.Nat.{ℕ, suc, _+_, _*_, _%_, _≤_, _<_, min}
+use Prim.Native.Nat.{ℕ, _+_, _*_, _%_, _≤_, _<_, min}
 use native.Mathlib.Omega.{arith}
 use native.Mathlib.Numerals.{add-one}
 use lib.Bits.{bitOr, bitAnd}
@@ -12,7 +12,7 @@ use Rattle.basics.specs.laws.Order.{lt-or-le}
 use Rattle.lexer.specs.Positions.{Position}
 use Rattle.lexer.specs.Alive.{alive-before, alive}
 use Rattle.leading_sets.specs.Leading.{leading}
-use Rattle.alive_scanner.specs.Blocks.{AliveReady, BlockHolds, HeldBefore, MarksHold}
+use Rattle.alive_scanner.specs.Blocks.{AliveReady, BlockHolds, MarksHold}
 use Rattle.alive_scanner.proofs.Backward.{backward}
 
 -- One place to the left.

@@ -21,7 +21,7 @@ unfoldable pub match-bytes : Match → ℕ
 match-bytes no-match = 0
 match-bytes (matched rule n) = n
 
--- A walk over n bytes is in vain if it goes past the end of the match that it finds: so many bytes, and none where it ends with its match.
+-- A walk over n bytes is in vain if it goes past the end of its match, or over some bytes without a match: n bytes then, and 0 otherwise.
 unfoldable pub vain : ℕ → Match → ℕ
 vain n m = cond (eqb n (match-bytes m)) 0 n
 

@@ -21,8 +21,8 @@ least-budget = 4096
 unfoldable pub budget : List ℕ → ℕ
 budget text = max (length text) least-budget
 
--- The turns from the text's start to a place, by longest match: the bytes that their walks go over, those that are made again twice; what
--- is charged for them; and the bytes that walks with alive positions go over.
+-- The turns from the text's start to a place, by longest match: the bytes that their walks go over, with the second walk of those in vain;
+-- what is charged for them; and the bytes that walks which keep alive positions alone would go over.
 pub data TurnsTo (ps : List Position) (first : ℕ) (text : List ℕ) : (place walked charged cut : ℕ) → Type 0 where
   none-yet : TurnsTo ps first text 0 0 0 0
   one-more : {p walked charged cut : ℕ} (rule n : ℕ) → TurnsTo ps first text p walked charged cut → p < length text

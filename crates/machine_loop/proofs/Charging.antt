@@ -3,12 +3,11 @@ use mathlib.Core.Path.{_≡_, refl, sym, ap, subst, _∙_}
 use mathlib.Core.Bool.{Bool, true, false, cond}
 use mathlib.Core.List.{List, [], _∷_}
 use mathlib.Core.Logic.{⊎-elim}
-use Prim.Native.Nat.{ℕ, _+_, _-_, _≤_, _<_, max}
+use Prim.Native.Nat.{ℕ, _+_, _-_, _≤_, _<_}
 use native.Mathlib.Omega.{arith}
 use lib.ListN.{length, take, drop, length-drop}
-use Rattle.lexer.specs.Match.{Match, matched}
 use Rattle.lexer.specs.Walk.{longest-match}
-use Rattle.lexer.specs.Alive.{walk-bytes, vain, vain-bytes, cut-bytes}
+use Rattle.lexer.specs.Alive.{walk-bytes, vain-bytes, cut-bytes}
 use Rattle.lexer.specs.laws.AliveLaws.{match-or-vain, walk-bytes-most, walk-front}
 use Rattle.lexer.specs.laws.LongestMatchLaws.{match-within}
 use Rattle.scanner.specs.Meaning.{match-of}
@@ -23,7 +22,7 @@ use Rattle.machine_turn.specs.Steps.{run-answer, all-members, end-answer}
 use Rattle.machine_turn.specs.declared.RunAnswer.{RunAnswer}
 use Rattle.machine_turn.specs.declared.State.{State}
 use Rattle.alive_scanner.specs.Ahead.{word-match, Ahead}
-use Rattle.machine_loop.specs.Turning.{ChargedAt, Charged, WordFits}
+use Rattle.machine_loop.specs.Turning.{Charged, WordFits}
 
 -- What holds of a state, where these matches were found ahead and so much of the budget is left.
 pub record PlainTo (i : Image) (bytes : List ℕ) (t : ImageTables) (text stack : List ℕ) (state : State) (words : List ℕ) (left : ℕ) (whole : Ended)

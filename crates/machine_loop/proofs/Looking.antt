@@ -1,16 +1,15 @@
 -- What is seen at a place: by the word of a match that was found ahead, or by one walk.
-use mathlib.Core.Path.{_≡_, refl, sym, ap, subst, _∙_}
-use mathlib.Core.Bool.{Bool, true, false, cond}
+use mathlib.Core.Path.{_≡_, refl, sym, ap, _∙_}
+use mathlib.Core.Bool.{Bool, cond}
 use mathlib.Core.List.{List, [], _∷_}
-use Prim.Native.Nat.{ℕ, suc}
+use Prim.Native.Nat.{ℕ}
 use native.Mathlib.Omega.{arith}
-use lib.Dec.{eqb}
-use lib.ListN.{length, getD, drop}
+use lib.ListN.{drop}
 use borrow.Author.Tests.{eq-eqb}
 use Rattle.lexer.specs.Match.{Match}
 use Rattle.lexer.specs.Walk.{longest-match}
 use Rattle.lexer.specs.Alive.{walk-bytes, vain, vain-bytes, Told, ends-with, in-vain, told-by, told}
-use Rattle.lexer.specs.laws.AliveLaws.{told-match, told-vain}
+use Rattle.lexer.specs.laws.AliveLaws.{not-both, told-match, told-vain}
 use Rattle.scanner.specs.Meaning.{match-of}
 use Rattle.image.specs.Image.{Image}
 use Rattle.alive_scanner.specs.Ahead.{word-match, Ahead}
@@ -23,10 +22,7 @@ unfolding told-by
 some-vain n k m e z =
     let v = told-vain n k m e .0 ∙ z in
     let f : ends-with m ≡ in-vain k = sym (ap (λ (b : Bool). cond b (ends-with m) (in-vain (vain n m))) (eq-eqb (vain n m) 0 v)) ∙ e in
-    differ f
-  where
-    differ : {m : Match} {k : ℕ} → ends-with m ≡ in-vain k → ⊥
-    differ e = let z : _≡_ {A = ℕ} 0 1 = cc in absurd (omega arith)
+    not-both f
 
 module _ (i : Image) (text : List ℕ) (p : ℕ) (r : Seen) where
   pub seen-walk : SeenBy r (told (i .positions) (i .first) (drop p text)) → SeenAt i text p [] r

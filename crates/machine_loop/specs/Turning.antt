@@ -5,7 +5,6 @@ use mathlib.Core.List.{List, [], _∷_}
 use Prim.Native.Nat.{ℕ, _+_, _≤_, _<_}
 use lib.ListN.{length, drop}
 use Rattle.lexer.specs.Match.{matched}
-use Rattle.lexer.specs.Walk.{longest-match}
 use Rattle.lexer.specs.Alive.{Told, ends-with, in-vain, vain-bytes}
 use Rattle.scanner.specs.Meaning.{match-of}
 use Rattle.scanner.specs.declared.Found.{Found}
@@ -18,7 +17,9 @@ use Rattle.machine_turn.specs.Steps.{answer-held}
 use Rattle.machine_turn.specs.laws.Going.{Going}
 use Rattle.machine_turn.specs.declared.Turn.{Turn}
 use Rattle.machine_turn.specs.declared.Turn.the-variants as turn
+use Rattle.alive_scanner.specs.Blocks.{HeldBefore}
 use Rattle.machine_loop.specs.declared.Seen.{Seen}
+use Rattle.machine_loop.specs.declared.AheadTurns.{AheadTurns}
 use Rattle.machine_loop.specs.declared.Turns.{Turns}
 use Rattle.machine_loop.specs.declared.Turns.the-variants.{Done, Reached, InVain}
 
@@ -69,3 +70,16 @@ PlainLead i bytes t text whole stack (turn.Next s) =
     Going i bytes t text stack s whole
     × ((walked charged cut : ℕ) × TurnsTo (i .positions) (i .first) text (s .place) walked charged cut
     × (charged ≤ budget text) × (budget text < charged + charge (i .positions) (i .first) (drop (s .place) text)))
+
+-- What is gone on from after turns by matches found ahead, where the block that is held ends. After a walk in vain no block is held.
+abbrev pub ahead-left : Turns → ℕ → AheadTurns
+ahead-left (Done a) end = record { turned = turn.Done a; end = 0 }
+ahead-left (Reached s) end = record { turned = turn.Next s; end = end }
+ahead-left (InVain s n) end = record { turned = turn.Next s; end = 0 }
+
+-- What turns from a place by matches found ahead leave: the answer of the whole run; or a state at a later place, from which its turns go on,
+-- with the block that ends before `end`.
+abbrev pub AheadLead : Image → List ℕ → ImageTables → List ℕ → ℕ → Ended → List ℕ → List ℕ → ℕ → Turn → Type 0
+AheadLead i bytes t text place whole stack block end (turn.Done a) = answer-held a ≡ answer-of whole
+AheadLead i bytes t text place whole stack block end (turn.Next s) =
+    Going i bytes t text stack s whole × (place < s .place) × (end ≤ s .place + 1024) × HeldBefore (i .positions) text end block

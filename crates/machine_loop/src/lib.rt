@@ -12,12 +12,13 @@ ghost use Rattle.image.specs.Image.{Image};
 ghost use Rattle.image_reader.specs.Decoded.{tables-of};
 ghost use Rattle.machine.specs.Trace.{Ended, answer-of};
 ghost use Rattle.machine.specs.Run.{trace};
-ghost use Rattle.machine.specs.Work.{budget};
+ghost use Rattle.machine.specs.Work.{least-budget};
 ghost use Rattle.machine_turn.specs.Steps.{answer-held};
 ghost use Rattle.machine_turn.specs.laws.Going.{Going};
 ghost use Rattle.alive_scanner.specs.Ahead.{word-match, Ahead};
+ghost use Rattle.alive_scanner.specs.Blocks.{AliveHeld};
 ghost use Rattle.machine_loop.specs.Prepared.{WithTables};
-ghost use Rattle.machine_loop.specs.Turning.{SeenBy, SeenAt, Charged, TurnsLead, WordFits, PlainLead};
+ghost use Rattle.machine_loop.specs.Turning.{SeenBy, SeenAt, Charged, TurnsLead, WordFits, PlainLead, ahead-left, AheadLead};
 use image_reader::ImageRead;
 use machine_turn::RunAnswer;
 use machine_turn::State;
@@ -39,6 +40,12 @@ enum Turns {
     Done(RunAnswer),
     Reached(State),
     InVain(State, usize),
+}
+
+// What turns by matches found ahead leave: the answer, or a state, and where the block that is held ends.
+struct AheadTurns {
+    turned: Turn,
+    end: usize,
 }
 
 // The match that a word stands for.
@@ -236,7 +243,7 @@ fn word_of(found: Found) -> u64
 
 // What may be charged for a text of so many bytes.
 fn budget_of(bytes: usize) -> usize
-    ensures { λ r. ⌜ r ≡ max bytes 4096 ⌝ }
+    ensures { λ r. ⌜ r ≡ max bytes least-budget ⌝ }
 {
     if bytes < LEAST_BUDGET {
         return LEAST_BUDGET;
@@ -245,7 +252,7 @@ fn budget_of(bytes: usize) -> usize
 }
 
 // All turns from the start, by walks. A walk in vain is made again, noting the match on the way, and the turn is made with that match, as one
-// found ahead. Both walks are charged. Once the budget does not allow it, the state is answered where the next walk is in vain. What is left on
+// found ahead. Both walks are charged. A walk in vain that the budget does not allow is not made again: its state is answered. What is left on
 // the stack is not promised.
 fn run_plain<'a>(
     image: &[u8],
@@ -306,8 +313,160 @@ fn run_plain<'a>(
     }
 }
 
-// The turns from a state on, with alive positions: each byte is walked once. Their memory is this function's own, 41 KiB. No walk is in vain,
-// so the last case of what turns leave does not come; it would be read on from its state.
+// What is gone on from after the turns by matches found ahead, where the block that is held ends. No walk is in vain there, so the last case
+// does not come; it would be gone on from its state, with no block held.
+fn left_ahead(turned: Turns, end: usize) -> AheadTurns
+    ensures { λ r. ⌜ r ≡ ahead-left turned end ⌝ }
+{
+    match turned {
+        Turns::Done(done) => {
+            return AheadTurns {
+                turned: Turn::Done(done),
+                end: 0,
+            };
+        }
+        Turns::Reached(s) => {
+            return AheadTurns {
+                turned: Turn::Next(s),
+                end,
+            };
+        }
+        Turns::InVain(s, n) => {
+            return AheadTurns {
+                turned: Turn::Next(s),
+                end: 0,
+            };
+        }
+    }
+}
+
+// Some turns from a state on, by matches that are found ahead with alive positions. So no walk is in vain.
+fn turns_ahead<'a>(
+    image: &[u8],
+    read: ImageRead,
+    tables: &'a [u64; 448],
+    productions: &[u16; 2048],
+    table: &'a [u16],
+    winners: &'a [u16],
+    by_rows: bool,
+    text: &'a [u8],
+    stack: &mut [u8],
+    unions: &'a [u64; 2048],
+    marks: &'a [u64; 1024],
+    block: &mut [u64; 1024],
+    words: &mut [u64; 1024],
+    state: State,
+    end: usize,
+) -> AheadTurns
+    requires { ⌜ (length (now text) ≤ 1048576) × (state .place < length (now text)) × (end ≤ state .place + 1024) × (length (now block) ≡ 1024)
+        × (length (now words) ≡ 1024) × ((i : Image) × (whole : Ended) × (k : ℕ)
+        × WithTables (now image) (tables-of read (now tables) (now productions)) «by_rows» (now table) (now winners) i
+        × Going i (now image) (tables-of read (now tables) (now productions)) (now text) (now stack) state whole
+        × AliveHeld (i .positions) (read .last) (now tables) (now unions) (now text) k (now marks) (state .place) end (now block)) ⌝ }
+    ensures { λ r. ⌜ (length (now (block .exit)) ≡ 1024) × (length (now (words .exit)) ≡ 1024)
+        × ((i : Image) (whole : Ended) (k : ℕ)
+        → WithTables (now (image .entry)) (tables-of read (now (tables .entry)) (now (productions .entry))) «by_rows» (now (table .entry))
+        (now (winners .entry)) i
+        → Going i (now (image .entry)) (tables-of read (now (tables .entry)) (now (productions .entry))) (now (text .entry))
+        (now (stack .entry)) state whole
+        → AliveHeld (i .positions) (read .last) (now (tables .entry)) (now (unions .entry)) (now (text .entry)) k (now (marks .entry)) (state .place) end
+        (now (block .entry))
+        → AheadLead i (now (image .entry)) (tables-of read (now (tables .entry)) (now (productions .entry))) (now (text .entry)) (state .place)
+        whole (now (stack .exit)) (now (block .exit)) (r .end) (r .turned)) ⌝ }
+{
+    let p = state.place;
+    let ahead = alive_scanner::find_ahead(
+        text,
+        p,
+        end,
+        read.last,
+        read.first,
+        tables,
+        unions,
+        marks,
+        block,
+        words,
+    );
+    let count = ahead.count;
+    let found: &[u64] = words;
+    let turned = run_turns(
+        image,
+        read,
+        tables,
+        productions,
+        table,
+        winners,
+        by_rows,
+        &found[..count],
+        text,
+        stack,
+        state,
+        ahead.stop,
+    );
+    left_ahead(turned, ahead.end)
+}
+
+// The turns from a state on, with alive positions, given what leads to each set of positions and those alive after each block.
+fn run_ahead<'a>(
+    image: &[u8],
+    read: ImageRead,
+    tables: &'a [u64; 448],
+    productions: &[u16; 2048],
+    table: &'a [u16],
+    winners: &'a [u16],
+    by_rows: bool,
+    text: &'a [u8],
+    stack: &mut [u8],
+    unions: &'a [u64; 2048],
+    marks: &'a [u64; 1024],
+    block: &mut [u64; 1024],
+    from: State,
+) -> RunAnswer
+    requires { ⌜ (length (now text) ≤ 1048576) × (length (now block) ≡ 1024) × ((i : Image) × (whole : Ended) × (k : ℕ)
+        × WithTables (now image) (tables-of read (now tables) (now productions)) «by_rows» (now table) (now winners) i
+        × Going i (now image) (tables-of read (now tables) (now productions)) (now text) (now stack) from whole
+        × AliveHeld (i .positions) (read .last) (now tables) (now unions) (now text) k (now marks) (from .place) 0 (now block)) ⌝ }
+    ensures { λ r. ⌜ ((i : Image) (whole : Ended) (k : ℕ)
+        → WithTables (now (image .entry)) (tables-of read (now (tables .entry)) (now (productions .entry))) «by_rows» (now (table .entry))
+        (now (winners .entry)) i
+        → Going i (now (image .entry)) (tables-of read (now (tables .entry)) (now (productions .entry))) (now (text .entry))
+        (now (stack .entry)) from whole
+        → AliveHeld (i .positions) (read .last) (now (tables .entry)) (now (unions .entry)) (now (text .entry)) k (now (marks .entry)) (from .place) 0
+        (now (block .entry))
+        → answer-held r ≡ answer-of whole) ⌝ }
+{
+    let mut words = [0u64; 1024];
+    let mut state = from;
+    let mut end: usize = 0;
+    while state.place < text.len() {
+        let ahead = turns_ahead(
+            image,
+            read,
+            tables,
+            productions,
+            table,
+            winners,
+            by_rows,
+            text,
+            stack,
+            unions,
+            marks,
+            block,
+            &mut words,
+            state,
+            end,
+        );
+        end = ahead.end;
+        let turned = ahead.turned;
+        match turned {
+            Turn::Done(done) => return done,
+            Turn::Next(s) => state = s,
+        }
+    }
+    machine_turn::at_end(read.empty, stack, state)
+}
+
+// The turns from a state on, with alive positions: each byte is walked once. Their memory is local, 40 KiB.
 fn run_rest<'a>(
     image: &[u8],
     read: ImageRead,
@@ -333,63 +492,31 @@ fn run_rest<'a>(
     let unions = leading_sets::unions_of(tables);
     let mut marks = [0u64; 1024];
     let mut block = [0u64; 1024];
-    let mut words = [0u64; 1024];
-    let last = read.last;
-    let first = read.first;
     let from_block = from.place / 1024;
     alive_scanner::mark_blocks(
         text,
         from_block,
-        last,
+        read.last,
         tables,
         &unions,
         &mut marks,
         &mut block,
     );
-    let mut state = from;
-    let mut end: usize = 0;
-    while state.place < text.len() {
-        let p = state.place;
-        let ahead = alive_scanner::find_ahead(
-            text,
-            p,
-            end,
-            last,
-            first,
-            tables,
-            &unions,
-            &marks,
-            &mut block,
-            &mut words,
-        );
-        let count = ahead.count;
-        let turned = run_turns(
-            image,
-            read,
-            tables,
-            productions,
-            table,
-            winners,
-            by_rows,
-            &words[..count],
-            text,
-            stack,
-            state,
-            ahead.stop,
-        );
-        match turned {
-            Turns::Done(done) => return done,
-            Turns::Reached(s) => {
-                state = s;
-                end = ahead.end;
-            }
-            Turns::InVain(s, n) => {
-                state = s;
-                end = 0;
-            }
-        }
-    }
-    machine_turn::at_end(read.empty, stack, state)
+    run_ahead(
+        image,
+        read,
+        tables,
+        productions,
+        table,
+        winners,
+        by_rows,
+        text,
+        stack,
+        &unions,
+        &marks,
+        &mut block,
+        from,
+    )
 }
 
 // The answer, from what the turns by walks left. The rest is called from two places, so that the compiler leaves it a function of its own: its

@@ -142,7 +142,10 @@ fn texts_by_length(sheet_d: &Grammar) -> Vec<(&'static str, Sheet, Vec<u8>)> {
 }
 
 fn length_table(sheet_d: &Grammar, buffers: &mut Buffers) -> Vec<Line> {
-    println!("\nTime against length, by the library on a stack of {SMALL_STACK} entries, {ROUNDS} rounds, median, ms:\n");
+    println!(
+        "\nTime against length, by the library on a stack of {SMALL_STACK} entries, {ROUNDS} rounds, median, \
+        ms:\n"
+    );
     println!("| Rules and text | Table | 64 KiB | 128 KiB | 256 KiB | 512 KiB | 1 MiB | 1 MiB / 64 KiB |");
     println!("|---|---|---|---|---|---|---|---|");
     let mut lines = Vec::new();

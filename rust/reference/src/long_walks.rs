@@ -1,7 +1,7 @@
 //! How far the walks of a run go: which of them are in vain, what is charged for these, and the switch.
 //!
-//! No answer depends on this. Once too much would be charged, the library reads the rest of the text in another way, and
-//! the tests count how often it has to.
+//! No answer depends on this. Before too much is charged, the library goes on in another way, and the tests count how
+//! often it has to.
 
 use crate::image::Image;
 
@@ -86,8 +86,8 @@ pub fn budget(text_length: usize) -> usize {
     text_length.max(LEAST_BUDGET)
 }
 
-/// The number of the first turn whose charge brings the sum above the budget, if there is one: the switch is made there,
-/// and the rest of the text is read with alive positions.
+/// The number of the first turn whose charge brings the sum above the budget, if there is one: the switch is made
+/// there, and the rest of the text is read with alive positions.
 ///
 /// ```
 /// use vinzagew_reference::image::fuse;

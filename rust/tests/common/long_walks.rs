@@ -8,7 +8,7 @@ use super::random::Random;
 use vinzagew::builder::{Expression, Regex, Sheet, SheetBuilder, Token};
 use vinzagew_reference::image::{Image, Row};
 use vinzagew_reference::lexer::Position;
-use vinzagew_reference::long_walks::{switch, turns};
+use vinzagew_reference::long_walks::{turns, Turn};
 
 /// The places for which the library keeps alive sets at a time.
 pub const BLOCK: usize = 1_024;
@@ -26,17 +26,19 @@ fn class(random: &mut Random) -> Regex {
 /// A rule that walks on for long before it matches, or while it does.
 fn long_rule(random: &mut Random) -> Regex {
     let [one, other, third] = [(); 3].map(|()| class(random));
-    let times = random.range(2, 9);
-    match random.below(11) {
+    match random.below(12) {
         0 | 1 => one.star().then(other),
         2 | 3 => Regex::sequence([one, other.star(), third]),
         4 => Regex::sequence([one.then(other).star(), third]),
         5 => Regex::sequence([one.clone().star(), other, one.star(), third]),
         6 => one.clone().star().then(other.clone()).plus(),
-        7 => Regex::sequence((0..times).map(|_| one.clone()).chain([third])),
-        8 | 9 => {
+        7 => {
+            let ones = (0..random.range(2, 9)).map(|_| one.clone());
+            Regex::sequence(ones.chain([third]))
+        }
+        8..=10 => {
             let letter = Regex::byte(*random.pick(LETTERS));
-            let more = (0..times).map(|_| one.clone());
+            let more = (0..random.range(4, 9)).map(|_| one.clone());
             let parts = [one.clone().star(), letter].into_iter();
             Regex::sequence(parts.chain(more).chain([third]))
         }
@@ -53,10 +55,10 @@ fn expression(random: &mut Random, tokens: &[Token]) -> Expression {
         let others = all().enumerate().filter(|(number, _)| *number != own);
         Expression::alternative(others.map(|(_, token)| token))
     };
-    match random.below(9) {
+    match random.below(10) {
         0 | 1 if tokens.len() > 1 => others().star(),
-        2 if tokens.len() > 1 => Expression::fix(|more| tokens[own].or(others().then(more))),
-        3 | 4 if tokens.len() > 1 => Expression::fix(|more| {
+        2 | 3 if tokens.len() > 1 => Expression::fix(|more| tokens[own].or(others().then(more))),
+        4 | 5 if tokens.len() > 1 => Expression::fix(|more| {
             let two = more.clone().then(more);
             tokens[own].or(others().then(two))
         }),
@@ -89,7 +91,7 @@ pub fn sheet(random: &mut Random) -> Sheet {
 fn rows(random: &mut Random, image: &Image) -> Vec<Row> {
     let skips = &image.skips;
     let own = random.pick(&image.positions).rule;
-    let nullable = !random.once_in(4);
+    let nullable = random.once_in(2);
     let row = |tail: &dyn Fn(usize) -> Vec<usize>| Row {
         nullable,
         productions: (0..skips.len())
@@ -181,9 +183,10 @@ fn byte(random: &mut Random, positions: &[Position]) -> u8 {
     images::byte_of(random, own)
 }
 
-/// Whether more bytes of a sample are walked in vain than it has.
+/// Whether many bytes of a sample are walked in vain: four times its length is charged for it, or more.
 fn walked_in_vain(image: &Image, sample: &[u8]) -> bool {
-    switch(&turns(image, sample), sample.len()).is_some()
+    let charged: usize = turns(image, sample).iter().map(Turn::charge).sum();
+    charged >= 4 * sample.len()
 }
 
 /// What texts are made of: bytes that come often, one that may end a match, and one at which a walk may stop.
@@ -273,9 +276,25 @@ impl Bytes {
         }
     }
 
-    /// A text over one block or more. It has more blocks where walks often stop before its end: to walk far at each
-    /// place takes the reference long.
-    fn text(&self, random: &mut Random, image: &Image) -> Vec<u8> {
+    /// A text over one block or more, of which few bytes are walked in vain, so that mostly no switch is made: again
+    /// and again an ordinary part, and then a short run at whose end a walk may stop.
+    fn mostly_ordinary(&self, random: &mut Random) -> Vec<u8> {
+        let blocks = random.range(1, 4);
+        let length = length(random, blocks);
+        let mut text = Vec::new();
+        while text.len() < length {
+            let [ordinary, run] = [random.below(600), random.below(30)];
+            text.extend(self.ordinary(random, ordinary));
+            text.extend(self.run(random, run));
+            text.push(self.stop);
+        }
+        text.truncate(length);
+        text
+    }
+
+    /// A text over one block or more, of which many bytes are walked in vain. It has more blocks where walks often stop
+    /// before its end: to walk far at each place takes the reference long.
+    fn mostly_in_vain(&self, random: &mut Random, image: &Image) -> Vec<u8> {
         let early = self.both && random.once_in(2);
         // How many of four parts end with a byte that may end a match, and how many with one at which a walk may stop.
         let (ends, stops) = match early {
@@ -300,8 +319,17 @@ impl Bytes {
             }
         }
         text.truncate(length);
+        text
+    }
+
+    /// A text of one kind or the other, often with one byte changed.
+    fn text(&self, random: &mut Random, image: &Image) -> Vec<u8> {
+        let mut text = match random.below(3) {
+            0 => self.mostly_ordinary(random),
+            _ => self.mostly_in_vain(random, image),
+        };
         if random.once_in(4) {
-            let place = random.below(length);
+            let place = random.below(text.len());
             text[place] = random.next() as u8;
         }
         text

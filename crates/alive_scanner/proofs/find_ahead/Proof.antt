@@ -3,17 +3,16 @@
 use borrow.Author.Needs.{needs}
 use mathlib.Core.Path.{_≡_, refl, sym, ap, _∙_}
 use mathlib.Core.List.{List}
-use Prim.Native.Nat.{ℕ, zero, suc, _+_, _-_, _*_, _≤_, _<_}
+use Prim.Native.Nat.{ℕ, zero, suc, _+_, _-_, _≤_, _<_}
 use native.Mathlib.Omega.{arith}
 use lib.ListN.{length, length-set, drop}
 use denote.Ref.{now}
 use Rattle.lexer.specs.Positions.{Position}
-use Rattle.lexer.specs.Match.{Match, no-match, matched}
+use Rattle.lexer.specs.Match.{Match, matched}
 use Rattle.lexer.specs.Walk.{longest-match}
 use Rattle.lexer.specs.Alive.{match-bytes}
 use Rattle.lexer.specs.laws.LongestMatchLaws.{match-within}
 use Rattle.scanner.specs.Meaning.{match-of}
-use Rattle.scanner.specs.declared.Found.the-variants.{Nothing, Rule}
 use Rattle.alive_scanner.specs.Ahead.{word-match}
 use Rattle.alive_scanner.specs.laws.WordLaws.{word-some}
 use Rattle.alive_scanner.specs.Blocks.{HeldBefore, AliveHeld}

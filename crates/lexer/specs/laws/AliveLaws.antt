@@ -33,15 +33,15 @@ use Rattle.lexer.specs.laws.LowestPosition.{follows-nothing, ended-nothi
 some-member : (s : ℕ) → (s ≡ 0 → ⊥) → (i : ℕ) × (i ∈ s)
 some-member s h = let w = lowest s s h (lt-pow-self s) in (trailingZeros s s, lowest-in s s (trailingZeros s s) w)
 
-in-both : (a b i : ℕ) → i ∈ bitAnd a b → (i ∈ a) × (i ∈ b)
+pub in-both : (a b i : ℕ) → i ∈ bitAnd a b → (i ∈ a) × (i ∈ b)
 in-both a b i h =
     let e : (bit a i && bit b i) ≡ true = sym (bit-and a b i) ∙ h in
     (and-true-first (bit a i) (bit b i) e, and-true-second (bit a i) (bit b i) e)
 
-both-in : (a b i : ℕ) → i ∈ a → i ∈ b → i ∈ bitAnd a b
+pub both-in : (a b i : ℕ) → i ∈ a → i ∈ b → i ∈ bitAnd a b
 both-in a b i ha hb = bit-and a b i ∙ ap₂ _&&_ ha hb
 
-same-members : (a b : ℕ) → ((i : ℕ) → i ∈ a → i ∈ b) → ((i : ℕ) → i ∈ b → i ∈ a) → a ≡ b
+pub same-members : (a b : ℕ) → ((i : ℕ) → i ∈ a → i ∈ b) → ((i : ℕ) → i ∈ b → i ∈ a) → a ≡ b
 same-members a b f g = bit-ext-all a b (λ i. go (bit a i) (bit b i) (f i) (g i))
   where
     go : (x y : Bool) → (x ≡ true → y ≡ true) → (y ≡ true → x ≡ true) → x ≡ y
@@ -52,9 +52,6 @@ same-members a b f g = bit-ext-all a b (λ i. go (bit a i) (bit b i) (f i) (g i)
 pub meets-at : (a b i : ℕ) → i ∈ a → i ∈ b → meets a b ≡ true
 unfolding meets
 meets-at a b i ha hb = ap not (ne-eqb (bitAnd a b) 0 (λ e. ∈-disjoint a b i e ha hb))
-
-pub not-meets : (a b i : ℕ) → meets a b ≡ false → i ∈ a → i ∈ b → ⊥
-not-meets a b i e ha hb = true≢false (sym (meets-at a b i ha hb) ∙ e)
 
 pub meets-some : (a b : ℕ) → meets a b ≡ true → (i : ℕ) × (i ∈ a) × (i ∈ b)
 unfolding meets
@@ -391,7 +388,7 @@ match-or-vain n m = go (eqb n (match-bytes m)) refl
     go true e = inl (eqb-true n (match-bytes m) e, refl)
     go false e = inr refl
 
-not-both : {X : Type 0} {m : Match} {k : ℕ} → ends-with m ≡ in-vain k → X
+pub not-both : {X : Type 0} {m : Match} {k : ℕ} → ends-with m ≡ in-vain k → X
 not-both e = let z : _≡_ {A = ℕ} 0 1 = cc in absurd (omega arith)
 
 pub told-match : (n : ℕ) (m m' : Match) → told-by n m ≡ ends-with m' → (m ≡ m') × (vain n m ≡ 0)

@@ -82,9 +82,9 @@ module _ (ps : List Position) (first : ℕ) (text : List ℕ) where
       )
 
   -- A whole reading that goes by alive positions from place p on, to place q: twice the text's length, and the budget.
-  pub work-in-all : {p w v c q w' v' c' : ℕ} → TurnsTo ps first text p w v c → v ≤ budget text → TurnsTo ps first text q w' v' c'
-      → w + walk-bytes ps first (drop p text) + (c' - c + cut-bytes ps first (drop q text)) ≤ length text + length text + budget text
-  work-in-all t h u = omega (arith, work-before t h, work-after u)
+  pub work-in-all : {p w v c q w' v' c' : ℕ} → TurnsTo ps first text p w v c → v ≤ budget text → TurnsTo ps first text q w' v' c' → p ≤ q
+      → w + walk-bytes ps first (drop p text) + (c' - c + cut-bytes ps first (drop q text)) ≤ length text + (length text - p) + budget text
+  work-in-all t h u l = omega (arith, work-before t h, work-after u, cut-as-read t, cut-as-read u, turns-within t)
 
   -- ---- turns to one place have one cost
 

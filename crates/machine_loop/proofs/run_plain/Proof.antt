@@ -2,8 +2,8 @@
 -- latest walk in vain found ahead, and what is left of the budget is what was not charged.
 use borrow.Author.Needs.{needs}
 use mathlib.Core.Path.{_≡_, refl, sym, ap, subst, _∙_}
-use mathlib.Core.List.{List, [], _∷_}
-use Prim.Native.Nat.{ℕ, _+_, _-_, _≤_, _<_, max}
+use mathlib.Core.List.{List, []}
+use Prim.Native.Nat.{ℕ, _+_, _-_, _≤_, _<_}
 use native.Mathlib.Omega.{arith}
 use lib.ListN.{length, take, drop, length-set, length-take, length-drop}
 use lib.Seq.{take-suc-set}
@@ -11,8 +11,8 @@ use denote.Ref.{now}
 use Rattle.image.specs.Image.{Image}
 use Rattle.image_reader.specs.Decoded.{ImageTables, tables-of}
 use Rattle.scanner.specs.Meaning.{match-of}
-use Rattle.machine.specs.Trace.{start-state, Ended, answer-of, match-at}
-use Rattle.machine.specs.Run.{trace-from, trace}
+use Rattle.machine.specs.Trace.{Ended, match-at}
+use Rattle.machine.specs.Run.{trace}
 use Rattle.machine.specs.Work.{budget, none-yet}
 use Rattle.machine.specs.laws.RunLaws.{trace-some-entry}
 use Rattle.machine_turn.specs.Steps.{answer-held}

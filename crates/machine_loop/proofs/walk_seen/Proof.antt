@@ -1,7 +1,6 @@
 -- `walk_seen` meets its contract.
 use borrow.Author.Needs.{needs}
 use mathlib.Core.Path.{refl, sym, subst, ap}
-use Rattle.lexer.specs.Alive.{Told}
 use Rattle.scanner.specs.Meaning.{match-of, told-of}
 use Rattle.machine_loop.specs.Turning.{SeenBy}
 use Rattle.machine_loop.proofs.walk_seen.Statement.{statement}

@@ -4,9 +4,7 @@ use mathlib.Core.Path.{_≡_, refl, sym, ap, _∙_}
 use mathlib.Core.List.{List, []}
 use Prim.Native.Nat.{ℕ, suc, _+_, _-_, _≤_, _<_}
 use native.Mathlib.Omega.{arith}
-use lib.ListN.{length, drop, take, length-drop}
-use Rattle.basics.specs.laws.Buffers.{rest-from}
-use Rattle.lexer.specs.Walk.{longest-match}
+use lib.ListN.{length, drop, length-drop}
 use Rattle.lexer.specs.laws.LongestMatchLaws.{match-within, match-rule-below}
 use Rattle.scanner.specs.Meaning.{match-of}
 use Rattle.scanner.specs.declared.Found.{Found}
@@ -20,7 +18,7 @@ use Rattle.machine.specs.Run.{text-turn, trace-from}
 use Rattle.machine.specs.laws.RunLaws.{turn-before-end, trace-goes-on, trace-stops, trace-at-end, turn-onward}
 use Rattle.machine_turn.specs.Stack.{stacked, pending, Ready}
 use Rattle.machine_turn.specs.Steps.{answer-held, state-at, state-held, end-answer, turn-step, MatchFits}
-use Rattle.machine_turn.specs.laws.TurnLaws.{turn-done, turn-next, end-is, GoesOn}
+use Rattle.machine_turn.specs.laws.TurnLaws.{turn-done, turn-next, end-is}
 use Rattle.machine_turn.specs.declared.RunAnswer.{RunAnswer}
 use Rattle.machine_turn.specs.declared.State.{State}
 use Rattle.machine_turn.specs.declared.Turn.{Turn}

@@ -7,7 +7,7 @@ use native.Mathlib.Omega.{arith}
 use Rattle.basics.specs.Bits.{bit}
 use Rattle.scanner.specs.declared.Found.{Found}
 use Rattle.scanner.specs.declared.Found.the-variants as found
-use Rattle.machine_turn.specs.Steps.{TakeStep, take-step, step-after-take, turn-by, turn-step}
+use Rattle.machine_turn.specs.Steps.{TakeStep, step-after-take, turn-by, turn-step}
 use Rattle.machine_turn.specs.declared.RunAnswer.{RunAnswer}
 use Rattle.machine_turn.specs.declared.Taken.{Taken}
 use Rattle.machine_turn.specs.declared.Taken.the-variants.{Pending, NoTaker, TooDeep}
@@ -23,7 +23,7 @@ ends-not : {X : Type 0} {a : RunAnswer} {s : State} → Done a ≡ Next s → X
 ends-not e = let z : _≡_ {A = ℕ} 0 1 = cc in absurd (omega arith)
 
 goes-not : {X : Type 0} {a : RunAnswer} {s : State} → Next s ≡ Done a → X
-goes-not e = let z : _≡_ {A = ℕ} 0 1 = cc in absurd (omega arith)
+goes-not e = ends-not (sym e)
 
 module _ (n : ℕ) (s : State) where
   after-taken : (o : Taken) (s' : State) → step-after-take n s o ≡ Next s' → s' .place ≡ s .place + n
