@@ -150,8 +150,8 @@ void vinzagew_write(const uint8_t *sheet, size_t sheet_len,
  * and 13, when it is as it was. Numbers of `out` past the third do not change. If out_len is below
  * 3, nothing happens and nothing changes.
  *
- * The time of a run grows with the text's length, whatever the image. A call needs up to
- * VINZAGEW_RUN_STACK_BYTES of the processor's stack.
+ * The time of a run grows in proportion to the lengths of the text and of the stack, whatever the
+ * image. A call needs up to VINZAGEW_RUN_STACK_BYTES of the processor's stack.
  */
 void vinzagew_run(const uint8_t *image, size_t image_len,
                   const uint8_t *text, size_t text_len,

@@ -21,7 +21,7 @@ use common::{full_run, hexadecimal, image_of, LIBRARY, REFERENCE};
 use long_walk_sheets::{a_star_b, a_star_b_and_c, comments, LongWalks, Text};
 use std::collections::BTreeMap;
 use std::time::{Duration, Instant};
-use vinzagew::{stack_length, LIBRARY_LINKED, TEXT_LIMIT};
+use vinzagew::{stack_length, LIBRARY_LINKED, RUN_STACK_BYTES, TEXT_LIMIT};
 use vinzagew_reference::image::Image;
 use vinzagew_reference::long_walks::{switch, turns, Turn};
 use vinzagew_reference::Table;
@@ -359,4 +359,29 @@ fn a_mebibyte_with_known_answers() {
     let image = image_of_named(&a_star_b()).to_bytes();
     let text = [only_a(TEXT_LIMIT - 1), vec![b'c']].concat();
     gives(&image, &text, [14, 1_048_575, 1_048_575]);
+}
+
+/// Runs that come to alive positions, on threads with as much of the processor's stack as the header promises to be
+/// enough.
+#[test]
+#[cfg_attr(not(vinzagew_library), ignore = "the static library was not found")]
+fn a_run_fits_its_stack() {
+    let image = image_of_named(&a_star_b()).to_bytes();
+    let text = vec![b'a'; 3 * BLOCK + 1_100];
+    let expected = [0, text.len() as u64, text.len() as u64];
+    let mut stack = vec![0; stack_length(text.len())];
+    let mut lent = (
+        vec![0; vinzagew::TABLE_ENTRIES],
+        vec![0; vinzagew::WINNER_ENTRIES],
+    );
+    let calls = std::thread::Builder::new().stack_size(RUN_STACK_BYTES);
+    let thread = calls.spawn(move || {
+        let mut out = [[0; 3]; 2];
+        (LIBRARY.run)(&image, &text, &mut stack, &mut out[0]);
+        let (table, winners) = (&mut lent.0, &mut lent.1);
+        (LIBRARY.run_table)(&image, &text, table, winners, &mut stack, &mut out[1]);
+        out
+    });
+    let out = thread.expect("a thread").join().expect("an answer");
+    assert_eq!(out, [expected, expected]);
 }

@@ -26,8 +26,8 @@ impl Turn {
         self.walked > self.length
     }
 
-    /// The bytes that are charged. A walk in vain is made again to find its match, so its bytes count twice; a walk
-    /// that ends with its match is free.
+    /// The bytes that are charged. A walk in vain is made again to find its match, so its bytes count twice; for a walk
+    /// that ends with its match nothing is charged.
     pub fn charge(&self) -> usize {
         match self.is_in_vain() {
             true => 2 * self.walked,
@@ -81,7 +81,7 @@ fn walk(image: &Image, rest: &[u8]) -> (usize, usize) {
     (rest.len(), length)
 }
 
-/// How many bytes a text of this length may be charged in all.
+/// How many bytes a text of this length may be charged in all: as many as it has, but at least 4,096.
 pub fn budget(text_length: usize) -> usize {
     text_length.max(LEAST_BUDGET)
 }
@@ -104,7 +104,7 @@ pub fn budget(text_length: usize) -> usize {
 /// assert_eq!(turns[23].charge(), 154);
 /// assert_eq!(turns[99].charge(), 0);
 /// assert_eq!(switch(&turns, 100), Some(23));
-/// // The budget grows with the text.
+/// // The budget of a longer text is its length.
 /// assert_eq!(switch(&turns, 10_097), Some(98));
 /// assert_eq!(switch(&turns, 10_098), None);
 /// ```

@@ -10,7 +10,7 @@ use vinzagew_reference::image::{Image, Row};
 use vinzagew_reference::lexer::Position;
 use vinzagew_reference::long_walks::{turns, Turn};
 
-/// The places for which the library keeps alive sets at a time.
+/// For so many places at a time the library keeps which positions are alive.
 pub const BLOCK: usize = 1_024;
 
 /// The letters of a sheet's rules.

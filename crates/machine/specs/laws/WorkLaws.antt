@@ -13,7 +13,16 @@ use Rattle.lexer.specs.Walk.{longest-match}
 use Rattle.lexer.specs.Alive.{walk-bytes, match-bytes, vain-bytes, cut-bytes}
 use Rattle.lexer.specs.laws.LongestMatchLaws.{match-within}
 use Rattle.lexer.specs.laws.AliveLaws.{cut-bytes-right, walk-bytes-most, match-bytes-most, match-or-vain}
-use Rattle.machine.specs.Work.{charge, budget, TurnsTo, none-yet, one-more}
+use Rattle.machine.specs.Work.{charge, least-budget, budget, TurnsTo, none-yet, one-more}
+
+-- What may be charged is the text's length, and at most a fixed number more.
+pub budget-covers : (text : List ℕ) → length text ≤ budget text
+unfolding budget
+budget-covers text = omega arith
+
+pub budget-most : (text : List ℕ) → budget text ≤ length text + least-budget
+unfolding budget
+budget-most text = omega arith
 
 -- A place, and what was walked, charged and walked with alive positions up to it.
 record Sums : Type 0 where
