@@ -217,8 +217,7 @@ fn image_of_named(own: &LongWalks) -> Image {
 fn sheets_with_names_around_block_ends() {
     for own in long_walk_sheets::all() {
         let image = image_of_named(&own);
-        let ordinary = [("ordinary", own.ordinary)];
-        for (name, text) in ordinary.into_iter().chain(own.in_vain) {
+        for (name, text) in own.ordinary_texts().into_iter().chain(own.in_vain) {
             for length in [1_023, 1_024, 1_025, 2_047, 2_048, 2_049] {
                 let case = Case {
                     image: image.clone(),
@@ -239,7 +238,9 @@ fn texts_with_names_are_walked_in_vain() {
     for own in long_walk_sheets::all() {
         let image = image_of_named(&own);
         let made = |text: Text| switch(&turns(&image, &text(2_048)), 2_048).is_some();
-        assert!(!made(own.ordinary), "{}", own.name);
+        for (name, text) in own.ordinary_texts() {
+            assert!(!made(text), "{}: {name}", own.name);
+        }
         for (name, text) in own.in_vain {
             assert!(made(text), "{}: {name}", own.name);
         }

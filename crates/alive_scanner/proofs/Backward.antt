@@ -18,7 +18,7 @@ use Rattle.lexer.specs.laws.PositionList.{PositionFrom, first-place, later-plac
 use Rattle.lexer.specs.laws.AliveLaws.{in-both, both-in, same-members, meets-some, last-alive, leading-alive, in-alive}
 use Rattle.scanner.specs.ClassTable.{having}
 use Rattle.scanner.specs.Meaning.{HeldAt}
-use Rattle.leading_sets.specs.Leading.{leading-from, leading}
+use Rattle.leading_sets.specs.Leading.{over-positions, leading-part, leading}
 use Rattle.alive_scanner.specs.Blocks.{AliveReady}
 
 -- The members of a class table's set.
@@ -39,8 +39,8 @@ in-having (p ∷ ps) i b j h =
     (∈-cases (cond (has-byte p b) (2 ^ i) 0) (having ps (suc i) b) j h)
 
 -- The members of what leads to a set.
-in-leading : (follow : List ℕ) (set i n j : ℕ) → j ∈ leading-from follow set i n → meets (getD follow j 0) set ≡ true
-unfolding leading-from
+in-leading : (follow : List ℕ) (set i n j : ℕ) → j ∈ over-positions (leading-part follow set) i n → meets (getD follow j 0) set ≡ true
+unfolding over-positions leading-part
 in-leading follow set i zero j h = ∈-zero j h
 in-leading follow set i (suc n) j h =
     ⊎-elim
@@ -48,19 +48,20 @@ in-leading follow set i (suc n) j h =
     let y = ∈-cond (meets (getD follow i 0) set) (2 ^ i) j x in
     subst (λ (k : ℕ). meets (getD follow k 0) set ≡ true) (∈-one i j (y .1)) (y .0))
     (λ x. in-leading follow set (suc i) n j x)
-    (∈-cases (cond (meets (getD follow i 0) set) (2 ^ i) 0) (leading-from follow set (suc i) n) j h)
+    (∈-cases (leading-part follow set i) (over-positions (leading-part follow set) (suc i) n) j h)
 
-leading-in : (follow : List ℕ) (set i n j : ℕ) → i ≤ j → j < i + n → meets (getD follow j 0) set ≡ true → j ∈ leading-from follow set i n
-unfolding leading-from
+leading-in : (follow : List ℕ) (set i n j : ℕ) → i ≤ j → j < i + n → meets (getD follow j 0) set ≡ true
+    → j ∈ over-positions (leading-part follow set) i n
+unfolding over-positions leading-part
 leading-in follow set i zero j l m e = absurd (omega arith)
 leading-in follow set i (suc n) j l m e = go (compare-cases i j) (λ k. leading-in follow set (suc i) n j k (omega arith) e)
   where
-    go : (i < j) ⊎ ((i ≡ j) ⊎ (j < i)) → (suc i ≤ j → j ∈ leading-from follow set (suc i) n)
-        → j ∈ bitOr (cond (meets (getD follow i 0) set) (2 ^ i) 0) (leading-from follow set (suc i) n)
-    go (inl k) f = ∈-right (cond (meets (getD follow i 0) set) (2 ^ i) 0) (leading-from follow set (suc i) n) j (f k)
+    go : (i < j) ⊎ ((i ≡ j) ⊎ (j < i)) → (suc i ≤ j → j ∈ over-positions (leading-part follow set) (suc i) n)
+        → j ∈ bitOr (leading-part follow set i) (over-positions (leading-part follow set) (suc i) n)
+    go (inl k) f = ∈-right (leading-part follow set i) (over-positions (leading-part follow set) (suc i) n) j (f k)
     go (inr (inl k)) f =
-        ∈-left (cond (meets (getD follow i 0) set) (2 ^ i) 0) (leading-from follow set (suc i) n) j
-        (subst (λ (x : ℕ). x ∈ cond (meets (getD follow i 0) set) (2 ^ i) 0) k
+        ∈-left (leading-part follow set i) (over-positions (leading-part follow set) (suc i) n) j
+        (subst (λ (x : ℕ). x ∈ leading-part follow set i) k
         (∈-when (meets (getD follow i 0) set) (2 ^ i) i (subst (λ (x : ℕ). meets (getD follow x 0) set ≡ true) (sym k) e) (∈-self i)))
     go (inr (inr k)) f = absurd (omega arith)
 

@@ -1,25 +1,28 @@
 -- The walk with alive positions, as the code goes: one byte a turn, and the match that the positions kept last stand for once it stops.
-use mathlib.Core.Path.{_≡_, sym, ap, ap₂, _∙_}
+use mathlib.Core.Path.{_≡_, refl, sym, ap, ap₂, _∙_}
+use mathlib.Core.Bool.{Bool, true, false, cond}
 use mathlib.Core.List.{List, _∷_}
 use mathlib.Core.Logic.{_⊎_, inl, inr}
 use mathlib.Core.Option.{Option, some}
-use Prim.Native.Nat.{ℕ, suc, _+_, _-_, _^_, _≤_, _<_}
+use Prim.Native.Nat.{ℕ, zero, suc, _+_, _-_, _≤_, _<_}
 use native.Mathlib.Omega.{arith}
 use native.Mathlib.Numerals.{add-one}
-use lib.Bits.{bitOr, bitAnd}
+use lib.Bits.{bitOr, bitAnd, or-zero-l}
 use lib.ListN.{length, getD, drop, drop-of-length-le}
 use lib.Seq.{drop-cons}
 use borrow.Author.Tests.{ne-eqb}
+use Rattle.basics.specs.Bits.{bit}
 use Rattle.lexer.specs.Positions.{Position}
 use Rattle.lexer.specs.Match.{Match, no-match, matched, longer}
 use Rattle.lexer.specs.Walk.{keep, follows, ended-rule, longest-match}
 use Rattle.lexer.specs.Alive.{match-bytes, last-set, leads-to, alive-before, alive, cut-walk, cut-bytes}
-use Rattle.lexer.specs.SetWalk.{members, set-walk}
+use Rattle.lexer.specs.SetWalk.{members, members-from}
 use Rattle.lexer.specs.laws.AliveLaws.{cut-match, cut-ends}
-use Rattle.lexer.specs.laws.SetWalkLaws.{members-zero, walk-meets-members}
+use Rattle.lexer.specs.laws.SetWalkLaws.{members-zero}
 use Rattle.scanner.specs.Meaning.{Prepared}
 use Rattle.scanner.specs.Sets.{joined, first-entry, match-by}
 use Rattle.scanner.specs.laws.ByteLaws.{and-keep, follows-kept, ended-kept}
+use Rattle.leading_sets.specs.Leading.{over-positions, following-part, following}
 
 -- The positions that a byte keeps of those held, alive ones alone, are positions that it keeps of some.
 kept-of : (ps : List Position) (held b : ℕ) (text : List ℕ)
@@ -27,20 +30,33 @@ kept-of : (ps : List Position) (held b : ℕ) (text : List ℕ)
 unfolding alive alive-before
 kept-of ps held b text = and-keep ps held (bitOr (last-set ps 0) (leads-to ps 0 (alive ps text))) b
 
+-- What follows a set, over the positions, is what its members' follow sets are together.
+following-members : (follow : List ℕ) (set i n : ℕ) → over-positions (following-part follow set) i n ≡ joined follow (members-from set i n)
+unfolding over-positions following-part joined members-from
+following-members follow set i zero = refl
+following-members follow set i (suc n) = go (bit set i) (following-members follow set (suc i) n)
+  where
+    go : (b : Bool) → over-positions (following-part follow set) (suc i) n ≡ joined follow (members-from set (suc i) n)
+        → bitOr (cond b (getD follow i 0) 0) (over-positions (following-part follow set) (suc i) n)
+        ≡ joined follow (cond b (i ∷ members-from set (suc i) n) (members-from set (suc i) n))
+    go true e = ap (bitOr (getD follow i 0)) e
+    go false e = or-zero-l (over-positions (following-part follow set) (suc i) n) ∙ e
+
 module _ (ps : List Position) (last : ℕ) (tables : List ℕ) (prepared : Prepared ps last tables) (held b kept : ℕ) (text : List ℕ)
     (e : kept ≡ bitAnd held (alive ps (b ∷ text))) where
-  follows-alive : kept < 2 ^ 64 → joined (drop 256 tables) (set-walk kept) ≡ follows ps 0 kept
-  follows-alive small =
-      ap (joined (drop 256 tables)) (walk-meets-members kept small) ∙ follows-kept tables last ps prepared _ b kept (e ∙ kept-of ps held b text)
+  follows-alive : following (drop 256 tables) kept ≡ follows ps 0 kept
+  unfolding members
+  follows-alive =
+      following-members (drop 256 tables) kept 0 64 ∙ follows-kept tables last ps prepared _ b kept (e ∙ kept-of ps held b text)
 
   ended-alive : first-entry (drop 320 tables) (members (bitAnd kept last)) ≡ ended-rule ps 0 kept
   ended-alive = ended-kept tables last ps prepared _ b kept (e ∙ kept-of ps held b text)
 
 pub follows-at : (ps : List Position) (last : ℕ) (tables : List ℕ) → Prepared ps last tables → (text : List ℕ) (held q next : ℕ) → q < length text
-    → next ≡ bitAnd held (alive ps (drop q text)) → next < 2 ^ 64 → joined (drop 256 tables) (set-walk next) ≡ follows ps 0 next
-follows-at ps last tables prepared text held q next h e small =
+    → next ≡ bitAnd held (alive ps (drop q text)) → following (drop 256 tables) next ≡ follows ps 0 next
+follows-at ps last tables prepared text held q next h e =
     follows-alive ps last tables prepared held (getD text q 0) next (drop (suc q) text)
-    (e ∙ ap (λ (l : List ℕ). bitAnd held (alive ps l)) (drop-cons text q 0 h)) small
+    (e ∙ ap (λ (l : List ℕ). bitAnd held (alive ps l)) (drop-cons text q 0 h))
 
 -- The walk from a place has come to place q: no byte is kept yet, or `kept` are the positions that the latest one kept.
 pub record KeptAt (ps : List Position) (first : ℕ) (text : List ℕ) (place q held kept : ℕ) : Type 0 where

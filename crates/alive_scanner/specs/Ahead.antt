@@ -1,8 +1,8 @@
--- Matches that were found ahead, one word each: those at a place, where that match ends, and so on.
+-- Matches that were found ahead, one word each: those at a place, where that match ends, and so on, to a place that they lead to.
 use mathlib.Core.Path.{_≡_}
 use mathlib.Core.Bool.{cond}
 use mathlib.Core.List.{List, [], _∷_}
-use Prim.Native.Nat.{ℕ, _+_, _/_, _%_}
+use Prim.Native.Nat.{ℕ, _+_, _/_, _%_, _≤_}
 use lib.Dec.{eqb}
 use lib.ListN.{drop}
 use Rattle.lexer.specs.Positions.{Position}
@@ -13,9 +13,9 @@ use Rattle.lexer.specs.Walk.{longest-match}
 unfoldable pub word-match : ℕ → Match
 word-match word = cond (eqb word 0) no-match (matched (word % 256) (word / 256))
 
--- The words are the matches from a place on.
-abbrev pub Ahead : List Position → ℕ → List ℕ → ℕ → List ℕ → Type 0
-Ahead ps first text p [] = Unit
-Ahead ps first text p (word ∷ words) =
+-- The words are the matches from a place on. They lead to place `to`, or past it, unless one of them stands for none.
+abbrev pub Ahead : List Position → ℕ → List ℕ → ℕ → ℕ → List ℕ → Type 0
+Ahead ps first text to p [] = to ≤ p
+Ahead ps first text to p (word ∷ words) =
     (word-match word ≡ longest-match ps first (drop p text))
-    × ((rule n : ℕ) → longest-match ps first (drop p text) ≡ matched rule n → Ahead ps first text (p + n) words)
+    × ((rule n : ℕ) → longest-match ps first (drop p text) ≡ matched rule n → Ahead ps first text to (p + n) words)

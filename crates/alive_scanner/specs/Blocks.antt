@@ -9,7 +9,7 @@ use Rattle.lexer.specs.Alive.{alive}
 use Rattle.scanner.specs.Meaning.{Prepared}
 use Rattle.leading_sets.specs.Leading.{Unions}
 
--- The tables hold the positions, and what leads to each set of them.
+-- The tables hold the positions, and what leads to each set of them and follows it.
 pub record AliveReady (ps : List Position) (last : ℕ) (tables unions : List ℕ) : Type 0 where
   pub prepared : Prepared ps last tables
   pub leading-held : Unions (drop 256 tables) unions

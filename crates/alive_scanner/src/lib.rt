@@ -15,14 +15,15 @@ ghost use Rattle.alive_scanner.specs.Blocks.{AliveReady, BlockHolds, Hel
 ghost use Rattle.alive_scanner.specs.Ahead.{Ahead};
 
 // The last positions, and those that lead to alive ones.
-fn held_before(next: u64, last: u64, unions: &[u64; 2048]) -> u64
+fn held_before(next: u64, last: u64, unions: &[u64; 4096]) -> u64
     ensures { λ r. ⌜ ((follow : List ℕ) → Unions follow (now (unions .entry)) → r ≡ bitOr last (leading follow next)) ⌝ }
 {
-    last | leading_sets::union_of(next, unions)
+    last | leading_sets::leading_of(next, unions)
 }
 
 // Puts the positions alive at the places from `from` to `to` into the block, from the right, given those at `to`; answers those at `from`.
-// Where a byte leaves the same alive as the byte after it, so does what is held before it.
+// Where a byte leaves the same alive as the byte after it, the same is held before it. Otherwise what is held before a set is kept by the byte
+// that left it, since most texts leave the same positions alive at the same byte.
 fn fill_block<'a>(
     text: &'a [u8],
     from: usize,
@@ -30,7 +31,7 @@ fn fill_block<'a>(
     after: u64,
     last: u64,
     tables: &'a [u64; 448],
-    unions: &'a [u64; 2048],
+    unions: &'a [u64; 4096],
     block: &mut [u64; 1024],
 ) -> u64
     requires { ⌜ (from ≤ to) × (to ≤ length (now text)) × (to ≤ from + 1024) × (length (now block) ≡ 1024) ⌝ }
@@ -40,17 +41,24 @@ fn fill_block<'a>(
         → after ≡ alive ps (drop to (now (text .entry)))
         → (r ≡ alive ps (drop from (now (text .entry)))) × BlockHolds ps (now (text .entry)) from to (now (block .exit))) ⌝ }
 {
+    let mut sets = [0u64; 256];
+    let mut helds = [last; 256];
     let mut q = to;
     let mut set = after;
     let mut held = held_before(after, last, unions);
     while from < q {
         q -= 1;
-        let byte = text[q];
-        let next = held & tables[byte as usize];
+        let byte = text[q] as usize;
+        let next = held & tables[byte];
         block[q % 1024] = next;
         if next != set {
+            held = helds[byte];
+            if next != sets[byte] {
+                held = held_before(next, last, unions);
+                sets[byte] = next;
+                helds[byte] = held;
+            }
             set = next;
-            held = held_before(next, last, unions);
         }
     }
     set
@@ -71,7 +79,7 @@ pub fn mark_blocks<'a>(
     first_block: usize,
     last: u64,
     tables: &'a [u64; 448],
-    unions: &'a [u64; 2048],
+    unions: &'a [u64; 4096],
     marks: &mut [u64; 1024],
     block: &mut [u64; 1024],
 )
@@ -99,7 +107,7 @@ fn next_block<'a>(
     place: usize,
     last: u64,
     tables: &'a [u64; 448],
-    unions: &'a [u64; 2048],
+    unions: &'a [u64; 4096],
     marks: &'a [u64; 1024],
     block: &mut [u64; 1024],
 ) -> usize
@@ -134,7 +142,7 @@ fn longest_alive<'a>(
     last: u64,
     first: u64,
     tables: &'a [u64; 448],
-    unions: &'a [u64; 2048],
+    unions: &'a [u64; 4096],
     marks: &'a [u64; 1024],
     block: &mut [u64; 1024],
 ) -> AliveMatch
@@ -160,7 +168,7 @@ fn longest_alive<'a>(
             break;
         }
         if next != kept {
-            held = scanner::follow_sets(next, tables);
+            held = leading_sets::following_of(next, unions);
             kept = next;
         }
         q += 1;
@@ -189,6 +197,7 @@ pub struct FoundAhead {
 }
 
 // Finds matches from a place on, one after the other, until 1,024 are found, or none is, or the text ends, and puts their words into `words`.
+// They lead to the place to which turns may go, so that no walk is made before it.
 pub fn find_ahead<'a>(
     text: &'a [u8],
     place: usize,
@@ -196,7 +205,7 @@ pub fn find_ahead<'a>(
     last: u64,
     first: u64,
     tables: &'a [u64; 448],
-    unions: &'a [u64; 2048],
+    unions: &'a [u64; 4096],
     marks: &'a [u64; 1024],
     block: &mut [u64; 1024],
     words: &mut [u64; 1024],
@@ -210,7 +219,7 @@ pub fn find_ahead<'a>(
         × (place < length (now (text .entry)) → 1 ≤ r .count)
         × ((ps : List Position) (k : ℕ)
         → AliveHeld ps last (now (tables .entry)) (now (unions .entry)) (now (text .entry)) k (now (marks .entry)) place «held_end» (now (block .entry))
-        → Ahead ps first (now (text .entry)) place (take (r .count) (now (words .exit)))
+        → Ahead ps first (now (text .entry)) (r .stop) place (take (r .count) (now (words .exit)))
         × HeldBefore ps (now (text .entry)) (r .end) (now (block .exit))) ⌝ }
 {
     let mut count: usize = 0;

@@ -1,5 +1,6 @@
--- What is found by the rows of an image's table is the image's longest match.
+-- What is found by the rows of an image's table is the image's longest match. And turns by matches found ahead need no table.
 use mathlib.Core.Path.{_≡_, sym, ap₂, subst, _∙_}
+use mathlib.Core.Bool.{Bool, true, false}
 use mathlib.Core.List.{List, [], _∷_, _++_}
 use Prim.Native.Nat.{ℕ, suc, _≤_, _<_}
 use native.Mathlib.Omega.{arith}
@@ -17,7 +18,16 @@ use Rattle.scanner.specs.declared.Found.{Found}
 use Rattle.image.specs.Image.{Image}
 use Rattle.image.specs.ImageRanges.{InRange}
 use Rattle.machine.specs.Lent.{winners-of}
+use Rattle.image_reader.specs.Decoded.{ImageTables}
 use Rattle.machine_loop.specs.Built.{Built}
+use Rattle.machine_loop.specs.Prepared.{WithTables}
+
+pub not-rows : _≡_ {A = Bool} false true → ⊥
+not-rows e = let z : _≡_ {A = ℕ} 0 1 = cc in absurd (omega arith)
+
+pub without-rows : {bytes table winners : List ℕ} {t : ImageTables} {by-rows : Bool} {i : Image} → WithTables bytes t by-rows table winners i
+    → WithTables bytes t false table winners i
+without-rows w = record { decoded = w .decoded; in-range = w .in-range; built = λ e. absurd (not-rows e) }
 
 all-entries : (bound : ℕ) (l : List ℕ) → ((j : ℕ) → getD l j 0 < bound) → All (λ b. b < bound) l
 all-entries bound [] f = tt

@@ -21,16 +21,14 @@ use Rattle.machine_turn.specs.laws.Going.{Going}
 use Rattle.machine_turn.specs.Steps.{run-answer, all-members, end-answer}
 use Rattle.machine_turn.specs.declared.RunAnswer.{RunAnswer}
 use Rattle.machine_turn.specs.declared.State.{State}
-use Rattle.alive_scanner.specs.Ahead.{word-match, Ahead}
+use Rattle.alive_scanner.specs.Ahead.{word-match}
 use Rattle.machine_loop.specs.Turning.{Charged, WordFits}
 
--- What holds of a state, where these matches were found ahead and so much of the budget is left.
-pub record PlainTo (i : Image) (bytes : List ℕ) (t : ImageTables) (text stack : List ℕ) (state : State) (words : List ℕ) (left : ℕ) (whole : Ended)
-    : Type 0 where
+-- What holds of a state, where so much of the budget is left.
+pub record PlainTo (i : Image) (bytes : List ℕ) (t : ImageTables) (text stack : List ℕ) (state : State) (left : ℕ) (whole : Ended) : Type 0 where
   pub going : Going i bytes t text stack state whole
-  pub found-ahead : Ahead (i .positions) (i .first) text (state .place) words
   pub within : left ≤ budget text
-  pub charged : Charged i text (state .place) words (budget text - left)
+  pub charged : Charged i text (state .place) [] (budget text - left)
 
 -- The text's end is named by its place.
 pub end-place : (empty : ℕ) (l : List ℕ) (p count : ℕ) → end-answer empty l p count .place ≡ p
@@ -77,14 +75,14 @@ module _ (i : Image) (text : List ℕ) where
     charge-is = omega (arith, e)
 
     -- Both walks are charged, and the match is known.
-    pub charged-again : (word left : ℕ) → p < length text → n + n ≤ left → left ≤ budget text → word-match word ≡ match-at i text p
-        → Charged i text p [] (budget text - left) → Charged i text p (word ∷ []) (budget text - (left - (n + n)))
-    charged-again word left inside h l w c =
-        let v : (budget text - left) + charge (i .positions) (i .first) (drop p text) ≡ budget text - (left - (n + n)) = omega (arith, charge-is) in (
-          (c .0, budget text - left, c .1, c .2, omega arith),
+    pub charged-again : (word v : ℕ) → p < length text → word-match word ≡ match-at i text p
+        → Charged i text p [] v → Charged i text p (word ∷ []) (v + (n + n))
+    charged-again word v inside w c =
+        let e : v + charge (i .positions) (i .first) (drop p text) ≡ v + (n + n) = omega (arith, charge-is) in (
+          (c .0, v, c .1, c .2, omega arith),
           λ rule k m.
               let rest = drop p text in
               let walked = c .0 + (walk-bytes (i .positions) (i .first) rest + vain-bytes (i .positions) (i .first) rest) in
               let cut = c .1 + cut-bytes (i .positions) (i .first) rest in
-              (walked, cut, subst (λ (x : ℕ). TurnsTo (i .positions) (i .first) text (p + k) walked x cut) v (one-more rule k (c .2) inside m)),
+              (walked, cut, subst (λ (x : ℕ). TurnsTo (i .positions) (i .first) text (p + k) walked x cut) e (one-more rule k (c .2) inside m)),
         )

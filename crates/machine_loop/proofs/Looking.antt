@@ -47,9 +47,9 @@ module _ (i : Image) (text : List ℕ) (p : ℕ) (r : Seen) where
             went-in-vain = λ z. (refl, s ∙ sym (told-vain n k m e .0));
           }
 
-  pub seen-word : (word : ℕ) (words : List ℕ) → Ahead (i .positions) (i .first) text p (word ∷ words) → r .vain ≡ 0
+  pub seen-word : (to word : ℕ) (words : List ℕ) → Ahead (i .positions) (i .first) text to p (word ∷ words) → r .vain ≡ 0
       → match-of (r .found) ≡ word-match word → SeenAt i text p (word ∷ words) r
-  seen-word word words ahead none e = record {
+  seen-word to word words ahead none e = record {
     longest = λ z. e ∙ ahead .0;
     not-in-vain = λ z w. absurd (not-empty w);
     went-in-vain = λ z. absurd (z none);

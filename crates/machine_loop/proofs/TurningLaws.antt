@@ -32,10 +32,11 @@ module _ (i : Image) (text matches : List ℕ) where
       (lt-or-le turn (length matches))
 
   module _ (p rule n turn : ℕ) (m : match-at i text p ≡ matched rule n) where
-    pub ahead-next : Ahead (i .positions) (i .first) text p (drop turn matches) → Ahead (i .positions) (i .first) text (p + n) (drop (turn + 1) matches)
-    ahead-next =
-        by-words (λ (l k : List ℕ). Ahead (i .positions) (i .first) text p l → Ahead (i .positions) (i .first) text (p + n) k) turn
-        (λ word words a. a .1 rule n m) (λ a. a)
+    pub ahead-next : (to : ℕ) → Ahead (i .positions) (i .first) text to p (drop turn matches)
+        → Ahead (i .positions) (i .first) text to (p + n) (drop (turn + 1) matches)
+    ahead-next to =
+        by-words (λ (l k : List ℕ). Ahead (i .positions) (i .first) text to p l → Ahead (i .positions) (i .first) text to (p + n) k) turn
+        (λ word words a. a .1 rule n m) (λ a. omega (arith, a))
 
     pub charged-next : (v : ℕ) → p < length text → (drop turn matches ≡ [] → vain-bytes (i .positions) (i .first) (drop p text) ≡ 0)
         → Charged i text p (drop turn matches) v → Charged i text (p + n) (drop (turn + 1) matches) v

@@ -19,7 +19,6 @@ use Rattle.machine_turn.specs.declared.Turn.{Turn}
 use Rattle.machine_turn.specs.declared.Turn.the-variants as turn
 use Rattle.alive_scanner.specs.Blocks.{HeldBefore}
 use Rattle.machine_loop.specs.declared.Seen.{Seen}
-use Rattle.machine_loop.specs.declared.AheadTurns.{AheadTurns}
 use Rattle.machine_loop.specs.declared.Turns.{Turns}
 use Rattle.machine_loop.specs.declared.Turns.the-variants.{Done, Reached, InVain}
 
@@ -47,15 +46,25 @@ Charged i text p (word ∷ words) v =
     ChargedAt i text p v
     × ((rule n : ℕ) → match-at i text p ≡ matched rule n → Charged i text (p + n) words v)
 
--- What the turns from a state leave: the answer of the whole run; a state from which its turns go on, once a place is reached; or one where
--- the walk went over so many bytes in vain, all matches found ahead being used. `before` says what was charged before them.
-abbrev pub TurnsLead : Image → List ℕ → ImageTables → List ℕ → ℕ → ℕ → Ended → List ℕ → (ℕ → Type 0) → Turns → Type 0
-TurnsLead i bytes t text used stop whole stack before (Done a) = (answer-held a ≡ answer-of whole) × ((v : ℕ) → before v → ChargedAt i text (a .place) v)
-TurnsLead i bytes t text used stop whole stack before (Reached s) =
-    Going i bytes t text stack s whole × (stop ≤ s .place) × ((v : ℕ) → before v → ChargedAt i text (s .place) v)
-TurnsLead i bytes t text used stop whole stack before (InVain s n) =
-    Going i bytes t text stack s whole × (s .place < length text) × (used ≤ s .place) × (n ≡ 0 → ⊥)
-    × (n ≡ vain-bytes (i .positions) (i .first) (drop (s .place) text)) × ((v : ℕ) → before v → Charged i text (s .place) [] v)
+-- What the turns from a place leave, by these matches found ahead, which lead to place `to`: the answer of the whole run; a state from which its
+-- turns go on, once a place is reached; or one before that place where a walk went over so many bytes in vain, all matches being used. What was
+-- charged before them is charged up to there, and no more.
+abbrev pub TurnsLead : Image → List ℕ → ImageTables → List ℕ → ℕ → List ℕ → ℕ → ℕ → Ended → List ℕ → Turns → Type 0
+TurnsLead i bytes t text place matches to stop whole stack (Done a) =
+    (answer-held a ≡ answer-of whole) × ((v : ℕ) → Charged i text place matches v → ChargedAt i text (a .place) v)
+TurnsLead i bytes t text place matches to stop whole stack (Reached s) =
+    Going i bytes t text stack s whole × (stop ≤ s .place)
+    × ((turns : ℕ) × (turns ≡ 0 → s .place ≡ place) × ((v : ℕ) → Charged i text place matches v → Charged i text (s .place) (drop turns matches) v))
+TurnsLead i bytes t text place matches to stop whole stack (InVain s n) =
+    Going i bytes t text stack s whole × (s .place < stop) × (to ≤ s .place) × (n ≡ 0 → ⊥)
+    × (n ≡ vain-bytes (i .positions) (i .first) (drop (s .place) text))
+    × ((v : ℕ) → Charged i text place matches v → Charged i text (s .place) [] v)
+
+-- What is gone on from after turns by matches found ahead. These lead to the place where the turns end, so that the last case does not come.
+abbrev pub turn-left : Turns → Turn
+turn-left (Done a) = turn.Done a
+turn-left (Reached s) = turn.Next s
+turn-left (InVain s n) = turn.Next s
 
 -- A match of some bytes and of no more than a text has, or none.
 abbrev pub WordFits : Found → Type 0
@@ -71,11 +80,12 @@ PlainLead i bytes t text whole stack (turn.Next s) =
     × ((walked charged cut : ℕ) × TurnsTo (i .positions) (i .first) text (s .place) walked charged cut
     × (charged ≤ budget text) × (budget text < charged + charge (i .positions) (i .first) (drop (s .place) text)))
 
--- What is gone on from after turns by matches found ahead, where the block that is held ends. After a walk in vain no block is held.
-abbrev pub ahead-left : Turns → ℕ → AheadTurns
-ahead-left (Done a) end = record { turned = turn.Done a; end = 0 }
-ahead-left (Reached s) end = record { turned = turn.Next s; end = end }
-ahead-left (InVain s n) end = record { turned = turn.Next s; end = 0 }
+-- What the turn at a place leaves, after a walk in vain that was charged so much: the answer of the whole run; or a state at a later place.
+abbrev pub AgainLead : Image → List ℕ → ImageTables → List ℕ → ℕ → ℕ → Ended → List ℕ → Turn → Type 0
+AgainLead i bytes t text place more whole stack (turn.Done a) =
+    (answer-held a ≡ answer-of whole) × ((v : ℕ) → Charged i text place [] v → ChargedAt i text (a .place) (v + more))
+AgainLead i bytes t text place more whole stack (turn.Next s) =
+    Going i bytes t text stack s whole × ((v : ℕ) → Charged i text place [] v → Charged i text (s .place) [] (v + more))
 
 -- What turns from a place by matches found ahead leave: the answer of the whole run; or a state at a later place, from which its turns go on,
 -- with the block that ends before `end`.

@@ -2,11 +2,12 @@
 // turns. Walks are made once, and again where one is in vain; once these cost too much, the rest is read with alive positions. What is asked
 // before the text is read is not here.
 ghost use mathlib.Core.Path.{_≡_};
+ghost use mathlib.Core.Bool.{true};
 ghost use mathlib.Core.List.{List};
 ghost use Prim.Native.Nat.{ℕ, _+_, _≤_, _<_, max};
 ghost use lib.ListN.{length, replicate, drop};
 ghost use Rattle.lexer.specs.Walk.{longest-match};
-ghost use Rattle.lexer.specs.Alive.{told};
+ghost use Rattle.lexer.specs.Alive.{vain-bytes, told};
 ghost use Rattle.scanner.specs.Meaning.{match-of, told-of};
 ghost use Rattle.image.specs.Image.{Image};
 ghost use Rattle.image_reader.specs.Decoded.{tables-of};
@@ -18,7 +19,7 @@ ghost use Rattle.machine_turn.specs.laws.Going.{Going};
 ghost use Rattle.alive_scanner.specs.Ahead.{word-match, Ahead};
 ghost use Rattle.alive_scanner.specs.Blocks.{AliveHeld};
 ghost use Rattle.machine_loop.specs.Prepared.{WithTables};
-ghost use Rattle.machine_loop.specs.Turning.{SeenBy, SeenAt, Charged, TurnsLead, WordFits, PlainLead, ahead-left, AheadLead};
+ghost use Rattle.machine_loop.specs.Turning.{SeenBy, SeenAt, TurnsLead, turn-left, WordFits, PlainLead, AgainLead, AheadLead};
 use image_reader::ImageRead;
 use machine_turn::RunAnswer;
 use machine_turn::State;
@@ -101,7 +102,7 @@ fn walk<'a>(
     winners: &'a [u16],
     by_rows: bool,
 ) -> WalkEnd
-    requires { ⌜ ((image productions : List ℕ) × (i : Image)
+    requires { ⌜ (1 ≤ length (now text)) × ((image productions : List ℕ) × (i : Image)
         × WithTables image (tables-of read (now tables) productions) «by_rows» (now table) (now winners) i) ⌝ }
     ensures { λ r. ⌜ ((image productions : List ℕ) (i : Image)
         → WithTables image (tables-of read (now (tables .entry)) productions) «by_rows» (now (table .entry)) (now (winners .entry)) i
@@ -113,7 +114,8 @@ fn walk<'a>(
     scanner::walk_once(text, tables, read.last, read.first)
 }
 
-// What is seen at a place in a turn: the match that was found ahead for it, or what one walk tells.
+// What is seen at a place in a turn: the match that was found ahead for it, or what one walk tells. A turn by rows has no match found ahead,
+// and so is not asked for one.
 fn look<'a>(
     text: &'a [u8],
     place: usize,
@@ -125,15 +127,17 @@ fn look<'a>(
     matches: &'a [u64],
     turn: usize,
 ) -> Seen
-    requires { ⌜ (place ≤ length (now text)) × ((image productions : List ℕ) × (i : Image)
+    requires { ⌜ (place < length (now text)) × («by_rows» ≡ true → length (now matches) ≤ turn) × ((image productions : List ℕ) × (i : Image)
         × WithTables image (tables-of read (now tables) productions) «by_rows» (now table) (now winners) i) ⌝ }
     ensures { λ r. ⌜ ((image productions : List ℕ) (i : Image)
         → WithTables image (tables-of read (now (tables .entry)) productions) «by_rows» (now (table .entry)) (now (winners .entry)) i
-        → Ahead (i .positions) (i .first) (now (text .entry)) place (drop turn (now (matches .entry)))
+        → (to : ℕ) → Ahead (i .positions) (i .first) (now (text .entry)) to place (drop turn (now (matches .entry)))
         → SeenAt i (now (text .entry)) place (drop turn (now (matches .entry))) r) ⌝ }
 {
-    if turn < matches.len() {
-        return word_seen(matches[turn]);
+    if !by_rows {
+        if turn < matches.len() {
+            return word_seen(matches[turn]);
+        }
     }
     let end = walk(&text[place..], read, tables, table, winners, by_rows);
     walk_seen(end)
@@ -156,19 +160,18 @@ fn run_turns<'a>(
     from: State,
     stop: usize,
 ) -> Turns
-    requires { ⌜ (stop ≤ length (now text)) × ((i : Image) × (whole : Ended)
+    requires { ⌜ (stop ≤ length (now text)) × («by_rows» ≡ true → length (now matches) ≡ 0) × ((i : Image) × (whole : Ended) × (to : ℕ)
         × WithTables (now image) (tables-of read (now tables) (now productions)) «by_rows» (now table) (now winners) i
         × Going i (now image) (tables-of read (now tables) (now productions)) (now text) (now stack) from whole
-        × Ahead (i .positions) (i .first) (now text) (from .place) (now matches)) ⌝ }
-    ensures { λ r. ⌜ ((i : Image) (whole : Ended)
+        × Ahead (i .positions) (i .first) (now text) to (from .place) (now matches)) ⌝ }
+    ensures { λ r. ⌜ ((i : Image) (whole : Ended) (to : ℕ)
         → WithTables (now (image .entry)) (tables-of read (now (tables .entry)) (now (productions .entry))) «by_rows» (now (table .entry))
         (now (winners .entry)) i
         → Going i (now (image .entry)) (tables-of read (now (tables .entry)) (now (productions .entry))) (now (text .entry))
         (now (stack .entry)) from whole
-        → Ahead (i .positions) (i .first) (now (text .entry)) (from .place) (now (matches .entry))
-        → TurnsLead i (now (image .entry)) (tables-of read (now (tables .entry)) (now (productions .entry))) (now (text .entry))
-        (from .place + length (now (matches .entry))) stop whole (now (stack .exit))
-        (Charged i (now (text .entry)) (from .place) (now (matches .entry))) r) ⌝ }
+        → Ahead (i .positions) (i .first) (now (text .entry)) to (from .place) (now (matches .entry))
+        → TurnsLead i (now (image .entry)) (tables-of read (now (tables .entry)) (now (productions .entry))) (now (text .entry)) (from .place)
+        (now (matches .entry)) to stop whole (now (stack .exit)) r) ⌝ }
 {
     let mut state = from;
     let mut turn: usize = 0;
@@ -241,6 +244,66 @@ fn word_of(found: Found) -> u64
     }
 }
 
+// What is gone on from after turns by matches found ahead. No walk is in vain there, so the last case does not come.
+fn turn_left(turned: Turns) -> Turn
+    ensures { λ r. ⌜ r ≡ turn-left turned ⌝ }
+{
+    match turned {
+        Turns::Done(done) => return Turn::Done(done),
+        Turns::Reached(s) => return Turn::Next(s),
+        Turns::InVain(s, n) => return Turn::Next(s),
+    }
+}
+
+// The turn at a state where a walk went over so many bytes in vain. The walk is made again, noting the match on the way, and the turn is made
+// with that match, as one found ahead.
+fn turn_again<'a>(
+    image: &[u8],
+    read: ImageRead,
+    tables: &'a [u64; 448],
+    productions: &[u16; 2048],
+    table: &'a [u16],
+    winners: &'a [u16],
+    by_rows: bool,
+    text: &'a [u8],
+    stack: &mut [u8],
+    state: State,
+    n: usize,
+) -> Turn
+    requires { ⌜ (length (now text) ≤ 1048576) × (state .place < length (now text)) × (n ≡ 0 → ⊥) × ((i : Image) × (whole : Ended)
+        × WithTables (now image) (tables-of read (now tables) (now productions)) «by_rows» (now table) (now winners) i
+        × Going i (now image) (tables-of read (now tables) (now productions)) (now text) (now stack) state whole
+        × (n ≡ vain-bytes (i .positions) (i .first) (drop (state .place) (now text)))) ⌝ }
+    ensures { λ r. ⌜ ((i : Image) (whole : Ended)
+        → WithTables (now (image .entry)) (tables-of read (now (tables .entry)) (now (productions .entry))) «by_rows» (now (table .entry))
+        (now (winners .entry)) i
+        → Going i (now (image .entry)) (tables-of read (now (tables .entry)) (now (productions .entry))) (now (text .entry))
+        (now (stack .entry)) state whole
+        → n ≡ vain-bytes (i .positions) (i .first) (drop (state .place) (now (text .entry)))
+        → AgainLead i (now (image .entry)) (tables-of read (now (tables .entry)) (now (productions .entry))) (now (text .entry)) (state .place)
+        (n + n) whole (now (stack .exit)) r) ⌝ }
+{
+    let p = state.place;
+    let found = scan(&text[p..p + n], read, tables, table, winners, by_rows);
+    let words = [word_of(found); 1];
+    let stop = p + 1;
+    let turned = run_turns(
+        image,
+        read,
+        tables,
+        productions,
+        table,
+        winners,
+        false,
+        &words[..1],
+        text,
+        stack,
+        state,
+        stop,
+    );
+    turn_left(turned)
+}
+
 // What may be charged for a text of so many bytes.
 fn budget_of(bytes: usize) -> usize
     ensures { λ r. ⌜ r ≡ max bytes least-budget ⌝ }
@@ -251,9 +314,8 @@ fn budget_of(bytes: usize) -> usize
     bytes
 }
 
-// All turns from the start, by walks. A walk in vain is made again, noting the match on the way, and the turn is made with that match, as one
-// found ahead. Both walks are charged. A walk in vain that the budget does not allow is not made again: its state is answered. What is left on
-// the stack is not promised.
+// All turns from the start, by walks. Where a walk is in vain, it is made again and both walks are charged. A walk in vain that the budget does
+// not allow is not made again: its state is answered. What is left on the stack is not promised.
 fn run_plain<'a>(
     image: &[u8],
     read: ImageRead,
@@ -275,9 +337,8 @@ fn run_plain<'a>(
     if stack.len() < 1 {
         return Turn::Done(machine_turn::answer(17, 0, 0));
     }
+    let none = [0u64; 1];
     let mut state = machine_turn::first_state();
-    let mut words = [0u64; 1];
-    let mut count: usize = 0;
     let mut left = budget_of(text.len());
     loop {
         let stop = text.len();
@@ -289,7 +350,7 @@ fn run_plain<'a>(
             table,
             winners,
             by_rows,
-            &words[..count],
+            &none[..0],
             text,
             stack,
             state,
@@ -303,39 +364,24 @@ fn run_plain<'a>(
                     return Turn::Next(s);
                 }
                 left -= n + n;
-                let p = s.place;
-                let found = scan(&text[p..p + n], read, tables, table, winners, by_rows);
-                words[0] = word_of(found);
-                count = 1;
-                state = s;
+                let again = turn_again(
+                    image,
+                    read,
+                    tables,
+                    productions,
+                    table,
+                    winners,
+                    by_rows,
+                    text,
+                    stack,
+                    s,
+                    n,
+                );
+                match again {
+                    Turn::Done(done) => return Turn::Done(done),
+                    Turn::Next(next) => state = next,
+                }
             }
-        }
-    }
-}
-
-// What is gone on from after the turns by matches found ahead, where the block that is held ends. No walk is in vain there, so the last case
-// does not come; it would be gone on from its state, with no block held.
-fn left_ahead(turned: Turns, end: usize) -> AheadTurns
-    ensures { λ r. ⌜ r ≡ ahead-left turned end ⌝ }
-{
-    match turned {
-        Turns::Done(done) => {
-            return AheadTurns {
-                turned: Turn::Done(done),
-                end: 0,
-            };
-        }
-        Turns::Reached(s) => {
-            return AheadTurns {
-                turned: Turn::Next(s),
-                end,
-            };
-        }
-        Turns::InVain(s, n) => {
-            return AheadTurns {
-                turned: Turn::Next(s),
-                end: 0,
-            };
         }
     }
 }
@@ -351,7 +397,7 @@ fn turns_ahead<'a>(
     by_rows: bool,
     text: &'a [u8],
     stack: &mut [u8],
-    unions: &'a [u64; 2048],
+    unions: &'a [u64; 4096],
     marks: &'a [u64; 1024],
     block: &mut [u64; 1024],
     words: &mut [u64; 1024],
@@ -396,14 +442,17 @@ fn turns_ahead<'a>(
         productions,
         table,
         winners,
-        by_rows,
+        false,
         &found[..count],
         text,
         stack,
         state,
         ahead.stop,
     );
-    left_ahead(turned, ahead.end)
+    AheadTurns {
+        turned: turn_left(turned),
+        end: ahead.end,
+    }
 }
 
 // The turns from a state on, with alive positions, given what leads to each set of positions and those alive after each block.
@@ -417,7 +466,7 @@ fn run_ahead<'a>(
     by_rows: bool,
     text: &'a [u8],
     stack: &mut [u8],
-    unions: &'a [u64; 2048],
+    unions: &'a [u64; 4096],
     marks: &'a [u64; 1024],
     block: &mut [u64; 1024],
     from: State,

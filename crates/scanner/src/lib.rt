@@ -2,12 +2,12 @@
 // Which place of a text the front starts at, and what a match leads to, is not asked here.
 ghost use mathlib.Core.Path.{_≡_};
 ghost use mathlib.Core.List.{_∷_};
-ghost use Prim.Native.Nat.{_<_};
+ghost use Prim.Native.Nat.{_≤_, _<_};
 ghost use Rattle.lexer.specs.Walk.{longest-match};
 ghost use Rattle.lexer.specs.Alive.{told};
 ghost use Rattle.lexer.specs.SetWalk.{members, set-walk};
 ghost use mathlib.Core.List.{List};
-ghost use lib.ListN.{drop};
+ghost use lib.ListN.{length, drop};
 ghost use Rattle.lexer.specs.Positions.{Position};
 ghost use Rattle.scanner.specs.Meaning.{match-of, told-of, rule-of, LeadsTo, Prepared};
 ghost use Rattle.scanner.specs.Sets.{joined, first-entry, match-by, latest-ended};
@@ -167,15 +167,12 @@ pub fn longest_match<'a>(text: &'a [u8], tables: &'a [u64; 448], last: u64, firs
     found_match(earlier.ending, earlier.length, tables)
 }
 
-// What one walk over a text tells. It goes as in `longest_match`, but notes no match on the way: where no match ends with its latest byte, the
-// answer is only how many bytes it went over.
+// What one walk over a text tells; the text has a byte, so that this is not asked. The walk goes as in `longest_match`, but notes no match on
+// the way: where no match ends with its latest byte, the answer is only how many bytes it went over.
 pub fn walk_once<'a>(text: &'a [u8], tables: &'a [u64; 448], last: u64, first: u64) -> WalkEnd
-    requires { ⌜ ((ps : List Position) × Prepared ps last (now tables)) ⌝ }
+    requires { ⌜ (1 ≤ length (now text)) × ((ps : List Position) × Prepared ps last (now tables)) ⌝ }
     ensures { λ r. ⌜ ((ps : List Position) → Prepared ps last (now (tables .entry)) → told-of r ≡ told ps first (now (text .entry))) ⌝ }
 {
-    if text.len() < 1 {
-        return WalkEnd::Nothing;
-    }
     let front = text[0];
     let mut kept = first & tables[front as usize];
     if kept == 0 {

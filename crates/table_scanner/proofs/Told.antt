@@ -54,9 +54,6 @@ module _ (table text : List ℕ) where
   pub never-begins : 0 < length text → getD table (getD text 0 0) 0 ≡ 1 → 0 ≡ row-bytes table 0 text
   never-begins h one = sym (bytes-stop 0 0 h (sym (at-start table (getD text 0 0)) ∙ one))
 
-  pub no-bytes : length text ≤ 0 → 0 ≡ row-bytes table 0 text
-  no-bytes h = sym (bytes-end 0 0 h)
-
 -- ---- what it tells
 
 module _ (table winners text : List ℕ) where

@@ -3,21 +3,20 @@
 use scanner::Found;
 use scanner::WalkEnd;
 ghost use mathlib.Core.Path.{_≡_};
+ghost use Prim.Native.Nat.{_≤_};
+ghost use lib.ListN.{length};
 ghost use Rattle.lexer.specs.Table.{match-by-rows};
 ghost use Rattle.lexer.specs.Alive.{told-by-rows};
 ghost use Rattle.scanner.specs.Meaning.{match-of, told-of};
 ghost use Rattle.table_scanner.specs.Rows.{RowsIn};
 
-// What one walk over a text tells. Row 1 leads to itself and has no winner, so that the walk ends there. If the row that the latest byte led
-// to has a winner, that is the longest match; otherwise the walk was in vain. The first byte's entry stands in row 0, at the byte itself; a
-// row that stays needs no new address.
+// What one walk over a text tells; the text has a byte, so that this is not asked. Row 1 leads to itself and has no winner, so that the walk
+// ends there. If the row that the latest byte led to has a winner, that is the longest match; otherwise the walk was in vain. The first
+// byte's entry stands in row 0, at the byte itself; a row that stays needs no new address.
 pub fn walk_rows<'a>(text: &'a [u8], table: &'a [u16], winners: &'a [u16]) -> WalkEnd
-    requires { ⌜ RowsIn (now table) (now winners) ⌝ }
+    requires { ⌜ (1 ≤ length (now text)) × RowsIn (now table) (now winners) ⌝ }
     ensures { λ r. ⌜ told-of r ≡ told-by-rows (now (table .entry)) (now (winners .entry)) (now (text .entry)) ⌝ }
 {
-    if text.len() < 1 {
-        return WalkEnd::Nothing;
-    }
     let mut row = table[text[0] as usize] as usize;
     if row == 1 {
         return WalkEnd::Nothing;

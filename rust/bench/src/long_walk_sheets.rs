@@ -1,5 +1,5 @@
-//! Sheets by which a walk may go far past the end of its match, each with texts in which that is so nearly everywhere,
-//! and with an ordinary text in which it is not. Every text is accepted, however long. Nothing is measured here.
+//! Sheets by which a walk may go far past the end of its match, each with texts in which many walks do so, and with
+//! ordinary texts in which few do. Every text is accepted, however long. Nothing is measured here.
 //!
 //! The tests of long walks use this file too.
 
@@ -16,8 +16,21 @@ pub struct LongWalks {
     pub sheet: Sheet,
     /// Few bytes of it are walked in vain.
     pub ordinary: Text,
+    /// None of it is walked in vain, and each of its tokens has one byte, as where walks are in vain: beside it a time
+    /// tells what these walks cost, and not what short tokens do. Some sheets have no such text.
+    pub short_tokens: Option<Text>,
     /// Texts with a name each, of which many bytes are walked in vain.
     pub in_vain: Vec<(&'static str, Text)>,
+}
+
+impl LongWalks {
+    /// The texts that are ordinary, with a name each; the one of longer tokens comes first.
+    pub fn ordinary_texts(&self) -> Vec<(&'static str, Text)> {
+        let short_tokens = self.short_tokens;
+        let short_tokens = short_tokens.map(|text| ("ordinary, one byte a token", text));
+        let ordinary = ("ordinary", self.ordinary);
+        [ordinary].into_iter().chain(short_tokens).collect()
+    }
 }
 
 /// All of these sheets.
@@ -30,6 +43,7 @@ pub fn all() -> Vec<LongWalks> {
         sixty_in_a_row(),
         sixty_optional(),
         many_rows(),
+        closed_or_not(),
     ]
 }
 
@@ -86,6 +100,20 @@ fn halves(length: usize, [first, second]: [Text; 2]) -> Vec<u8> {
     [first(half), second(length - half)].concat()
 }
 
+/// Some bytes, and then a text of another kind.
+fn with_front(front: Vec<u8>, length: usize, rest: Text) -> Vec<u8> {
+    let mut text = front;
+    text.truncate(length);
+    text.extend(rest(length - text.len()));
+    text
+}
+
+/// Enough letters in vain that the library goes on with alive positions within them, also in a text of a mebibyte, and
+/// a byte that ends these walks.
+fn letters_and_z() -> Vec<u8> {
+    [&Varied(1).letters(3_000, b"ab")[..], b"z"].concat()
+}
+
 fn byte(byte: u8) -> Regex {
     Regex::byte(byte)
 }
@@ -102,6 +130,7 @@ pub fn a_star_b() -> LongWalks {
         name: "`a`, `a*b`",
         sheet: sheet([byte(b'a'), byte(b'a').star().then(byte(b'b'))], &[]),
         ordinary,
+        short_tokens: Some(|length| repeated(length, b"b")),
         in_vain: vec![
             ("`a` alone", only_a),
             ("`aaab`, later `a` alone", |length| {
@@ -113,6 +142,9 @@ pub fn a_star_b() -> LongWalks {
 
 /// Here a walk in vain ends at the next `c`, and long matches come between such walks.
 pub fn a_star_b_and_c() -> LongWalks {
+    fn ordinary(length: usize) -> Vec<u8> {
+        repeated(length, b"aaabc")
+    }
     fn run(varied: &mut Varied, end: u8) -> Vec<u8> {
         let mut run = vec![b'a'; 100 + varied.below(800) as usize];
         run.push(end);
@@ -124,7 +156,8 @@ pub fn a_star_b_and_c() -> LongWalks {
             [byte(b'a'), byte(b'a').star().then(byte(b'b')), byte(b'c')],
             &[],
         ),
-        ordinary: |length| repeated(length, b"aaabc"),
+        ordinary,
+        short_tokens: Some(|length| repeated(length, b"bc")),
         in_vain: vec![
             ("hundreds of `a`, then `c` or `b` in turn", |length| {
                 fill(length, |varied| {
@@ -134,25 +167,34 @@ pub fn a_star_b_and_c() -> LongWalks {
             ("hundreds of `a`, then `c`", |length| {
                 fill(length, |varied| run(varied, b'c'))
             }),
+            ("3,000 `a` and `c`, then ordinary", |length| {
+                let front = [vec![b'a'; 3_000], vec![b'c']].concat();
+                with_front(front, length, ordinary)
+            }),
         ],
     }
+}
+
+/// Names and signs, and in each line a comment that is closed.
+fn commented_lines(length: usize) -> Vec<u8> {
+    fill(length, |varied| {
+        let names = [(); 3].map(|()| {
+            let count = 1 + varied.below(7);
+            varied.letters(count, b"xy")
+        });
+        let [one, two, three] = names.map(|name| String::from_utf8(name).expect("letters"));
+        format!("{one} + ({two} - {three}); /* {two} * {one} */\n").into_bytes()
+    })
 }
 
 /// Comments as in C, beside signs and names. If a comment is not closed, the walk goes to the text's end at each `/`
 /// before `*`, and each byte after it is a token or a blank.
 pub fn comments() -> LongWalks {
-    fn ordinary(length: usize) -> Vec<u8> {
-        fill(length, |varied| {
-            let names = [(); 3].map(|()| {
-                let count = 1 + varied.below(7);
-                varied.letters(count, b"xy")
-            });
-            let [one, two, three] = names.map(|name| String::from_utf8(name).expect("letters"));
-            format!("{one} + ({two} - {three}); /* {two} * {one} */\n").into_bytes()
-        })
-    }
     fn opened(length: usize) -> Vec<u8> {
         repeated(length, b"/* ")
+    }
+    fn sign(varied: &mut Varied) -> Vec<u8> {
+        vec![b"+-();"[varied.below(5) as usize]]
     }
     let signs = b"/*+-();".map(byte);
     let name = Regex::class(b'a', b'z').plus();
@@ -162,7 +204,8 @@ pub fn comments() -> LongWalks {
             signs.into_iter().chain([name]),
             &[byte(b' ').or(byte(b'\n')), comment()],
         ),
-        ordinary,
+        ordinary: commented_lines,
+        short_tokens: Some(|length| fill(length, sign)),
         in_vain: vec![
             ("`/* ` again and again", opened),
             ("`/* x + y; ` again and again", |length| {
@@ -172,7 +215,7 @@ pub fn comments() -> LongWalks {
                 repeated(length, b"xyx * (x - yy) + (y / x);  /* x + y;\n")
             }),
             ("ordinary, later `/* `", |length| {
-                halves(length, [ordinary, opened])
+                halves(length, [commented_lines, opened])
             }),
         ],
     }
@@ -195,22 +238,57 @@ fn comment() -> Regex {
     ])
 }
 
-/// 58 positions, each of which may follow each. Half of them have `a` and half have `b`, so that 29 are kept at each
-/// byte.
+/// Any number of letters, then `c`. Of so many positions each may follow each, and they have `a` and `b` in turn, so
+/// that about half of them are kept at each letter.
+fn letters_then_c(positions: usize) -> Regex {
+    let letters = (0..positions).map(|number| byte(b"ab"[number % 2]));
+    Regex::alternative(letters).star().then(byte(b'c'))
+}
+
+/// So many letters, and a byte after them.
+fn letters_and(varied: &mut Varied, count: u32, end: &[u8]) -> Vec<u8> {
+    [&varied.letters(count, b"ab")[..], end].concat()
+}
+
+/// Matches of eight bytes by `letters_then_c`.
+fn sevens_and_c(length: usize) -> Vec<u8> {
+    fill(length, |varied| letters_and(varied, 7, b"c"))
+}
+
+/// 29 positions are kept at each letter.
 pub fn sixty_of_two_letters() -> LongWalks {
-    let either = Regex::alternative((0..58).map(|number| byte(b"ab"[number % 2])));
-    let closed = either.star().then(byte(b'c'));
     LongWalks {
         name: "`a`, `b`, `[ab]*c` of 59 positions",
-        sheet: sheet([byte(b'a'), byte(b'b'), closed], &[]),
-        ordinary: |length| {
-            fill(length, |varied| {
-                [&varied.letters(7, b"ab")[..], b"c"].concat()
-            })
-        },
+        sheet: sheet([byte(b'a'), byte(b'b'), letters_then_c(58)], &[]),
+        ordinary: sevens_and_c,
+        short_tokens: Some(|length| repeated(length, b"c")),
         in_vain: vec![("`a` or `b`", |length| {
             fill(length, |varied| varied.letters(64, b"ab"))
         })],
+    }
+}
+
+/// As many positions, and a byte that ends a walk in vain. So walks in vain may stand beside long matches, or before a
+/// text that is ordinary.
+fn closed_or_not() -> LongWalks {
+    let signs = b"abz".map(byte);
+    LongWalks {
+        name: "`a`, `b`, `z`, `[ab]*c` of 58 positions",
+        sheet: sheet(signs.into_iter().chain([letters_then_c(57)]), &[]),
+        ordinary: sevens_and_c,
+        short_tokens: Some(|length| repeated(length, b"c")),
+        in_vain: vec![
+            ("3,000 letters and `z`, then ordinary", |length| {
+                with_front(letters_and_z(), length, sevens_and_c)
+            }),
+            ("300 letters, then `z` or `c` in turn", |length| {
+                fill(length, |varied| {
+                    [b"z", b"c"]
+                        .map(|end| letters_and(varied, 300, end))
+                        .concat()
+                })
+            }),
+        ],
     }
 }
 
@@ -229,6 +307,7 @@ fn sixty_in_a_row() -> LongWalks {
             &[],
         ),
         ordinary: |length| repeated(length, &run(0)),
+        short_tokens: None,
         in_vain: vec![
             ("`a` alone", |length| repeated(length, b"a")),
             ("`a`, now and then `b`", |length| {
@@ -248,6 +327,7 @@ fn sixty_optional() -> LongWalks {
             &[],
         ),
         ordinary: |length| repeated(length, b"aaaaaaab"),
+        short_tokens: Some(|length| repeated(length, b"b")),
         in_vain: vec![
             ("`a` alone", |length| repeated(length, b"a")),
             ("`a`, now and then `b`", |length| {
@@ -267,16 +347,17 @@ fn shifting(low: u8, more: usize, end: u8) -> Regex {
     Regex::sequence(parts.chain(more).chain([byte(end)]))
 }
 
+/// A match by `shifting(b'a', 6, b'c')`.
+fn closed(varied: &mut Varied, count: u32) -> Vec<u8> {
+    let [before, after] = [count, 6].map(|count| varied.letters(count, b"ab"));
+    [&before[..], b"a", &after, b"c"].concat()
+}
+
 /// The last bytes that were read decide which row it is, of 250. At each `a` or `b` the walk goes to the next `c` or
 /// `z`.
 pub fn many_rows() -> LongWalks {
-    fn vain(varied: &mut Varied, end: &[u8]) -> Vec<u8> {
-        let count = 100 + varied.below(800);
-        [&varied.letters(count, b"ab")[..], end].concat()
-    }
-    fn closed(varied: &mut Varied, count: u32) -> Vec<u8> {
-        let [before, after] = [count, 6].map(|count| varied.letters(count, b"ab"));
-        [&before[..], b"a", &after, b"c"].concat()
+    fn ordinary(length: usize) -> Vec<u8> {
+        fill(length, |varied| closed(varied, 4))
     }
     let signs = b"abz".map(byte);
     // Each byte of the word makes a row too.
@@ -289,7 +370,8 @@ pub fn many_rows() -> LongWalks {
     LongWalks {
         name: "`a`, `b`, `[ab]*a[ab]..c`",
         sheet: sheet(signs.into_iter().chain(others), &[]),
-        ordinary: |length| fill(length, |varied| closed(varied, 4)),
+        ordinary,
+        short_tokens: Some(|length| repeated(length, b"z")),
         in_vain: vec![
             ("`a` or `b`", |length| {
                 fill(length, |varied| varied.letters(64, b"ab"))
@@ -298,11 +380,14 @@ pub fn many_rows() -> LongWalks {
                 "hundreds of `a` or `b`, then `z` or `c` in turn",
                 |length| {
                     fill(length, |varied| {
-                        let count = 100 + varied.below(800);
-                        [vain(varied, b"z"), closed(varied, count)].concat()
+                        let [count, vain] = [(); 2].map(|()| 100 + varied.below(800));
+                        [letters_and(varied, vain, b"z"), closed(varied, count)].concat()
                     })
                 },
             ),
+            ("3,000 letters and `z`, then ordinary", |length| {
+                with_front(letters_and_z(), length, ordinary)
+            }),
         ],
     }
 }

@@ -57,32 +57,28 @@ fn milliseconds(time: Option<Duration>) -> Option<f64> {
 fn mebibyte_table(sheet_d: &Grammar, buffers: &mut Buffers) {
     println!(
         "\nTexts of {TEXT_LIMIT} bytes with long walks, by the library on a stack of {SMALL_STACK} entries, beside \
-        sheet D's text and an ordinary text of the same sheet, {ROUNDS} rounds, median:\n"
+        sheet D's text and the ordinary texts of the same sheet, {ROUNDS} rounds, median:\n"
     );
+    let ratios = "Time / sheet D's | Time / ordinary text's | Time / one byte a token's";
     println!(
-        "| Rules | Positions | Rows | Text | Without a table, ms | Time / sheet D's | Time / ordinary text's \
-        | With a table, ms | Time / sheet D's | Time / ordinary text's |"
+        "| Rules | Positions | Rows | Text | Without a table, ms | {ratios} | With a table, ms | {ratios} |"
     );
-    println!("|---|---|---|---|---|---|---|---|---|---|");
+    println!("|---|---|---|---|---|---|---|---|---|---|---|---|");
     for own in long_walk_sheets::all() {
         mebibyte_rows(&own, sheet_d, buffers);
     }
 }
 
-/// A row for the ordinary text of a sheet and for each of the others.
+/// A row for each ordinary text of a sheet and for each of the others.
 fn mebibyte_rows(own: &LongWalks, sheet_d: &Grammar, buffers: &mut Buffers) {
-    let mut names = vec!["ordinary"];
-    let mut texts = vec![(own.ordinary)(TEXT_LIMIT)];
-    for (name, text) in &own.in_vain {
-        names.push(name);
-        texts.push(text(TEXT_LIMIT));
-    }
+    let named = [own.ordinary_texts(), own.in_vain.clone()].concat();
+    let texts: Vec<Vec<u8>> = named.iter().map(|(_, text)| text(TEXT_LIMIT)).collect();
     let columns =
         [false, true].map(|with_table| mebibyte_columns(own, &texts, sheet_d, with_table, buffers));
     let image = Image::read(&image_bytes(&own.sheet)).expect("written");
     let rows = Table::of(&image).map_or("over 256".to_owned(), |table| table.rows().to_string());
     let positions = image.positions.len();
-    for (index, name) in names.iter().enumerate() {
+    for (index, (name, _)) in named.iter().enumerate() {
         let [without, with] = [&columns[0][index], &columns[1][index]];
         println!(
             "| {} | {positions} | {rows} | {name} | {without} | {with} |",
@@ -91,7 +87,8 @@ fn mebibyte_rows(own: &LongWalks, sheet_d: &Grammar, buffers: &mut Buffers) {
     }
 }
 
-/// For each text its time, and that divided by the times of sheet D's text and of the first text.
+/// For each text its time, and that divided by the times of sheet D's text, of the ordinary text, and of the one whose
+/// tokens have one byte, which is left out if there is none. The ordinary texts come first.
 fn mebibyte_columns(
     own: &LongWalks,
     texts: &[Vec<u8>],
@@ -107,13 +104,16 @@ fn mebibyte_columns(
         cases.push(case);
     }
     let times = times(&cases, buffers);
+    let short_tokens = own.short_tokens.map(|_| times[2]);
     let columns = times[1..].iter().map(|&time| {
         let figures = [
             milliseconds(time),
             ratio(time, times[0]),
             ratio(time, times[1]),
         ];
-        figures.map(shown).join(" | ")
+        let mut shown_figures = figures.map(shown).to_vec();
+        shown_figures.push(short_tokens.map_or(String::new(), |other| shown(ratio(time, other))));
+        shown_figures.join(" | ")
     });
     columns.collect()
 }

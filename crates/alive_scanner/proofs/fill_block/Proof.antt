@@ -1,25 +1,27 @@
--- `fill_block` meets its contract. The loop's invariant: the pass has come to place q.
-use mathlib.Core.Path.{_≡_, refl, ap, _∙_}
+-- `fill_block` meets its contract. The loop's invariant: the pass has come to place q, and what is remembered by byte is right.
+use mathlib.Core.Path.{_≡_, refl, sym, ap, _∙_}
 use mathlib.Core.List.{List}
-use Prim.Native.Nat.{ℕ, _-_, _≤_}
+use Prim.Native.Nat.{ℕ, _-_, _≤_, _<_}
 use native.Mathlib.Omega.{arith}
-use lib.Bits.{bitAnd}
+use lib.Bits.{bitOr, bitAnd}
 use lib.ListN.{length, length-set, getD, drop}
 use denote.Ref.{now}
 use Rattle.lexer.specs.Positions.{Position}
 use Rattle.lexer.specs.Alive.{alive}
+use Rattle.leading_sets.specs.Leading.{leading}
 use Rattle.alive_scanner.specs.Blocks.{AliveReady}
+use Rattle.alive_scanner.proofs.Remembered.{Remembered, remembered-none, remembered-more}
 use Rattle.alive_scanner.proofs.Passes.{PassedTo, passed-start, passed-step}
 use Rattle.alive_scanner.proofs.fill_block.Statement.{statement}
 use Rattle.alive_scanner.proofs.fill_block.Tie as tie
 
 abbrev Inv-loop : tie.InvT-loop
-Inv-loop text from to after last tables unions block₀ q₀ set₀ held₀ block q set held =
-    (from ≤ q) × (q ≤ to) × (length block ≡ 1024)
+Inv-loop text from to after last tables unions block₀ sets₀ helds₀ q₀ set₀ held₀ block sets helds q set held =
+    (from ≤ q) × (q ≤ to) × (length block ≡ 1024) × Remembered last unions sets helds
     × ((ps : List Position) → AliveReady ps last tables unions → after ≡ alive ps (drop to text) → PassedTo ps text to last tables block q set held)
 
 abbrev μ-loop : tie.MeasureT-loop
-μ-loop text from to after last tables unions block₀ q₀ set₀ held₀ block q set held = q
+μ-loop text from to after last tables unions block₀ sets₀ helds₀ q₀ set₀ held₀ block sets helds q set held = q
 
 held-before-requires : tie.Need-held-before-requires Inv-loop μ-loop
 held-before-requires c κs = tt
@@ -31,6 +33,7 @@ loop-holds c =
       omega (arith, z .0),
       omega arith,
       z .3,
+      remembered-none (a .last) (now (a .unions)),
       λ ps w e. passed-start ps (now (a .text)) (a .to) (a .last) (now (a .tables)) (now (a .block)) (a .after) _ e
           (c .held-before .ensures _ (w .leading-held)),
     )
@@ -41,14 +44,19 @@ sub-q c = omega arith
 shared-slice-read-byte : tie.Need-shared-slice-read-byte Inv-loop μ-loop
 shared-slice-read-byte c = omega arith
 
-cast-next : tie.Need-cast-next Inv-loop μ-loop
-cast-next c = omega (arith, c .shared-slice-known2 .given (c .before .before .loop .q - 1))
+-- The byte that the pass has come to is an index of what is remembered by byte.
+byte-small : (k : tie.After-shared-slice-known2 Inv-loop μ-loop)
+    → getD (now (k .before .before .before .before .before .args .text)) (k .before .before .loop .q - 1) 0 < 256
+byte-small k = k .shared-slice-known2 .given (k .before .before .loop .q - 1) .fits
+
+cast-byte : tie.Need-cast-byte Inv-loop μ-loop
+cast-byte c = omega (arith, byte-small c)
 
 mul-next : tie.Need-mul-next Inv-loop μ-loop
-mul-next c = omega (arith, c .shared-slice-known2 .given (c .before .before .loop .q - 1))
+mul-next c = omega (arith, byte-small c)
 
 element-copy-out-next : tie.Need-element-copy-out-next Inv-loop μ-loop
-element-copy-out-next c = omega (arith, c .shared-slice-known2 .given (c .before .before .loop .q - 1) .fits)
+element-copy-out-next c = omega (arith, byte-small c)
 
 mul-block : tie.Need-mul-block Inv-loop μ-loop
 mul-block c = omega arith
@@ -56,24 +64,50 @@ mul-block c = omega arith
 element-write-block : tie.Need-element-write-block Inv-loop μ-loop
 element-write-block c = omega arith
 
+mul-held : tie.Need-mul-held Inv-loop μ-loop
+mul-held c = omega (arith, byte-small (c .before .before))
+
+array-read-held : tie.Need-array-read-held Inv-loop μ-loop
+array-read-held c = byte-small (c .before .before)
+
+mul-if2 : tie.Need-mul-if2 Inv-loop μ-loop
+mul-if2 c = omega (arith, byte-small (c .before .before))
+
+array-read-if2 : tie.Need-array-read-if2 Inv-loop μ-loop
+array-read-if2 c = byte-small (c .before .before)
+
 held-before-requires-2 : tie.Need-held-before-requires-2 Inv-loop μ-loop
 held-before-requires-2 c κs = tt
+
+mul-sets : tie.Need-mul-sets Inv-loop μ-loop
+mul-sets c = omega (arith, byte-small (c .before .before .before .before))
+
+array-write-sets : tie.Need-array-write-sets Inv-loop μ-loop
+array-write-sets c = byte-small (c .before .before .before .before)
+
+mul-helds : tie.Need-mul-helds Inv-loop μ-loop
+mul-helds c = omega (arith, byte-small (c .before .before .before .before))
+
+array-write-helds : tie.Need-array-write-helds Inv-loop μ-loop
+array-write-helds c = byte-small (c .before .before .before .before)
 
 loop-less : tie.Need-loop-less Inv-loop μ-loop
 loop-less c = omega arith
 
 loop-again : tie.Need-loop-again Inv-loop μ-loop
 loop-again c =
-    let known = c .before .before .before in
+    let known = c .before .before .before .before in
     let l = known .before .before .loop in
     let s = known .before .before .before .before .before in
-    let a = s .args in (
+    let a = s .args in
+    let small = byte-small known in (
       omega arith,
       omega arith,
       simp length-set (l .inv .2),
+      remembered-more (a .last) (now (a .unions)) (l .sets) (l .helds) (getD (now (a .text)) (l .q - 1) 0) _ _ small (c .held-before2 .ensures) (l .inv .3),
       λ ps w e. passed-step ps (now (a .text)) (a .to) (a .last) (now (a .tables)) (now (a .unions)) (l .block) w (l .q) (l .q - 1) (l .set) (l .held) _ _
-          (omega arith) (omega arith) (omega (arith, s .pre .2)) (l .inv .2) (known .shared-slice-known2 .given (l .q - 1) .fits) refl
-          (c .held-before2 .ensures _ (w .leading-held)) (l .inv .3 ps w e),
+          (omega arith) (omega arith) (omega (arith, s .pre .2)) (l .inv .2) small refl
+          (c .held-before2 .ensures _ (w .leading-held)) (l .inv .4 ps w e),
     )
 
 loop-less-2 : tie.Need-loop-less-2 Inv-loop μ-loop
@@ -81,6 +115,26 @@ loop-less-2 c = omega arith
 
 loop-again-2 : tie.Need-loop-again-2 Inv-loop μ-loop
 loop-again-2 c =
+    let known = c .before .before .before in
+    let l = known .before .before .loop in
+    let s = known .before .before .before .before .before in
+    let a = s .args in
+    let small = byte-small known in (
+      omega arith,
+      omega arith,
+      simp length-set (l .inv .2),
+      l .inv .3,
+      λ ps w e. passed-step ps (now (a .text)) (a .to) (a .last) (now (a .tables)) (now (a .unions)) (l .block) w (l .q) (l .q - 1) (l .set) (l .held) _ _
+          (omega arith) (omega arith) (omega (arith, s .pre .2)) (l .inv .2) small refl
+          (l .inv .3 .held-of _ (w .leading-held) _ small ∙ ap (λ (x : ℕ). bitOr (a .last) (leading (drop 256 (now (a .tables))) x)) (sym (c .if2 .left)))
+          (l .inv .4 ps w e),
+    )
+
+loop-less-3 : tie.Need-loop-less-3 Inv-loop μ-loop
+loop-less-3 c = omega arith
+
+loop-again-3 : tie.Need-loop-again-3 Inv-loop μ-loop
+loop-again-3 c =
     let known = c .before .before in
     let l = known .before .before .loop in
     let s = known .before .before .before .before .before in
@@ -88,13 +142,14 @@ loop-again-2 c =
       omega arith,
       omega arith,
       simp length-set (l .inv .2),
+      l .inv .3,
       λ ps w e.
-          let old = l .inv .3 ps w e in
+          let old = l .inv .4 ps w e in
           let here = c .if1 .left in
           rw (← here)
           (passed-step ps (now (a .text)) (a .to) (a .last) (now (a .tables)) (now (a .unions)) (l .block) w (l .q) (l .q - 1) (l .set) (l .held)
           (bitAnd (l .held) (getD (now (a .tables)) (getD (now (a .text)) (l .q - 1) 0) 0)) (l .held)
-          (omega arith) (omega arith) (omega (arith, s .pre .2)) (l .inv .2) (known .shared-slice-known2 .given (l .q - 1) .fits) refl
+          (omega arith) (omega arith) (omega (arith, s .pre .2)) (l .inv .2) (byte-small known) refl
           (rw here (old .held-now)) old),
     )
 
@@ -105,7 +160,7 @@ returns c =
     let e : l .q ≡ a .from = omega arith in (
       l .inv .2,
       λ ps w h.
-          let x = l .inv .3 ps w h in
+          let x = l .inv .4 ps w h in
           (x .alive-now ∙ ap (λ (k : ℕ). alive ps (drop k (now (a .text)))) e, λ q m n. x .filled q (omega arith) n),
     )
 
@@ -119,14 +174,24 @@ fill-block-spec =
     loop-holds
     sub-q
     shared-slice-read-byte
-    cast-next
+    cast-byte
     mul-next
     element-copy-out-next
     mul-block
     element-write-block
+    mul-held
+    array-read-held
+    mul-if2
+    array-read-if2
     held-before-requires-2
+    mul-sets
+    array-write-sets
+    mul-helds
+    array-write-helds
     loop-less
     loop-again
     loop-less-2
     loop-again-2
+    loop-less-3
+    loop-again-3
     returns)

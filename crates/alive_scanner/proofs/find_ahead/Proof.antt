@@ -133,7 +133,7 @@ returns-2 c =
       λ h. omega arith,
       λ ps k w.
           let e = la .longest-alive .ensures .4 ps k (held-here head ps k w) in (
-            found-none ps (a .first) (now (a .text)) (a .place) (l .p) (l .count) (l .words) (omega arith)
+            found-none ps (a .first) (now (a .text)) (a .place) (l .p) (l .count) (l .p + 1) (l .words) (omega arith)
                 (ap match-of (sym (c .enum-told .given .1)) ∙ e .0) (l .inv .7 ps k w .0),
             e .2,
           ),

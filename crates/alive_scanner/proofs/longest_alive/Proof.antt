@@ -2,9 +2,9 @@
 use mathlib.Core.Path.{_≡_, refl, sym, ap, _∙_}
 use mathlib.Core.List.{List}
 use mathlib.Core.Logic.{_⊎_, inl, inr, ⊎-elim}
-use Prim.Native.Nat.{ℕ, _+_, _-_, _%_, _^_, _≤_, _<_}
+use Prim.Native.Nat.{ℕ, _+_, _-_, _%_, _≤_, _<_}
 use native.Mathlib.Omega.{arith}
-use lib.Bits.{bitAnd, and-le-l}
+use lib.Bits.{bitAnd}
 use lib.ListN.{length, getD, drop}
 use denote.Ref.{now}
 use Rattle.lexer.specs.Positions.{Position}
@@ -18,12 +18,12 @@ use Rattle.alive_scanner.proofs.longest_alive.Tie as tie
 use Rattle.alive_scanner.proofs.longest_alive.Reads as reads
 use Rattle.alive_scanner.proofs.longest_alive.Lts as lts
 use Rattle.alive_scanner.proofs.next_block.Reads as next-block-reads
-use Rattle.scanner.proofs.follow_sets.Reads as follow-sets-reads
+use Rattle.leading_sets.proofs.following_of.Reads as following-of-reads
 use Rattle.scanner.proofs.found_match.Reads as found-match-reads
 
 abbrev Inv-loop : tie.InvT-loop
 Inv-loop text place held-end last first tables unions marks block₀ end₀ held₀ kept₀ q₀ block end held kept q =
-    (place ≤ q) × (q ≤ length text) × (end ≤ q + 1024) × (length block ≡ 1024) × (held < 2 ^ 64)
+    (place ≤ q) × (q ≤ length text) × (end ≤ q + 1024) × (length block ≡ 1024)
     × ((ps : List Position) (k : ℕ) → AliveHeld ps last tables unions text k marks place held-end block₀
     → HeldBefore ps text end block × CutTo ps first text place q held kept)
 
@@ -48,13 +48,13 @@ block-here j =
     (λ w.
     let e = w .2 .ensures in
     rw (w .3, w .4) (e .0, e .1, e .2, λ ps k h. e .3 ps k (h .ready) (h .marked) (omega (arith, h .from-mark, l .inv .0))))
-    (λ w. rw (w .1, w .2) (omega (arith, w .0 .left), l .inv .2, l .inv .3, λ ps k h. l .inv .5 ps k h .0))
+    (λ w. rw (w .1, w .2) (omega (arith, w .0 .left), l .inv .2, l .inv .3, λ ps k h. l .inv .4 ps k h .0))
     (j .if1 .came)
 
 loop-holds : tie.Need-loop-holds Inv-loop μ-loop
 loop-holds c =
     let z = c .before .pre in
-    (omega arith, z .1, z .2, z .3, omega arith, λ ps k w. (w .held, inl (refl, refl, refl)))
+    (omega arith, z .1, z .2, z .3, λ ps k w. (w .held, inl (refl, refl, refl)))
 
 next-block-requires : tie.Need-next-block-requires Inv-loop μ-loop
 next-block-requires c κs =
@@ -67,8 +67,8 @@ mul-next c = omega arith
 element-copy-out-next : tie.Need-element-copy-out-next Inv-loop μ-loop
 element-copy-out-next c = omega arith
 
-follow-sets-requires : tie.Need-follow-sets-requires Inv-loop μ-loop
-follow-sets-requires c κs = tt
+following-of-requires : tie.Need-following-of-requires Inv-loop μ-loop
+following-of-requires c κs = tt
 
 add-q : tie.Need-add-q Inv-loop μ-loop
 add-q c = omega arith
@@ -85,23 +85,22 @@ loop-again c =
     let a = s .args in
     let b = block-here j in
     let next = bitAnd (l .held) (getD (j .if1 .block) (l .q % 1024) 0) in
-    let small : next < 2 ^ 64 = omega (arith, and-le-l (l .held) (getD (j .if1 .block) (l .q % 1024) 0), l .inv .4) in
     let inside = j .before .loop-test .taken in (
       omega arith,
       omega arith,
       omega (arith, b .1),
       b .2,
-      ⊎-elim (λ v. rw (v .2) (omega arith)) (λ v. rw (v .1) (l .inv .4)) (c .if3 .came),
       λ ps k w.
           let block = b .3 ps k w in
-          let old = l .inv .5 ps k w .1 in
+          let old = l .inv .4 ps k w .1 in
           let e : next ≡ bitAnd (l .held) (alive ps (drop (l .q) (now (a .text)))) = ap (bitAnd (l .held)) (block (l .q) inside (b .0) (b .1)) in (
             block,
             ⊎-elim
                 (λ v.
                 rw (v .2, v .3)
                 (cut-step ps (a .first) (now (a .text)) (a .place) (l .held) (l .q) (l .kept) next _ (l .inv .0) inside e (c .before .if2 .left)
-                (v .1 .ensures ∙ follows-at ps (a .last) (now (a .tables)) (w .ready .prepared) (now (a .text)) (l .held) (l .q) next inside e small) old))
+                (v .1 .ensures _ (w .ready .leading-held)
+                ∙ follows-at ps (a .last) (now (a .tables)) (w .ready .prepared) (now (a .text)) (l .held) (l .q) next inside e) old))
                 (λ v.
                 let same = v .0 .left in
                 rw (v .1, v .2, ← same)
@@ -122,7 +121,7 @@ ended-here left =
     let head = left .before in
     let l = head .loop in
     ⊎-elim
-    (λ w. rw (w .1, w .2) (l .inv .2, l .inv .3, λ ps k h. (l .inv .5 ps k h .0, inl (w .0 .left))))
+    (λ w. rw (w .1, w .2) (l .inv .2, l .inv .3, λ ps k h. (l .inv .4 ps k h .0, inl (w .0 .left))))
     (λ w.
     let j : tie.Joined1 Inv-loop μ-loop = record { before = record { before = head; loop-test = w .0 }; if1 = w .1 } in
     let b = block-here j in
@@ -156,7 +155,7 @@ returns c =
       λ ps k w.
           let x = stopped .2 ps k w in
           let found = cut-found ps (a .last) (now (a .tables)) (w .ready .prepared) (a .first) (now (a .text)) (a .place) (l .q) (l .held) (l .kept) (x .1)
-          (l .inv .5 ps k w .1) in (
+          (l .inv .4 ps k w .1) in (
             c .found-match .ensures ∙ found .0,
             found .1 ∙ ap (λ (y : Match). a .place + match-bytes y) (sym (c .found-match .ensures)),
             x .0,
@@ -173,7 +172,7 @@ longest-alive-spec =
     next-block-requires
     mul-next
     element-copy-out-next
-    follow-sets-requires
+    following-of-requires
     add-q
     loop-less
     loop-again

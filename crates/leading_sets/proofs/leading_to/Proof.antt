@@ -11,34 +11,35 @@ use lib.ListN.{getD, drop}
 use lib.Seq.{getD-drop}
 use Rattle.basics.specs.laws.BitLaws.{or-assoc}
 use Rattle.lexer.specs.Alive.{meets}
-use Rattle.leading_sets.specs.Leading.{leading-from, leading}
+use Rattle.leading_sets.specs.Leading.{over-positions, leading-part, leading}
 use Rattle.leading_sets.proofs.leading_to.Statement.{statement}
 use Rattle.leading_sets.proofs.leading_to.Tie as tie
 
 -- One position more.
-one-more : (follow : List ℕ) (set found i whole : ℕ) → i < 64 → bitOr found (leading-from follow set i (64 - i)) ≡ whole
+one-more : (follow : List ℕ) (set found i whole : ℕ) → i < 64 → bitOr found (over-positions (leading-part follow set) i (64 - i)) ≡ whole
     → (one : ℕ) (test : Bool) → one ≡ cond test (2 ^ i) 0 → test ≡ meets (getD follow i 0) set
-    → bitOr (bitOr found one) (leading-from follow set (i + 1) (64 - (i + 1))) ≡ whole
-unfolding leading-from
+    → bitOr (bitOr found one) (over-positions (leading-part follow set) (i + 1) (64 - (i + 1))) ≡ whole
+unfolding over-positions leading-part
 one-more follow set found i whole h e one test f g =
     let n : ℕ = 64 - (i + 1) in
-    let x : ℕ = cond (meets (getD follow i 0) set) (2 ^ i) 0 in
+    let x : ℕ = leading-part follow set i in
     let size : suc n ≡ 64 - i = omega arith in
-    ap (λ (y : ℕ). bitOr (bitOr found y) (leading-from follow set (i + 1) n)) (f ∙ ap (λ (b : Bool). cond b (2 ^ i) 0) g)
-    ∙ or-assoc found x (leading-from follow set (i + 1) n)
-    ∙ ap (bitOr found) (ap (λ (k : ℕ). bitOr x (leading-from follow set k n)) (add-one i))
-    ∙ ap (λ (k : ℕ). bitOr found (leading-from follow set i k)) size
+    ap (λ (y : ℕ). bitOr (bitOr found y) (over-positions (leading-part follow set) (i + 1) n)) (f ∙ ap (λ (b : Bool). cond b (2 ^ i) 0) g)
+    ∙ or-assoc found x (over-positions (leading-part follow set) (i + 1) n)
+    ∙ ap (bitOr found) (ap (λ (k : ℕ). bitOr x (over-positions (leading-part follow set) k n)) (add-one i))
+    ∙ ap (λ (k : ℕ). bitOr found (over-positions (leading-part follow set) i k)) size
     ∙ e
 
-no-more : (follow : List ℕ) (set found i whole : ℕ) → 64 ≤ i → bitOr found (leading-from follow set i (64 - i)) ≡ whole → found ≡ whole
-unfolding leading-from
+no-more : (follow : List ℕ) (set found i whole : ℕ) → 64 ≤ i → bitOr found (over-positions (leading-part follow set) i (64 - i)) ≡ whole
+    → found ≡ whole
+unfolding over-positions
 no-more follow set found i whole h e =
     let size : 0 ≡ 64 - i = omega arith in
-    sym (or-zero-r found) ∙ ap (λ (k : ℕ). bitOr found (leading-from follow set i k)) size ∙ e
+    sym (or-zero-r found) ∙ ap (λ (k : ℕ). bitOr found (over-positions (leading-part follow set) i k)) size ∙ e
 
 abbrev Inv-loop : tie.InvT-loop
 Inv-loop set tables found₀ i₀ found i =
-    (i ≤ 64) × (bitOr found (leading-from (drop 256 tables) set i (64 - i)) ≡ leading (drop 256 tables) set)
+    (i ≤ 64) × (bitOr found (over-positions (leading-part (drop 256 tables) set) i (64 - i)) ≡ leading (drop 256 tables) set)
 
 abbrev μ-loop : tie.MeasureT-loop
 μ-loop set tables found₀ i₀ found i = 64 - i

@@ -1,30 +1,25 @@
--- `leading_sets::singles_of` meets its contract. The loop's invariant: what leads to each position below y has been written.
+-- `leading_sets::singles_of` meets its contract. The loop's invariant: the answers for the positions below y have been written.
 use borrow.Author.Needs.{needs}
-use mathlib.Core.Path.{ap, _∙_}
 use Prim.Native.Nat.{_-_, _^_, _≤_}
 use native.Mathlib.Omega.{arith}
 use denote.Ref.{now}
 use lib.ListN.{drop}
-use Rattle.basics.specs.laws.BitLaws.{shl-one}
-use Rattle.leading_sets.specs.Leading.{leading}
+use Rattle.leading_sets.specs.Leading.{answer}
 use Rattle.leading_sets.proofs.Entries.{FirstEntries, entry-more}
 use Rattle.leading_sets.proofs.singles_of.Statement.{statement}
 use Rattle.leading_sets.proofs.singles_of.Tie as tie
 
 abbrev Inv-loop : tie.InvT-loop
-Inv-loop tables singles₀ y₀ singles y = (y ≤ 64) × FirstEntries (λ z. leading (drop 256 tables) (2 ^ z)) 64 y singles
+Inv-loop tables singles₀ y₀ singles y = (y ≤ 128) × FirstEntries (λ z. answer (drop 256 tables) (2 ^ z)) 128 y singles
 
 abbrev μ-loop : tie.MeasureT-loop
-μ-loop tables singles₀ y₀ singles y = 64 - y
+μ-loop tables singles₀ y₀ singles y = 128 - y
 
 loop-holds : tie.Need-loop-holds Inv-loop μ-loop
 loop-holds c = (omega arith, record { whole = search needs; done = λ z l. absurd (omega arith) })
 
-shl-leading-to : tie.Need-shl-leading-to Inv-loop μ-loop
-shl-leading-to c = omega arith
-
-leading-to-requires : tie.Need-leading-to-requires Inv-loop μ-loop
-leading-to-requires c κs = tt
+single-of-requires : tie.Need-single-of-requires Inv-loop μ-loop
+single-of-requires c κs = omega arith
 
 mul-singles : tie.Need-mul-singles Inv-loop μ-loop
 mul-singles c = omega arith
@@ -43,8 +38,8 @@ loop-again c =
     let l = c .before .before .loop in
     let f = drop 256 (now (c .before .before .before .args .tables)) in (
       omega arith,
-      entry-more (λ z. leading f (2 ^ z)) 64 (l .y) _ (l .singles) (omega arith)
-          (c .leading-to .ensures ∙ ap (leading f) (shl-one (l .y) (omega arith))) (l .inv .1),
+      entry-more (λ z. answer f (2 ^ z)) 128 (l .y) _ (l .singles) (omega arith)
+          (c .single-of .ensures) (l .inv .1),
     )
 
 returns : tie.Need-returns Inv-loop μ-loop
@@ -57,8 +52,7 @@ singles-of-spec =
     Inv-loop
     μ-loop
     loop-holds
-    shl-leading-to
-    leading-to-requires
+    single-of-requires
     mul-singles
     array-write-singles
     add-y

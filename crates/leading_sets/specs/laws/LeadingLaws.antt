@@ -1,5 +1,5 @@
--- What leads to a union of sets is the union of what leads to each, and nothing leads to the empty set. By these two, a table for single
--- bytes of a set tells what leads to the whole set: `word-joined` for a word of the table, `bytes-joined` for a set.
+-- What leads to a union of sets is the union of what leads to each, and nothing leads to the empty set; so it is with what follows. By these
+-- two (`Joins`), a table for single bytes of a set tells it of the whole set: `word-joined` for a word of the table, `bytes-joined` for a set.
 use mathlib.Core.Path.{_≡_, refl, sym, ap, ap₂, _∙_}
 use mathlib.Core.Bool.{Bool, true, false, _||_, _&&_, not, cond}
 use mathlib.Core.List.{List}
@@ -7,18 +7,18 @@ use mathlib.Core.Logic.{⊎-elim}
 use Prim.Native.Nat.{ℕ, zero, suc, _+_, _-_, _*_, _/_, _%_, _^_, _≤_, _<_}
 use native.Mathlib.Omega.{arith}
 use native.Mathlib.Nat.{pow-suc, mul-assoc, mul-comm, add-mul}
-use lib.Bits.{bitOr, bitAnd, and-zero-r, and-le-r, or-zero-l, or-zero-r, or-self, or-comm, or-add-and, or-shifted}
+use lib.Bits.{bitOr, bitAnd, and-zero-r, and-le-r, or-zero-l, or-zero-r, or-self, or-comm, or-add-and, or-shifted, or-mod, or-shr}
 use lib.Count.{trailingZeros}
 use lib.Dec.{eqb}
 use lib.ListN.{getD}
 use lib.Pow.{pow-mono, pow-lt, pow-add, shl-lt}
 use borrow.Author.Tests.{ne-eqb}
-use Rattle.basics.specs.laws.BitLaws.{bit-or, bit-and, bit-ext-all}
+use Rattle.basics.specs.laws.BitLaws.{bit-or, bit-and, bit-zero, bit-one, bit-ext-all, ∈-self}
 use Rattle.basics.specs.Bits.{bit}
 use Rattle.basics.specs.laws.LowestMember.{Lowest, lowest}
 use Rattle.basics.specs.laws.Order.{lt-or-le}
 use Rattle.lexer.specs.Alive.{meets}
-use Rattle.leading_sets.specs.Leading.{leading-from, leading, set-of-word}
+use Rattle.leading_sets.specs.Leading.{over-positions, leading-part, following-part, leading, following, answer, set-of-word}
 
 -- ---- a union
 
@@ -62,32 +62,100 @@ if-either true true s = sym (or-self s)
 if-either true false s = sym (or-zero-r s)
 if-either false y s = sym (or-zero-l (cond y s 0))
 
-leading-from-or : (follow : List ℕ) (a b i n : ℕ)
-    → leading-from follow (bitOr a b) i n ≡ bitOr (leading-from follow a i n) (leading-from follow b i n)
-unfolding leading-from
-leading-from-or follow a b i zero = sym (or-zero-l 0)
-leading-from-or follow a b i (suc n) =
-    let f : ℕ = getD follow i 0 in
-    ap₂ bitOr
-    (ap (λ (x : Bool). cond x (2 ^ i) 0) (meets-or f a b) ∙ if-either (meets f a) (meets f b) (2 ^ i))
-    (leading-from-or follow a b (suc i) n)
-    ∙ or-swap (cond (meets f a) (2 ^ i) 0) (cond (meets f b) (2 ^ i) 0) (leading-from follow a (suc i) n) (leading-from follow b (suc i) n)
+-- What the table relies on: the answer for a union is the union of the answers, and the empty set has none.
+pub record Joins (f : ℕ → ℕ) : Type 0 where
+  pub none : f 0 ≡ 0
+  pub union : (a b : ℕ) → f (bitOr a b) ≡ bitOr (f a) (f b)
 
-pub leading-or : (follow : List ℕ) (a b : ℕ) → leading follow (bitOr a b) ≡ bitOr (leading follow a) (leading follow b)
-leading-or follow a b = leading-from-or follow a b 0 64
+-- It holds over many positions if it holds of each.
+over-joins : (part : ℕ → ℕ → ℕ) → ((i : ℕ) → Joins (λ set. part set i)) → (i n : ℕ) → Joins (λ set. over-positions (part set) i n)
+unfolding over-positions
+over-joins part h i zero = record { none = refl; union = λ a b. sym (or-zero-l 0) }
+over-joins part h i (suc n) =
+    let r = over-joins part h (suc i) n in record {
+      none = ap₂ bitOr (h i .none) (r .none) ∙ or-zero-l 0;
+      union = λ a b.
+          ap₂ bitOr (h i .union a b) (r .union a b)
+          ∙ or-swap (part a i) (part b i) (over-positions (part a) (suc i) n) (over-positions (part b) (suc i) n);
+    }
 
 meets-none : (f : ℕ) → meets f 0 ≡ false
 unfolding meets
 meets-none f = ap (λ (x : ℕ). not (eqb x 0)) (and-zero-r f)
 
-leading-from-none : (follow : List ℕ) (i n : ℕ) → leading-from follow 0 i n ≡ 0
-unfolding leading-from
-leading-from-none follow i zero = refl
-leading-from-none follow i (suc n) =
-    ap₂ bitOr (ap (λ (x : Bool). cond x (2 ^ i) 0) (meets-none (getD follow i 0))) (leading-from-none follow (suc i) n) ∙ or-zero-l 0
+pub leading-joins : (follow : List ℕ) → Joins (leading follow)
+unfolding leading-part
+leading-joins follow =
+    over-joins (leading-part follow) (λ i.
+    let f : ℕ = getD follow i 0 in record {
+      none = ap (λ (x : Bool). cond x (2 ^ i) 0) (meets-none f);
+      union = λ a b. ap (λ (x : Bool). cond x (2 ^ i) 0) (meets-or f a b) ∙ if-either (meets f a) (meets f b) (2 ^ i);
+    }) 0 64
 
-pub leading-none : (follow : List ℕ) → leading follow 0 ≡ 0
-leading-none follow = leading-from-none follow 0 64
+following-joins : (follow : List ℕ) → Joins (following follow)
+unfolding following-part
+following-joins follow =
+    over-joins (following-part follow) (λ i.
+    let f : ℕ = getD follow i 0 in record {
+      none = ap (λ (x : Bool). cond x f 0) (bit-zero i);
+      union = λ a b. ap (λ (x : Bool). cond x f 0) (bit-or a b i) ∙ if-either (bit a i) (bit b i) f;
+    }) 0 64
+
+module _ (follow : List ℕ) where
+  pub answer-joins : Joins (answer follow)
+  answer-joins =
+      let l = leading-joins follow in
+      let f = following-joins follow in record {
+        none = ap₂ bitOr (l .none) (f .none) ∙ or-zero-l 0;
+        union = λ a b.
+            ap₂ (λ (x y : ℕ). bitOr (leading follow x) (following follow y)) (or-mod a b 64) (or-shr a b 64)
+            ∙ ap₂ bitOr (l .union (a % 2 ^ 64) (b % 2 ^ 64)) (f .union (a / 2 ^ 64) (b / 2 ^ 64))
+            ∙ or-swap (leading follow (a % 2 ^ 64)) (leading follow (b % 2 ^ 64)) (following follow (a / 2 ^ 64)) (following follow (b / 2 ^ 64));
+      }
+
+  -- Of one of the two sets alone.
+  pub answer-lower : (set : ℕ) → set < 2 ^ 64 → answer follow set ≡ leading follow set
+  answer-lower set h =
+      let low : set % 2 ^ 64 ≡ set = omega arith in
+      let high : set / 2 ^ 64 ≡ 0 = omega arith in
+      ap₂ (λ (x y : ℕ). bitOr (leading follow x) (following follow y)) low high
+      ∙ ap (bitOr (leading follow set)) (following-joins follow .none)
+      ∙ or-zero-r (leading follow set)
+
+  pub answer-upper : (set : ℕ) → answer follow (set * 2 ^ 64) ≡ following follow set
+  answer-upper set =
+      let low : set * 2 ^ 64 % 2 ^ 64 ≡ 0 = omega arith in
+      let high : set * 2 ^ 64 / 2 ^ 64 ≡ set = omega arith in
+      ap₂ (λ (x y : ℕ). bitOr (leading follow x) (following follow y)) low high
+      ∙ ap (λ (x : ℕ). bitOr x (following follow set)) (leading-joins follow .none)
+      ∙ or-zero-l (following follow set)
+
+-- ---- one position
+
+over-none : (part : ℕ → ℕ) (i n : ℕ) → ((j : ℕ) → i ≤ j → part j ≡ 0) → over-positions part i n ≡ 0
+unfolding over-positions
+over-none part i zero h = refl
+over-none part i (suc n) h = ap₂ bitOr (h i (omega arith)) (over-none part (suc i) n (λ j l. h j (omega arith))) ∙ or-zero-l 0
+
+over-one : (part : ℕ → ℕ) (i n y : ℕ) → i ≤ y → y < i + n → ((j : ℕ) → (j ≡ y → ⊥) → part j ≡ 0) → over-positions part i n ≡ part y
+unfolding over-positions
+over-one part i zero y l m h = absurd (omega arith)
+over-one part i (suc n) y l m h =
+    ⊎-elim
+    (λ k.
+    ap₂ bitOr (h i (λ e. omega arith)) (over-one part (suc i) n y k (omega arith) h) ∙ or-zero-l (part y))
+    (λ k.
+    let e : i ≡ y = omega arith in
+    ap₂ bitOr (ap part e) (over-none part (suc i) n (λ j g. h j (λ q. omega arith))) ∙ or-zero-r (part y))
+    (lt-or-le i y)
+
+-- What follows a single position is its follow set.
+pub following-one : (follow : List ℕ) (y : ℕ) → y < 64 → following follow (2 ^ y) ≡ getD follow y 0
+unfolding following-part
+following-one follow y h =
+    over-one (following-part follow (2 ^ y)) 0 64 y (omega arith) (omega arith)
+    (λ j n. ap (λ (x : Bool). cond x (getD follow j 0) 0) (bit-one y j ∙ ne-eqb y j (λ e. n (sym e))))
+    ∙ ap (λ (x : Bool). cond x (getD follow y 0) 0) (∈-self y)
 
 -- ---- a set by its bytes
 

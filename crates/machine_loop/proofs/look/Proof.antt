@@ -1,9 +1,12 @@
--- `look` meets its contract: by a word, or by one walk.
+-- `look` meets its contract: by a word, or by one walk where no word is left.
 use borrow.Author.Needs.{needs}
-use mathlib.Core.Path.{sym, ap, subst, _∙_}
+use mathlib.Core.Path.{_≡_, refl, sym, ap, subst, _∙_}
+use mathlib.Core.Bool.{Bool, true, false, not}
 use mathlib.Core.List.{List}
-use Prim.Native.Nat.{ℕ, suc}
-use lib.ListN.{getD, drop, drop-of-length-le}
+use mathlib.Core.Logic.{⊎-elim}
+use Prim.Native.Nat.{ℕ, suc, _≤_}
+use native.Mathlib.Omega.{arith}
+use lib.ListN.{length, getD, drop, drop-of-length-le, length-drop}
 use lib.Seq.{drop-cons}
 use denote.Ref.{now}
 use Rattle.basics.specs.laws.Buffers.{rest-from}
@@ -17,50 +20,53 @@ use Rattle.machine_loop.proofs.look.Tie as tie
 mul-word-seen : tie.Need-mul-word-seen
 mul-word-seen c = search needs
 
--- src/lib.rt:129:26
 shared-slice-read-word-seen : tie.Need-shared-slice-read-word-seen
 shared-slice-read-word-seen c = search needs
 
--- src/lib.rt:129:9
 word-seen-requires : tie.Need-word-seen-requires
 word-seen-requires c κs = search needs
 
--- src/lib.rt:129:9
 returns : tie.Need-returns
 returns c =
-    let a = c .before .before .before .before .before .before .before .args in
-    λ image productions i w ahead.
-    let d = drop-cons (now (a .matches)) (a .turn) 0 (c .before .before .if1 .taken) in
+    let a = c .before .before .before .before .before .before .before .before .args in
+    λ image productions i w to ahead.
+    let d = drop-cons (now (a .matches)) (a .turn) 0 (c .before .before .if2 .taken) in
     subst (λ (l : List ℕ). SeenAt i (now (a .text)) (a .place) l (c .word-seen .result)) (sym d)
-    (seen-word i (now (a .text)) (a .place) (c .word-seen .result) (getD (now (a .matches)) (a .turn) 0) (drop (suc (a .turn)) (now (a .matches)))
-    (subst (Ahead (i .positions) (i .first) (now (a .text)) (a .place)) d ahead) (c .word-seen .ensures .0) (c .word-seen .ensures .1))
+    (seen-word i (now (a .text)) (a .place) (c .word-seen .result) to (getD (now (a .matches)) (a .turn) 0) (drop (suc (a .turn)) (now (a .matches)))
+    (subst (Ahead (i .positions) (i .first) (now (a .text)) to (a .place)) d ahead) (c .word-seen .ensures .0) (c .word-seen .ensures .1))
 
--- src/lib.rt:131:20
+not-not : (b : Bool) → not b ≡ false → b ≡ true
+not-not true e = refl
+not-not false e = sym e
+
+-- No word is left: it was looked, or the turns go by rows.
+none-left : (j : tie.Joined1) → length (now (j .before .before .before .before .before .args .matches)) ≤ j .before .before .before .before .before .args .turn
+none-left j = ⊎-elim (λ w. w .1 .left) (λ w. j .before .before .before .before .before .pre .1 (not-not _ (w .left))) (j .if1 .came)
+
 sub-walk : tie.Need-sub-walk
 sub-walk c = search needs
 
--- src/lib.rt:131:20
 part-walk-start : tie.Need-part-walk-start
-part-walk-start c = search needs
+part-walk-start c = omega (arith, c .before .before .before .before .before .pre .0)
 
--- src/lib.rt:131:20
 part-walk-end : tie.Need-part-walk-end
 part-walk-end c = search needs
 
--- src/lib.rt:131:9
 walk-requires : tie.Need-walk-requires
-walk-requires c κs = search needs
+walk-requires c κs =
+    let s = c .before .before .before .before .before .before in
+    let a = s .args in
+    (omega (arith, s .pre .0, ap (λ (l : List ℕ). length l) (rest-from (now (a .text)) (a .place)), length-drop (a .place) (now (a .text))), s .pre .2)
 
--- src/lib.rt:132:5
 walk-seen-requires : tie.Need-walk-seen-requires
 walk-seen-requires c κs = search needs
 
--- src/lib.rt:110:1
 returns-2 : tie.Need-returns-2
 returns-2 c =
-    let a = c .before .before .before .before .before .before .before .before .args in
-    λ image productions i w ahead.
-    let d = drop-of-length-le (now (a .matches)) {i = a .turn} (c .before .before .before .if1 .left) in
+    let j = c .before .before .before in
+    let a = j .before .before .before .before .before .args in
+    λ image productions i w to ahead.
+    let d = drop-of-length-le (now (a .matches)) {i = a .turn} (none-left j) in
     let e = c .before .walk .ensures image productions i w ∙ ap (told (i .positions) (i .first)) (rest-from (now (a .text)) (a .place)) in
     subst (λ (l : List ℕ). SeenAt i (now (a .text)) (a .place) l (c .walk-seen .result)) (sym d)
     (seen-walk i (now (a .text)) (a .place) (c .walk-seen .result) (subst (SeenBy (c .walk-seen .result)) e (c .walk-seen .ensures)))

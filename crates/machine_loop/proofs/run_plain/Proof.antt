@@ -1,17 +1,15 @@
--- `run_plain` meets its contract. The loop's invariant: the turns from the present state lead to the end of the whole run, with the match of the
--- latest walk in vain found ahead, and what is left of the budget is what was not charged.
+-- `run_plain` meets its contract. The loop's invariant: the turns from the present state lead to the end of the whole run, and what is left of the
+-- budget is what was not charged.
 use borrow.Author.Needs.{needs}
 use mathlib.Core.Path.{_≡_, refl, sym, ap, subst, _∙_}
 use mathlib.Core.List.{List, []}
 use Prim.Native.Nat.{ℕ, _+_, _-_, _≤_, _<_}
 use native.Mathlib.Omega.{arith}
-use lib.ListN.{length, take, drop, length-set, length-take, length-drop}
-use lib.Seq.{take-suc-set}
+use lib.ListN.{length, drop}
 use denote.Ref.{now}
 use Rattle.image.specs.Image.{Image}
 use Rattle.image_reader.specs.Decoded.{ImageTables, tables-of}
-use Rattle.scanner.specs.Meaning.{match-of}
-use Rattle.machine.specs.Trace.{Ended, match-at}
+use Rattle.machine.specs.Trace.{Ended}
 use Rattle.machine.specs.Run.{trace}
 use Rattle.machine.specs.Work.{budget, none-yet}
 use Rattle.machine.specs.laws.RunLaws.{trace-some-entry}
@@ -20,22 +18,26 @@ use Rattle.machine_turn.specs.laws.StackLaws.{ready-entries}
 use Rattle.machine_turn.specs.laws.Going.{Going, going-first, going-ends}
 use Rattle.machine_turn.specs.declared.State.{State}
 use Rattle.machine_turn.specs.declared.RunAnswer.{RunAnswer}
+use Rattle.machine_turn.specs.declared.Turn.{Turn}
+use Rattle.machine_turn.specs.declared.Turn.the-variants as turn
+use Rattle.machine_loop.specs.declared.Turns.{Turns}
 use Rattle.machine_loop.specs.declared.Turns.the-variants.{Reached, InVain}
 use Rattle.machine_loop.specs.Prepared.{WithTables}
-use Rattle.machine_loop.specs.Turning.{ChargedAt, Charged, TurnsLead}
+use Rattle.machine_loop.specs.Turning.{ChargedAt, Charged, TurnsLead, AgainLead}
+use Rattle.machine_loop.proofs.TurningLaws.{charged-at}
 use Rattle.machine_loop.proofs.Ending.{run-no-entry}
-use Rattle.machine_loop.proofs.Charging.{PlainTo, end-place, word-fits, charged-first, walk-inside, match-again, charge-is, charged-again}
+use Rattle.machine_loop.proofs.Charging.{PlainTo, end-place, charged-first, walk-inside, charge-is}
 use Rattle.machine_loop.proofs.run_plain.Statement.{statement}
 use Rattle.machine_loop.proofs.run_plain.Tie as tie
 
 abbrev Inv-loop : tie.InvT-loop
-Inv-loop image read tables productions table winners by-rows text stack₀ state₀ words₀ count₀ left₀ stack state words count left =
-    (length stack ≡ length stack₀) × (length words ≡ 1) × (count ≤ 1)
+Inv-loop image read tables productions table winners by-rows text stack₀ none state₀ left₀ stack state left =
+    (length stack ≡ length stack₀)
     × ((i : Image) → WithTables image (tables-of read tables productions) by-rows table winners i
-    → PlainTo i image (tables-of read tables productions) text stack state (take count words) left (trace i (length stack₀) text))
+    → PlainTo i image (tables-of read tables productions) text stack state left (trace i (length stack₀) text))
 
 abbrev μ-loop : tie.MeasureT-loop
-μ-loop image read tables productions table winners by-rows text stack₀ state₀ words₀ count₀ left₀ stack state words count left = left
+μ-loop image read tables productions table winners by-rows text stack₀ none state₀ left₀ stack state left = left
 
 -- The start, from the head of the loop, and the head, from what the turns leave.
 abbrev start-of : tie.At-loop Inv-loop μ-loop → tie.Start Inv-loop μ-loop
@@ -60,16 +62,14 @@ abbrev stack-left : tie.After-run-turns Inv-loop μ-loop → List ℕ
 stack-left c = c .run-turns .last .1 .1 .1 .1 .1 .1 .1 .1 .1 .0
 
 -- What the turns leave, for any image that the tables hold.
-led : (c : tie.After-run-turns Inv-loop μ-loop) (i : Image) → Held (start-of (head-of c)) i
-    → let l = head-of c .loop in
+abbrev Led : tie.After-run-turns Inv-loop μ-loop → Image → Turns → Type 0
+Led c i =
     let s = start-of (head-of c) in
     let a = s .args in
-    TurnsLead i (now (a .image)) (tables-here s) (now (a .text)) (l .state .place + length (take (l .count) (l .words))) (length (now (a .text)))
-    (whole s i) (stack-left c) (Charged i (now (a .text)) (l .state .place) (take (l .count) (l .words))) (c .run-turns .result)
-led c i w =
-    let l = head-of c .loop in
-    let p = l .inv .3 i w in
-    c .run-turns .ensures i _ w (p .going) (p .found-ahead)
+    TurnsLead i (now (a .image)) (tables-here s) (now (a .text)) (head-of c .loop .state .place) [] 0 (length (now (a .text))) (whole s i) (stack-left c)
+
+led : (c : tie.After-run-turns Inv-loop μ-loop) (i : Image) → Held (start-of (head-of c)) i → Led c i (c .run-turns .result)
+led c i w = c .run-turns .ensures i _ 0 w (head-of c .loop .inv .1 i w .going) (omega arith)
 
 kept-here : (c : tie.After-run-turns Inv-loop μ-loop) → length (stack-left c) ≡ length (now (start-of (head-of c) .args .stack))
 kept-here c = c .run-turns .kept .1 .1 .1 .1 .1 .1 .1 .1 .1 .0 ∙ head-of c .loop .inv .0
@@ -85,20 +85,8 @@ bytes-of t = t .before .turned3 .given .0 .1 .0
 
 -- The state where a walk was in vain.
 vain-here : (t : tie.After-known-told3 Inv-loop μ-loop) (i : Image) → Held (start-of (head-of (turns-of t))) i
-    → let c = turns-of t in
-    let l = head-of c .loop in
-    let s = start-of (head-of c) in
-    let a = s .args in
-    TurnsLead i (now (a .image)) (tables-here s) (now (a .text)) (l .state .place + length (take (l .count) (l .words))) (length (now (a .text)))
-    (whole s i) (stack-left c) (Charged i (now (a .text)) (l .state .place) (take (l .count) (l .words))) (InVain (state-of t) (bytes-of t))
-vain-here t i w =
-    let c = turns-of t in
-    let l = head-of c .loop in
-    let s = start-of (head-of c) in
-    let a = s .args in
-    subst
-    (TurnsLead i (now (a .image)) (tables-here s) (now (a .text)) (l .state .place + length (take (l .count) (l .words))) (length (now (a .text)))
-    (whole s i) (stack-left c) (Charged i (now (a .text)) (l .state .place) (take (l .count) (l .words)))) (t .before .turned3 .given .1) (led c i w)
+    → Led (turns-of t) i (InVain (state-of t) (bytes-of t))
+vain-here t i w = subst (Led (turns-of t) i) (t .before .turned3 .given .1) (led (turns-of t) i w)
 
 -- Some bytes, all within the text.
 bounds : (t : tie.After-known-told3 Inv-loop μ-loop)
@@ -143,13 +131,10 @@ loop-holds c =
     let a = s .args in
     let room = c .before .before .if1 .left in (
       refl,
-      refl,
-      omega arith,
       λ i w. record {
         going = subst (Going i (now (a .image)) (tables-of (a .read) (now (a .tables)) (now (a .productions))) (now (a .text)) (now (a .stack)) _)
             (sym (trace-some-entry i (length (now (a .stack))) (now (a .text)) room))
             (going-first i _ _ (w .decoded) _ _ (c .before .first-state .ensures) room);
-        found-ahead = tt;
         within = omega (arith, c .budget-of .ensures);
         charged = subst (λ (p : ℕ). Charged i (now (a .text)) p [] (budget (now (a .text)) - c .budget-of .result))
             (sym (ap (λ (s : State). s .place) (c .before .first-state .ensures)))
@@ -157,19 +142,18 @@ loop-holds c =
       },
     )
 
-array-share-prefix-words : tie.Need-array-share-prefix-words Inv-loop μ-loop
-array-share-prefix-words c = omega (arith, c .loop .inv .1, c .loop .inv .2)
+array-share-prefix-none : tie.Need-array-share-prefix-none Inv-loop μ-loop
+array-share-prefix-none c = search needs
 
 slice-aggregate-run-turns : tie.Need-slice-aggregate-run-turns Inv-loop μ-loop
-slice-aggregate-run-turns c = omega (arith, length-take (c .before .loop .count) (c .before .loop .words), c .before .loop .inv .1, c .before .loop .inv .2)
+slice-aggregate-run-turns c = search needs
 
 run-turns-requires : tie.Need-run-turns-requires Inv-loop μ-loop
 run-turns-requires c κs =
     let head = c .before .before in
     let s = start-of head in
     let w = s .pre .1 in
-    let p = head .loop .inv .3 (w .0) (w .1) in
-    (omega arith, (w .0, whole s (w .0), w .1, p .going, p .found-ahead))
+    (omega arith, λ e. refl, (w .0, whole s (w .0), 0, w .1, head .loop .inv .1 (w .0) (w .1) .going, omega arith))
 
 enum-known-turned : tie.Need-enum-known-turned Inv-loop μ-loop
 enum-known-turned c = search needs
@@ -180,15 +164,9 @@ same-length c = kept-here (c .before .before .before .before .before)
 returns-2 : tie.Need-returns-2 Inv-loop μ-loop
 returns-2 c =
     let turns = c .before .before .before .before .before in
-    let l = head-of turns .loop in
-    let s = start-of (head-of turns) in
-    let a = s .args in
     λ i w.
-    let p = l .inv .3 i w in
-    let x = subst
-    (TurnsLead i (now (a .image)) (tables-here s) (now (a .text)) (l .state .place + length (take (l .count) (l .words))) (length (now (a .text)))
-    (whole s i) (stack-left turns) (Charged i (now (a .text)) (l .state .place) (take (l .count) (l .words)))) (c .before .turned .given .1) (led turns i w) in
-    let y = x .1 _ (p .charged) in
+    let x = subst (Led turns i) (c .before .turned .given .1) (led turns i w) in
+    let y = x .1 _ (head-of turns .loop .inv .1 i w .charged) in
     (x .0, (y .0, y .1, y .2, y .3, omega (arith, y .4)))
 
 enum-known-turned-2 : tie.Need-enum-known-turned-2 Inv-loop μ-loop
@@ -196,18 +174,8 @@ enum-known-turned-2 c = search needs
 
 -- The state once the text's end is reached.
 reached-here : (c : tie.After-run-turns Inv-loop μ-loop) (at : State) → c .run-turns .result ≡ Reached at → (i : Image) → Held (start-of (head-of c)) i
-    → let l = head-of c .loop in
-    let s = start-of (head-of c) in
-    let a = s .args in
-    TurnsLead i (now (a .image)) (tables-here s) (now (a .text)) (l .state .place + length (take (l .count) (l .words))) (length (now (a .text)))
-    (whole s i) (stack-left c) (Charged i (now (a .text)) (l .state .place) (take (l .count) (l .words))) (Reached at)
-reached-here c at e i w =
-    let l = head-of c .loop in
-    let s = start-of (head-of c) in
-    let a = s .args in
-    subst
-    (TurnsLead i (now (a .image)) (tables-here s) (now (a .text)) (l .state .place + length (take (l .count) (l .words))) (length (now (a .text)))
-    (whole s i) (stack-left c) (Charged i (now (a .text)) (l .state .place) (take (l .count) (l .words)))) e (led c i w)
+    → Led c i (Reached at)
+reached-here c at e i w = subst (Led c i) e (led c i w)
 
 at-end-requires : tie.Need-at-end-requires Inv-loop μ-loop
 at-end-requires c κs =
@@ -221,14 +189,13 @@ same-length-2 c = kept-here (c .before .before .before .before .before .before .
 returns-3 : tie.Need-returns-3 Inv-loop μ-loop
 returns-3 c =
     let turns = c .before .before .before .before .before .before .before in
-    let l = head-of turns .loop in
     let s = start-of (head-of turns) in
     let a = s .args in
     let at = c .before .before .before .turned2 .given .0 .0 in
     λ i w.
-    let p = l .inv .3 i w in
     let x = reached-here turns at (c .before .before .before .turned2 .given .1) i w in
-    let y = x .2 _ (p .charged) in (
+    let l = head-of turns .loop in
+    let y = charged-at i (now (a .text)) [] (at .place) (budget (now (a .text)) - l .left) (drop (x .2 .0) []) (x .2 .2 _ (l .inv .1 i w .charged)) in (
       ap answer-held (c .at-end .ensures)
           ∙ going-ends i (now (a .image)) (tables-here s) (w .decoded) (now (a .text)) _ _ (whole s i) (x .0) (x .1),
       subst (λ (q : ℕ). ChargedAt i (now (a .text)) q (budget (now (a .text))))
@@ -249,10 +216,9 @@ returns-4 : tie.Need-returns-4 Inv-loop μ-loop
 returns-4 c =
     let t = c .before in
     let l = head-of (turns-of t) .loop in
-    let s = start-of (head-of (turns-of t)) in
-    let a = s .args in
+    let a = start-of (head-of (turns-of t)) .args in
     λ i w.
-    let p = l .inv .3 i w in
+    let p = l .inv .1 i w in
     let x = vain-here t i w in
     let y = x .5 _ (p .charged) in
     let n = charge-is i (now (a .text)) (state-of t .place) (bytes-of t) (x .3) (x .4) in
@@ -264,77 +230,90 @@ add-left c = let b = bounds (c .before) in omega (arith, b .0, b .2)
 sub-left : tie.Need-sub-left Inv-loop μ-loop
 sub-left c = omega (arith, c .if2 .left)
 
-add-scan : tie.Need-add-scan Inv-loop μ-loop
-add-scan c = let b = bounds (c .before) in omega (arith, b .0, b .2)
+-- ---- the turn whose walk is made again
 
-sub-scan : tie.Need-sub-scan Inv-loop μ-loop
-sub-scan c = let b = bounds (c .before) in omega (arith, b .0)
+abbrev again-told : tie.After-turn-again Inv-loop μ-loop → tie.After-known-told3 Inv-loop μ-loop
+again-told c = c .before .before .before
 
-part-scan-start : tie.Need-part-scan-start Inv-loop μ-loop
-part-scan-start c = let b = bounds (c .before) in omega (arith, b .0)
-
-part-scan-end : tie.Need-part-scan-end Inv-loop μ-loop
-part-scan-end c = let b = bounds (c .before) in omega (arith, b .0)
-
-scan-requires : tie.Need-scan-requires Inv-loop μ-loop
-scan-requires c κs = let w = start-of (head-of (turns-of (c .before .before))) .pre .1 in (_, _, w .0, w .1)
-
-abbrev scan-told : tie.After-scan Inv-loop μ-loop → tie.After-known-told3 Inv-loop μ-loop
-scan-told c = c .before .before .before
-
--- The match of the walk that was made again.
-match-here : (c : tie.After-scan Inv-loop μ-loop)
-    → let t = scan-told c in
-    let s = start-of (head-of (turns-of t)) in
-    (i : Image) → Held s i → match-of (c .scan .result) ≡ match-at i (now (s .args .text)) (state-of t .place)
-match-here c i w =
-    let t = scan-told c in
-    let s = start-of (head-of (turns-of t)) in
-    let x = vain-here t i w in
-    c .scan .ensures _ _ i w
-    ∙ match-again i (now (s .args .text)) (state-of t .place) (bytes-of t) (x .3) (x .4)
-    (state-of t .place + bytes-of t - state-of t .place) (omega arith)
-
-word-of-requires : tie.Need-word-of-requires Inv-loop μ-loop
-word-of-requires c κs =
-    let t = scan-told c in
+turn-again-requires : tie.Need-turn-again-requires Inv-loop μ-loop
+turn-again-requires c κs =
+    let t = c .before .before in
     let s = start-of (head-of (turns-of t)) in
     let w = s .pre .1 in
-    let text = now (s .args .text) in
-    word-fits (w .0) _ (c .scan .result) (c .scan .ensures _ _ (w .0) (w .1))
-    (omega (arith, s .pre .0, length-take (state-of t .place + bytes-of t - state-of t .place) (drop (state-of t .place) text), length-drop (state-of t .place) text))
+    let x = vain-here t (w .0) (w .1) in
+    (s .pre .0, x .1, x .3, (w .0, whole s (w .0), w .1, x .0, x .4))
 
-array-write-words : tie.Need-array-write-words Inv-loop μ-loop
-array-write-words c = search needs
+abbrev stack-again : tie.After-turn-again Inv-loop μ-loop → List ℕ
+stack-again c = c .turn-again .last .1 .1 .1 .1 .1 .1 .1 .1 .0
+
+abbrev Again : tie.After-turn-again Inv-loop μ-loop → Image → Turn → Type 0
+Again c i =
+    let t = again-told c in
+    let s = start-of (head-of (turns-of t)) in
+    let a = s .args in
+    AgainLead i (now (a .image)) (tables-here s) (now (a .text)) (state-of t .place) (bytes-of t + bytes-of t) (whole s i) (stack-again c)
+
+again-here : (c : tie.After-turn-again Inv-loop μ-loop) (i : Image) → Held (start-of (head-of (turns-of (again-told c)))) i
+    → Again c i (c .turn-again .result)
+again-here c i w =
+    let x = vain-here (again-told c) i w in
+    c .turn-again .ensures i _ w (x .0) (x .4)
+
+-- What was charged before it.
+charged-here : (c : tie.After-turn-again Inv-loop μ-loop) (i : Image) → Held (start-of (head-of (turns-of (again-told c)))) i
+    → let t = again-told c in
+    let head = head-of (turns-of t) in
+    let text = now (start-of head .args .text) in
+    Charged i text (state-of t .place) [] (budget text - head .loop .left)
+charged-here c i w =
+    let t = again-told c in
+    vain-here t i w .5 _ (head-of (turns-of t) .loop .inv .1 i w .charged)
+
+again-kept : (c : tie.After-turn-again Inv-loop μ-loop)
+    → length (stack-again c) ≡ length (now (start-of (head-of (turns-of (again-told c))) .args .stack))
+again-kept c = c .turn-again .kept .1 .1 .1 .1 .1 .1 .1 .1 .0 ∙ kept-here (turns-of (again-told c))
+
+enum-known-again : tie.Need-enum-known-again Inv-loop μ-loop
+enum-known-again c = search needs
+
+same-length-4 : tie.Need-same-length-4 Inv-loop μ-loop
+same-length-4 c = again-kept (c .before .before .before .before .before)
+
+returns-5 : tie.Need-returns-5 Inv-loop μ-loop
+returns-5 c =
+    let again = c .before .before .before .before .before in
+    let t = again-told again in
+    let l = head-of (turns-of t) .loop in
+    λ i w.
+    let x = subst (Again again i) (c .before .again .given .1) (again-here again i w) in
+    let y = x .1 _ (charged-here again i w) in
+    (x .0, (y .0, y .1, y .2, y .3, omega (arith, y .4, l .inv .1 i w .within, again .before .before .if2 .left)))
+
+enum-known-again-2 : tie.Need-enum-known-again-2 Inv-loop μ-loop
+enum-known-again-2 c = search needs
 
 loop-less : tie.Need-loop-less Inv-loop μ-loop
-loop-less c = let b = bounds (scan-told (c .before)) in omega (arith, b .1, c .before .before .before .if2 .left)
+loop-less c =
+    let again = c .before .before .before .before .before in
+    let b = bounds (again-told again) in omega (arith, b .1, again .before .before .if2 .left)
 
 loop-again : tie.Need-loop-again Inv-loop μ-loop
 loop-again c =
-    let scan = c .before in
-    let t = scan-told scan in
+    let again = c .before .before .before .before .before in
+    let t = again-told again in
     let l = head-of (turns-of t) .loop in
-    let s = start-of (head-of (turns-of t)) in
-    let a = s .args in (
-      kept-here (turns-of t),
-      simp length-set (l .inv .1),
-      omega arith,
+    let text = now (start-of (head-of (turns-of t)) .args .text) in
+    let n = bytes-of t in (
+      again-kept again,
       λ i w.
-          let p = l .inv .3 i w in
-          let x = vain-here t i w in
-          let e = c .word-of .ensures ∙ match-here scan i w in
-          subst
-          (λ (words : List ℕ). PlainTo i (now (a .image)) (tables-here s) (now (a .text)) (stack-left (turns-of t)) (state-of t) words
-          (l .left - (bytes-of t + bytes-of t)) (whole s i))
-          (sym (take-suc-set (l .words) 0 (c .word-of .result) (omega (arith, l .inv .1))))
-          (record {
+          let p = l .inv .1 i w in
+          let x = subst (Again again i) (c .before .again2 .given .1) (again-here again i w) in
+          let e : (budget text - l .left) + (n + n) ≡ budget text - (l .left - (n + n)) = omega (arith, p .within, again .before .before .if2 .left) in
+          record {
             going = x .0;
-            found-ahead = (e, λ rule n m. tt);
             within = omega (arith, p .within);
-            charged = charged-again i (now (a .text)) (state-of t .place) (bytes-of t) (x .3) (x .4) (c .word-of .result) (l .left) (x .1)
-                (c .before .before .before .if2 .left) (p .within) e (x .5 _ (p .charged));
-          }),
+            charged = subst (Charged i text (c .before .again2 .given .0 .0 .place) []) e (x .1 _ (charged-here again i w));
+          },
     )
 
 pub run-plain-spec : {M : Type 1} → statement M
@@ -348,7 +327,7 @@ run-plain-spec =
     first-state-requires
     budget-of-requires
     loop-holds
-    array-share-prefix-words
+    array-share-prefix-none
     slice-aggregate-run-turns
     run-turns-requires
     enum-known-turned
@@ -364,12 +343,10 @@ run-plain-spec =
     returns-4
     add-left
     sub-left
-    add-scan
-    sub-scan
-    part-scan-start
-    part-scan-end
-    scan-requires
-    word-of-requires
-    array-write-words
+    turn-again-requires
+    enum-known-again
+    same-length-4
+    returns-5
+    enum-known-again-2
     loop-less
     loop-again)

@@ -14,23 +14,20 @@ use Rattle.machine_turn.specs.laws.Going.{Going}
 use Rattle.alive_scanner.specs.Ahead.{Ahead}
 use Rattle.alive_scanner.specs.Blocks.{HeldBefore, AliveHeld}
 use Rattle.machine_loop.specs.Prepared.{WithTables}
-use Rattle.machine_loop.specs.Turning.{TurnsLead, ahead-left, AheadLead}
+use Rattle.machine_loop.specs.Turning.{TurnsLead, turn-left, AheadLead}
 use Rattle.machine_loop.specs.declared.Turns.{Turns}
 use Rattle.machine_loop.specs.declared.Turns.the-variants.{Done, Reached, InVain}
-use Rattle.machine_loop.specs.declared.AheadTurns.{AheadTurns}
+use Rattle.machine_loop.proofs.ByRows.{not-rows, without-rows}
 use Rattle.machine_loop.proofs.turns_ahead.Statement.{statement}
 use Rattle.machine_loop.proofs.turns_ahead.Tie as tie
 
--- What the turns leave, as it is gone on from.
-gone-on : (i : Image) (bytes : List ℕ) (t : ImageTables) (text : List ℕ) (place used stop : ℕ) (whole : Ended) (stack block : List ℕ) (before : ℕ → Type 0)
-    (end : ℕ) → place < used → place < stop → end ≤ stop + 1024 → HeldBefore (i .positions) text end block → (turned : Turns)
-    → TurnsLead i bytes t text used stop whole stack before turned
-    → AheadLead i bytes t text place whole stack block (ahead-left turned end .end) (ahead-left turned end .turned)
-gone-on i bytes t text place used stop whole stack block before end pu ps es h (Done a) l = l .0
-gone-on i bytes t text place used stop whole stack block before end pu ps es h (Reached s) l =
-    (l .0, omega (arith, ps, l .1), omega (arith, es, l .1), h)
-gone-on i bytes t text place used stop whole stack block before end pu ps es h (InVain s n) l =
-    (l .0, omega (arith, pu, l .2), omega arith, λ q x m. absurd (omega (arith, m)))
+-- What the turns leave, as it is gone on from. The matches lead to where the turns end, so that no walk is in vain before.
+gone-on : (i : Image) (bytes : List ℕ) (t : ImageTables) (text : List ℕ) (place : ℕ) (words : List ℕ) (stop : ℕ) (whole : Ended) (stack block : List ℕ)
+    (end : ℕ) → place < stop → end ≤ stop + 1024 → HeldBefore (i .positions) text end block → (turned : Turns)
+    → TurnsLead i bytes t text place words stop stop whole stack turned → AheadLead i bytes t text place whole stack block end (turn-left turned)
+gone-on i bytes t text place words stop whole stack block end ps es h (Done a) l = l .0
+gone-on i bytes t text place words stop whole stack block end ps es h (Reached s) l = (l .0, omega (arith, ps, l .1), omega (arith, es, l .1), h)
+gone-on i bytes t text place words stop whole stack block end ps es h (InVain s n) l = absurd (omega (arith, l .1, l .2))
 
 -- The start, from the matches found ahead, and these, from what the turns leave.
 abbrev start-of : tie.After-find-ahead → tie.Start
@@ -61,12 +58,12 @@ block-left c = c .find-ahead .last .1 .1 .1 .1 .1 .1 .1 .1 .0
 ahead-here : (c : tie.After-find-ahead) (i : Image) (whole : Ended) (k : ℕ)
     → let a = start-of c .args in
     Held (start-of c) i whole k
-    → Ahead (i .positions) (i .first) (now (a .text)) (a .state .place) (words-here c)
+    → Ahead (i .positions) (i .first) (now (a .text)) (c .find-ahead .result .stop) (a .state .place) (words-here c)
     × HeldBefore (i .positions) (now (a .text)) (c .find-ahead .result .end) (block-left c)
 ahead-here c i whole k w =
     let a = start-of c .args in
     let e = c .find-ahead .ensures .7 (i .positions) k (w .2) in (
-      subst (λ (first : ℕ). Ahead (i .positions) first (now (a .text)) (a .state .place) (words-here c)) (w .0 .decoded .first) (e .0),
+      subst (λ (first : ℕ). Ahead (i .positions) first (now (a .text)) (c .find-ahead .result .stop) (a .state .place) (words-here c)) (w .0 .decoded .first) (e .0),
       e .1,
     )
 
@@ -84,11 +81,14 @@ slice-aggregate-run-turns c = sym (count-here (c .before .before .before))
 run-turns-requires : tie.Need-run-turns-requires
 run-turns-requires c κs =
     let found = c .before .before .before .before in
-    let w = start-of found .pre .5 in
-    (found .find-ahead .ensures .1, (w .0, w .1, w .3, w .4, ahead-here found (w .0) (w .1) (w .2) (w .3, w .4, w .5) .0))
+    let w = start-of found .pre .5 in (
+      found .find-ahead .ensures .1,
+      λ e. absurd (not-rows e),
+      (w .0, w .1, found .find-ahead .result .stop, without-rows (w .3), w .4, ahead-here found (w .0) (w .1) (w .2) (w .3, w .4, w .5) .0),
+    )
 
-left-ahead-requires : tie.Need-left-ahead-requires
-left-ahead-requires c κs = search needs
+turn-left-requires : tie.Need-turn-left-requires
+turn-left-requires c κs = search needs
 
 same-length : tie.Need-same-length
 same-length c = search needs
@@ -105,12 +105,12 @@ returns c =
       λ i whole k w g h.
           let ahead = ahead-here found i whole k (w, g, h) in
           subst
-          (λ (r : AheadTurns). AheadLead i (now (a .image)) (tables-here s) (now (a .text)) (a .state .place) whole
-          (turns .run-turns .last .1 .1 .1 .1 .1 .1 .1 .1 .1 .0) (block-left found) (r .end) (r .turned))
-          (sym (c .left-ahead .ensures))
-          (gone-on i _ _ _ _ _ _ whole _ (block-left found) _ (found .find-ahead .result .end)
-          (omega (arith, count-here found, found .find-ahead .ensures .6 more)) (found .find-ahead .ensures .2 more) (found .find-ahead .ensures .3)
-          (ahead .1) (turns .run-turns .result) (turns .run-turns .ensures i whole w g (ahead .0))),
+          (AheadLead i (now (a .image)) (tables-here s) (now (a .text)) (a .state .place) whole
+          (turns .run-turns .last .1 .1 .1 .1 .1 .1 .1 .1 .1 .0) (block-left found) (found .find-ahead .result .end))
+          (sym (c .turn-left .ensures))
+          (gone-on i _ _ _ _ _ (found .find-ahead .result .stop) whole _ (block-left found) (found .find-ahead .result .end)
+          (found .find-ahead .ensures .2 more) (found .find-ahead .ensures .3) (ahead .1) (turns .run-turns .result)
+          (turns .run-turns .ensures i whole _ (without-rows w) g (ahead .0))),
     )
 
 pub turns-ahead-spec : {M : Type 1} → statement M
@@ -120,6 +120,6 @@ turns-ahead-spec =
     find-ahead-requires
     slice-aggregate-run-turns
     run-turns-requires
-    left-ahead-requires
+    turn-left-requires
     same-length
     returns)

@@ -10,7 +10,9 @@ use Rattle.machine_loop.proofs.walk.Tie as tie
 
 walk-rows-requires : tie.Need-walk-rows-requires
 walk-rows-requires c κs =
-    let w = c .before .before .before .before .pre in rows-in (w .2) (w .3 .in-range) _ _ (w .3 .built (c .if1 .taken))
+    let s = c .before .before .before .before in
+    let w = s .pre .1 in
+    (s .pre .0, rows-in (w .2) (w .3 .in-range) _ _ (w .3 .built (c .if1 .taken)))
 
 returns : tie.Need-returns
 returns c =
@@ -20,7 +22,9 @@ returns c =
 
 walk-once-requires : tie.Need-walk-once-requires
 walk-once-requires c κs =
-    let w = c .before .before .before .before .pre in (w .2 .positions, w .3 .decoded .positions (w .3 .in-range .never-falling))
+    let s = c .before .before .before .before in
+    let w = s .pre .1 in
+    (s .pre .0, (w .2 .positions, w .3 .decoded .positions (w .3 .in-range .never-falling)))
 
 returns-2 : tie.Need-returns-2
 returns-2 c =

@@ -29,41 +29,35 @@ Held s ps = Prepared ps (s .args .last) (now (s .args .tables))
 
 -- Where the loop's turn starts from.
 abbrev start : tie.At-loop Inv-loop μ-loop → tie.Start Inv-loop μ-loop
-start c = c .before .before .before .before .before .before .before
+start c = c .before .before .before .before .before .before
 
 -- ---- the facts
 
 returns : tie.Need-returns Inv-loop μ-loop
 unfolding told-of
 returns c = λ ps h.
-    let a = c .before .before .args in
-    tells-nothing ps (now (a .text)) (a .first) (stops-at-end ps (now (a .text)) (a .first) 0 (omega arith))
-
-returns-2 : tie.Need-returns-2 Inv-loop μ-loop
-unfolding told-of
-returns-2 c = λ ps h.
     let known = c .before .before in
-    let a = known .before .before .before .args in
+    let a = known .before .before .args in
     let kept = kept-is _ _ ps h (a .first) _ (known .shared-slice-known2 .given 0 .fits) in
-    tells-nothing ps (now (a .text)) (a .first) (stops-inside ps (now (a .text)) (a .first) 0 (omega arith) (sym kept ∙ c .if2 .taken))
+    tells-nothing ps (now (a .text)) (a .first) (stops-inside ps (now (a .text)) (a .first) 0 (omega arith) (sym kept ∙ c .if1 .taken))
 
 loop-holds : tie.Need-loop-holds Inv-loop μ-loop
 loop-holds c = (
   λ ps h.
       let known = c .before .before .before in
-      let a = known .before .before .before .args in
+      let a = known .before .before .args in
       let kept = kept-is _ _ ps h (a .first) _ (known .shared-slice-known2 .given 0 .fits) in
-      begins ps (now (a .text)) (a .first) _ _ (omega arith) kept (c .before .if2 .left)
+      begins ps (now (a .text)) (a .first) _ _ (omega arith) kept (c .before .if1 .left)
       (c .after-byte .ensures ps h .next-held ∙ ap (follows ps 0) (sym kept)),
   omega arith,
 )
 
 -- What the byte keeps, and what is held after it.
-step-here : (c : tie.Joined3 Inv-loop μ-loop)
+step-here : (c : tie.Joined2 Inv-loop μ-loop)
     → let head = c .before .before .before .before in
     (ps : List Position) → Held (start head) ps
-    → (c .if3 .kept ≡ keep ps 0 (head .loop .held) (getD (now (start head .args .text)) (head .loop .walked) 0)) × (c .if3 .kept ≡ 0 → ⊥)
-    × (c .if3 .held ≡ follows ps 0 (c .if3 .kept))
+    → (c .if2 .kept ≡ keep ps 0 (head .loop .held) (getD (now (start head .args .text)) (head .loop .walked) 0)) × (c .if2 .kept ≡ 0 → ⊥)
+    × (c .if2 .held ≡ follows ps 0 (c .if2 .kept))
 step-here c ps h =
     let head = c .before .before .before .before in
     let way = head .loop .inv .0 ps h in
@@ -71,7 +65,7 @@ step-here c ps h =
     ⊎-elim
     (λ w. (w .3 ∙ next, λ e. w .1 .left (sym (w .3) ∙ e), w .4 ∙ w .2 .ensures ps h .next-held ∙ ap (follows ps 0) (sym (w .3 ∙ next))))
     (λ w. (w .1 ∙ sym (w .0 .left) ∙ next, λ e. way .some-kept (sym (w .1) ∙ e), w .2 ∙ way .following ∙ ap (follows ps 0) (sym (w .1))))
-    (c .if3 .came)
+    (c .if2 .came)
 
 loop-again : tie.Need-loop-again Inv-loop μ-loop
 loop-again c = (
@@ -105,18 +99,18 @@ rule-here c ps h =
     let byte = c .before .before .loop .inv .0 ps h .by-byte in
     c .lowest-rule .ensures ∙ ended-kept _ _ ps h (byte .0) (byte .1) _ (byte .2)
 
-returns-3 : tie.Need-returns-3 Inv-loop μ-loop
+returns-2 : tie.Need-returns-2 Inv-loop μ-loop
 unfolding told-of rule-of
-returns-3 c = λ ps h.
+returns-2 c = λ ps h.
     let ended = c .before .before in
     let left = ended .before in
     let a = start (left .before) .args in
     tells-vain ps (now (a .text)) (a .first) (left .before .loop .inv .0 ps h) (ended-here left ps h)
     (ap rule-of (sym (c .enum-told .given .1)) ∙ rule-here ended ps h)
 
-returns-4 : tie.Need-returns-4 Inv-loop μ-loop
+returns-3 : tie.Need-returns-3 Inv-loop μ-loop
 unfolding told-of rule-of
-returns-4 c = λ ps h.
+returns-3 c = λ ps h.
     let ended = c .before .before .before in
     let left = ended .before in
     let a = start (left .before) .args in
@@ -138,7 +132,7 @@ element-copy-out-kept : tie.Need-element-copy-out-kept Inv-loop μ-loop
 element-copy-out-kept c = omega (arith, c .shared-slice-known2 .given 0 .fits)
 
 after-byte-requires : tie.Need-after-byte-requires Inv-loop μ-loop
-after-byte-requires c κs = c .before .before .before .before .before .pre
+after-byte-requires c κs = c .before .before .before .before .pre .1
 
 shared-slice-read-byte : tie.Need-shared-slice-read-byte Inv-loop μ-loop
 shared-slice-read-byte c = omega arith
@@ -153,7 +147,7 @@ element-copy-out-next : tie.Need-element-copy-out-next Inv-loop μ-loop
 element-copy-out-next c = omega (arith, c .shared-slice-known3 .given (c .before .before .loop .walked) .fits)
 
 after-byte-requires-2 : tie.Need-after-byte-requires-2 Inv-loop μ-loop
-after-byte-requires-2 c κs = start (c .before .before .before .before .before) .pre
+after-byte-requires-2 c κs = start (c .before .before .before .before .before) .pre .1
 
 add-walked : tie.Need-add-walked Inv-loop μ-loop
 add-walked c = omega arith
@@ -176,12 +170,11 @@ walk-once-spec =
     (tie.spec
     Inv-loop
     μ-loop
-    returns
     shared-slice-read-front
     cast-kept
     mul-kept
     element-copy-out-kept
-    returns-2
+    returns
     after-byte-requires
     loop-holds
     shared-slice-read-byte
@@ -194,6 +187,6 @@ walk-once-spec =
     loop-again
     lowest-rule-requires
     enum-told
-    returns-3
+    returns-2
     enum-known-winner
-    returns-4)
+    returns-3)

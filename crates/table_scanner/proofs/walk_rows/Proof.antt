@@ -11,8 +11,8 @@ use Rattle.lexer.specs.Alive.{row-bytes}
 use Rattle.scanner.specs.Meaning.{told-of}
 use Rattle.table_scanner.specs.Rows.{RowsIn}
 use Rattle.table_scanner.proofs.Front.{front-row, front-match, row-first, row-more, first-below, winner-read, winner-most}
-use Rattle.table_scanner.proofs.Front.{match-none, match-all, match-stops, match-never}
-use Rattle.table_scanner.proofs.Told.{Behind, behind-first, behind-more, behind-all, behind-stops, never-begins, no-bytes}
+use Rattle.table_scanner.proofs.Front.{match-all, match-stops, match-never}
+use Rattle.table_scanner.proofs.Told.{Behind, behind-first, behind-more, behind-all, behind-stops, never-begins}
 use Rattle.table_scanner.proofs.Told.{tells-nothing, tells-match, tells-vain}
 use Rattle.table_scanner.proofs.walk_rows.Statement.{statement}
 use Rattle.table_scanner.proofs.walk_rows.Tie as tie
@@ -25,60 +25,52 @@ Inv-loop text table winners row₀ n₀ row n =
 abbrev μ-loop : tie.MeasureT-loop
 μ-loop text table winners row₀ n₀ row n = length text - n
 
--- Where the text's bytes are known, after the first test.
+-- Where the text's bytes are known.
 abbrev text-known : tie.At-loop Inv-loop μ-loop → tie.After-shared-slice-known Inv-loop μ-loop
 text-known c = c .before .before .before
 
 abbrev start : tie.At-loop Inv-loop μ-loop → tie.Start Inv-loop μ-loop
-start c = text-known c .before .before
+start c = text-known c .before
 
 -- ---- the facts
 
 returns : tie.Need-returns Inv-loop μ-loop
 unfolding told-of
 returns c =
-    let a = c .before .args in
-    tells-nothing (now (a .table)) (now (a .winners)) (now (a .text)) (no-bytes (now (a .table)) (now (a .text)) (omega arith))
-    (match-none (now (a .table)) (now (a .winners)) (now (a .text))
-    ∙ match-all (now (a .table)) (now (a .winners)) (now (a .text)) 0 (omega arith))
-
-returns-2 : tie.Need-returns-2 Inv-loop μ-loop
-unfolding told-of
-returns-2 c =
     let known = c .before .before in
-    let s = known .before .before in
+    let s = known .before in
     let a = s .args in
-    tells-nothing (now (a .table)) (now (a .winners)) (now (a .text)) (never-begins (now (a .table)) (now (a .text)) (omega arith) (c .if2 .taken))
-    (match-never (now (a .table)) (now (a .winners)) (now (a .text)) (s .pre) (λ i. known .shared-slice-known .given i .fits) (omega arith)
-    (c .if2 .taken))
+    tells-nothing (now (a .table)) (now (a .winners)) (now (a .text)) (never-begins (now (a .table)) (now (a .text)) (omega arith) (c .if1 .taken))
+    (match-never (now (a .table)) (now (a .winners)) (now (a .text)) (s .pre .1) (λ i. known .shared-slice-known .given i .fits) (omega arith)
+    (c .if1 .taken))
 
 loop-holds : tie.Need-loop-holds Inv-loop μ-loop
 loop-holds c =
     let known = c .before .before in
-    let a = known .before .before .args in (
+    let a = known .before .args in (
       row-first (now (a .table)) (now (a .text)) (omega arith),
       omega arith,
       omega arith,
       λ k. first-below k _ (known .shared-slice-known .given 0 .fits),
-      c .if2 .left,
-      behind-first (now (a .table)) (now (a .text)) (omega arith) (c .if2 .left),
+      c .if1 .left,
+      behind-first (now (a .table)) (now (a .text)) (omega arith) (c .if1 .left),
     )
 
 -- The row after the byte is the one that it leads to, also where that is the same. It is not row 1.
-step-here : (c : tie.Joined3 Inv-loop μ-loop)
+step-here : (c : tie.Joined2 Inv-loop μ-loop)
     → let l = c .before .before .before .before .loop in
     let a = start (c .before .before .before .before) .args in
-    (c .if3 .row ≡ getD (now (a .table)) (l .row * row-entries + getD (now (a .text)) (l .n) 0) 0) × (c .if3 .row ≡ 1 → ⊥)
+    (c .if2 .row ≡ getD (now (a .table)) (l .row * row-entries + getD (now (a .text)) (l .n) 0) 0) × (c .if2 .row ≡ 1 → ⊥)
 step-here c =
     let l = c .before .before .before .before .loop in
-    ⊎-elim (λ w. (w .2, λ e. w .1 .left (sym (w .2) ∙ e))) (λ w. (w .1 ∙ sym (w .0 .left), λ e. l .inv .4 (sym (w .1) ∙ e))) (c .if3 .came)
+    ⊎-elim (λ w. (w .2, λ e. w .1 .left (sym (w .2) ∙ e))) (λ w. (w .1 ∙ sym (w .0 .left), λ e. l .inv .4 (sym (w .1) ∙ e))) (c .if2 .came)
 
 loop-again : tie.Need-loop-again Inv-loop μ-loop
 loop-again c =
     let head = c .before .before .before .before in
     let l = head .loop in
     let known = text-known head in
-    let a = known .before .before .args in
+    let a = known .before .args in
     let more = c .before .before .before .loop-test .taken in
     let step = step-here c in (
       step .0 ∙ row-more (now (a .table)) (now (a .text)) (l .row) (l .n) more (l .inv .0),
@@ -99,7 +91,7 @@ ended-here : (c : tie.Left-loop Inv-loop μ-loop)
 ended-here c =
     let l = c .before .loop in
     let known = text-known (c .before) in
-    let s = known .before .before in
+    let s = known .before in
     let a = s .args in
     ⊎-elim
     (λ w. (
@@ -108,10 +100,21 @@ ended-here c =
     ))
     (λ w. (
       behind-stops (now (a .table)) (now (a .text)) (l .row) (l .n) (w .0 .taken) (w .4 .taken) (l .inv .5),
-      match-stops (now (a .table)) (now (a .winners)) (now (a .text)) (s .pre) (λ i. known .shared-slice-known .given i .fits)
+      match-stops (now (a .table)) (now (a .winners)) (now (a .text)) (s .pre .1) (λ i. known .shared-slice-known .given i .fits)
           (l .row) (l .n) (w .0 .taken) (l .inv .0) (w .4 .taken),
     ))
     (c .loop-test .came)
+
+returns-2 : tie.Need-returns-2 Inv-loop μ-loop
+unfolding told-of
+returns-2 c =
+    let left = c .before .before in
+    let l = left .before .loop in
+    let s = start (left .before) in
+    let a = s .args in
+    let ended = ended-here left in
+    tells-match (now (a .table)) (now (a .winners)) (now (a .text)) (l .row) (l .n) (l .inv .1) (l .inv .2) (l .inv .0) (ended .0) (ended .1) _
+    (winner-read (s .pre .1) (l .row) (l .inv .3 (s .pre .1))) (c .if4 .taken)
 
 returns-3 : tie.Need-returns-3 Inv-loop μ-loop
 unfolding told-of
@@ -121,19 +124,8 @@ returns-3 c =
     let s = start (left .before) in
     let a = s .args in
     let ended = ended-here left in
-    tells-match (now (a .table)) (now (a .winners)) (now (a .text)) (l .row) (l .n) (l .inv .1) (l .inv .2) (l .inv .0) (ended .0) (ended .1) _
-    (winner-read (s .pre) (l .row) (l .inv .3 (s .pre))) (c .if5 .taken)
-
-returns-4 : tie.Need-returns-4 Inv-loop μ-loop
-unfolding told-of
-returns-4 c =
-    let left = c .before .before in
-    let l = left .before .loop in
-    let s = start (left .before) in
-    let a = s .args in
-    let ended = ended-here left in
     tells-vain (now (a .table)) (now (a .winners)) (now (a .text)) (l .row) (l .n) (l .inv .1) (l .inv .2) (l .inv .0) (ended .0) (ended .1) _
-    (winner-read (s .pre) (l .row) (l .inv .3 (s .pre))) (c .if5 .left)
+    (winner-read (s .pre .1) (l .row) (l .inv .3 (s .pre .1))) (c .if4 .left)
 
 -- ---- what the operations ask for
 
@@ -148,16 +140,16 @@ mul-row c = omega (arith, c .shared-slice-known .given 0)
 
 shared-slice-read-row-2 : tie.Need-shared-slice-read-row-2 Inv-loop μ-loop
 shared-slice-read-row-2 c =
-    omega (arith, c .before .shared-slice-known .given 0, c .before .before .before .pre .entries-lent)
+    omega (arith, c .before .shared-slice-known .given 0, c .before .before .pre .1 .entries-lent)
 
 cast-row-2 : tie.Need-cast-row-2 Inv-loop μ-loop
 cast-row-2 c =
-    let k = c .before .before .before .pre in
+    let k = c .before .before .pre .1 in
     omega (arith, first-below k _ (c .before .shared-slice-known .given 0 .fits), k .few-rows)
 
 mul-next : tie.Need-mul-next Inv-loop μ-loop
 mul-next c =
-    let k = start (c .before) .pre in
+    let k = start (c .before) .pre .1 in
     omega (arith, c .before .loop .inv .3 k, k .few-rows)
 
 shared-slice-read-next : tie.Need-shared-slice-read-next Inv-loop μ-loop
@@ -169,25 +161,25 @@ cast-next c = omega (arith, c .shared-slice-known3 .given (c .before .before .lo
 add-next : tie.Need-add-next Inv-loop μ-loop
 add-next c =
     let l = c .before .before .loop in
-    let k = start (c .before .before) .pre in
+    let k = start (c .before .before) .pre .1 in
     omega (arith, c .shared-slice-known3 .given (l .n), l .inv .3 k, k .few-rows)
 
 mul-next-2 : tie.Need-mul-next-2 Inv-loop μ-loop
 mul-next-2 c =
     let l = c .before .before .loop in
-    let k = start (c .before .before) .pre in
+    let k = start (c .before .before) .pre .1 in
     omega (arith, c .shared-slice-known3 .given (l .n), l .inv .3 k, k .few-rows)
 
 shared-slice-read-next-2 : tie.Need-shared-slice-read-next-2 Inv-loop μ-loop
 shared-slice-read-next-2 c =
     let l = c .before .before .before .loop in
-    let k = start (c .before .before .before) .pre in
+    let k = start (c .before .before .before) .pre .1 in
     omega (arith, c .before .shared-slice-known3 .given (l .n), l .inv .3 k, k .few-rows, k .entries-lent)
 
 cast-next-2 : tie.Need-cast-next-2 Inv-loop μ-loop
 cast-next-2 c =
     let l = c .before .before .before .loop in
-    let k = start (c .before .before .before) .pre in
+    let k = start (c .before .before .before) .pre .1 in
     omega (arith, k .next-row (l .row) _ (l .inv .3 k) (c .before .shared-slice-known3 .given (l .n) .fits), k .few-rows)
 
 add-n : tie.Need-add-n Inv-loop μ-loop
@@ -198,18 +190,18 @@ loop-less c = omega arith
 
 mul-winner : tie.Need-mul-winner Inv-loop μ-loop
 mul-winner c =
-    let k = start (c .before) .pre in
+    let k = start (c .before) .pre .1 in
     omega (arith, c .before .loop .inv .3 k, k .few-rows)
 
 shared-slice-read-winner : tie.Need-shared-slice-read-winner Inv-loop μ-loop
 shared-slice-read-winner c =
-    let k = start (c .before .before) .pre in
+    let k = start (c .before .before) .pre .1 in
     omega (arith, c .before .before .loop .inv .3 k, k .few-rows, k .winners-lent)
 
 cast-t26 : tie.Need-cast-t26 Inv-loop μ-loop
 cast-t26 c =
     let l = c .before .before .before .loop in
-    let k = start (c .before .before .before) .pre in
+    let k = start (c .before .before .before) .pre .1 in
     omega (arith, winner-most k (l .row) (l .inv .3 k))
 
 pub walk-rows-spec : {M : Type 1} → statement M
@@ -218,13 +210,12 @@ walk-rows-spec =
     (tie.spec
     Inv-loop
     μ-loop
-    returns
     shared-slice-read-row
     cast-row
     mul-row
     shared-slice-read-row-2
     cast-row-2
-    returns-2
+    returns
     loop-holds
     mul-next
     shared-slice-read-next
@@ -239,5 +230,5 @@ walk-rows-spec =
     mul-winner
     shared-slice-read-winner
     cast-t26
-    returns-3
-    returns-4)
+    returns-2
+    returns-3)
