@@ -5,9 +5,9 @@ use mathlib.Core.List.{List, [], _∷_}
 use mathlib.Core.Logic.{⊎-elim}
 use Prim.Native.Nat.{ℕ, _+_, _-_, _≤_, _<_}
 use native.Mathlib.Omega.{arith}
-use lib.ListN.{length, take, drop, length-drop}
-use Rattle.lexer.specs.Walk.{longest-match}
-use Rattle.lexer.specs.Alive.{walk-bytes, vain-bytes, cut-bytes}
+use lib.ListN.{length, take, drop, length-drop, drop-of-length-le}
+use Rattle.lexer.specs.Walk.{walk, longest-match}
+use Rattle.lexer.specs.Alive.{walk-bytes, match-bytes, vain, vain-bytes, cut-bytes}
 use Rattle.lexer.specs.laws.AliveLaws.{match-or-vain, walk-bytes-most, walk-front}
 use Rattle.lexer.specs.laws.LongestMatchLaws.{match-within}
 use Rattle.scanner.specs.Meaning.{match-of}
@@ -38,6 +38,11 @@ end-place empty l p count = go (all-members empty l)
     go : (b : Bool) → cond {A = RunAnswer} b (run-answer 0 p count) (run-answer 16 p count) .place ≡ p
     go true = refl
     go false = refl
+
+-- No walk goes past the text's end.
+pub none-at-end : (i : Image) (text : List ℕ) (p : ℕ) → length text ≤ p → vain-bytes (i .positions) (i .first) (drop p text) ≡ 0
+unfolding vain-bytes vain walk-bytes longest-match walk match-bytes
+none-at-end i text p h = rw (drop-of-length-le text {i = p} h)
 
 -- A match within a text of at most so many bytes has its word.
 pub word-fits : (i : Image) (text : List ℕ) (f : Found) → match-of f ≡ longest-match (i .positions) (i .first) text → length text ≤ 1048576 → WordFits f
@@ -79,7 +84,7 @@ module _ (i : Image) (text : List ℕ) where
         → Charged i text p [] v → Charged i text p (word ∷ []) (v + (n + n))
     charged-again word v inside w c =
         let e : v + charge (i .positions) (i .first) (drop p text) ≡ v + (n + n) = omega (arith, charge-is) in (
-          (c .0, v, c .1, c .2, omega arith),
+          (c .0, v, c .1, c .2, omega (arith, charge-is)),
           λ rule k m.
               let rest = drop p text in
               let walked = c .0 + (walk-bytes (i .positions) (i .first) rest + vain-bytes (i .positions) (i .first) rest) in

@@ -54,7 +54,9 @@ module _ (i : Image) (text matches : List ℕ) where
         no-charge : vain-bytes (i .positions) (i .first) (drop p text) ≡ 0 → v + charge (i .positions) (i .first) (drop p text) ≡ v
         no-charge z = omega (arith, z)
 
-  -- At each place it is at most so much.
-  pub charged-at : (p v : ℕ) (words : List ℕ) → Charged i text p words v → ChargedAt i text p v
-  charged-at p v [] c = (c .0, v, c .1, c .2, omega arith)
-  charged-at p v (word ∷ words) c = c .0
+  -- At each place it is at most so much, if the walk there is not in vain where no match was found ahead.
+  pub charged-at : (p v : ℕ) (words : List ℕ) → (words ≡ [] → vain-bytes (i .positions) (i .first) (drop p text) ≡ 0) → Charged i text p words v
+      → ChargedAt i text p v
+  unfolding charge
+  charged-at p v [] z c = (c .0, v, c .1, c .2, omega (arith, z refl))
+  charged-at p v (word ∷ words) z c = c .0

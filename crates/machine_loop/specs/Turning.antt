@@ -34,12 +34,13 @@ pub record SeenAt (i : Image) (text : List ℕ) (p : ℕ) (words : List ℕ) (r 
   pub not-in-vain : r .vain ≡ 0 → words ≡ [] → vain-bytes (i .positions) (i .first) (drop p text) ≡ 0
   pub went-in-vain : (r .vain ≡ 0 → ⊥) → (words ≡ []) × (r .vain ≡ vain-bytes (i .positions) (i .first) (drop p text))
 
--- The turns up to a place were charged so much, or less.
+-- The turns up to a place, and the walk there, were charged so much, or less.
 abbrev pub ChargedAt : Image → List ℕ → ℕ → ℕ → Type 0
 ChargedAt i text p most =
-    (walked charged cut : ℕ) × TurnsTo (i .positions) (i .first) text p walked charged cut × (charged ≤ most)
+    (walked charged cut : ℕ) × TurnsTo (i .positions) (i .first) text p walked charged cut
+    × (charged + charge (i .positions) (i .first) (drop p text) ≤ most)
 
--- The same of every place that matches found ahead lead to; at the last of these it is just so much.
+-- The same of every place that matches found ahead lead to. Up to the last of these it is just so much, without the walk there.
 abbrev pub Charged : Image → List ℕ → ℕ → List ℕ → ℕ → Type 0
 Charged i text p [] v = (walked cut : ℕ) × TurnsTo (i .positions) (i .first) text p walked v cut
 Charged i text p (word ∷ words) v =
@@ -72,9 +73,10 @@ WordFits found.Nothing = Unit
 WordFits (found.Rule rule n) = (1 ≤ n) × (n ≤ 1048576)
 
 -- What is left once the turns are over, or once their walks in vain cost more than the budget allows: the answer of the whole run, within the
--- budget; or a state from which its turns go on, where the next walk breaks it.
+-- budget with its last walk, unless the stack has no entry and no walk is made; or a state from which its turns go on, where the next walk
+-- breaks it.
 abbrev pub PlainLead : Image → List ℕ → ImageTables → List ℕ → Ended → List ℕ → Turn → Type 0
-PlainLead i bytes t text whole stack (turn.Done a) = (answer-held a ≡ answer-of whole) × ChargedAt i text (a .place) (budget text)
+PlainLead i bytes t text whole stack (turn.Done a) = (answer-held a ≡ answer-of whole) × (1 ≤ length stack → ChargedAt i text (a .place) (budget text))
 PlainLead i bytes t text whole stack (turn.Next s) =
     Going i bytes t text stack s whole
     × ((walked charged cut : ℕ) × TurnsTo (i .positions) (i .first) text (s .place) walked charged cut

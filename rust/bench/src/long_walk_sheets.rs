@@ -17,8 +17,8 @@ pub struct LongWalks {
     /// Few bytes of it are walked in vain.
     pub ordinary: Text,
     /// None of it is walked in vain, and each of its tokens has one byte, as where walks are in vain: beside it a time
-    /// tells what these walks cost, and not what short tokens do. Some sheets have no such text.
-    pub short_tokens: Option<Text>,
+    /// tells what these walks cost, and not what short tokens do.
+    pub short_tokens: Text,
     /// Texts with a name each, of which many bytes are walked in vain.
     pub in_vain: Vec<(&'static str, Text)>,
 }
@@ -26,10 +26,10 @@ pub struct LongWalks {
 impl LongWalks {
     /// The texts that are ordinary, with a name each; the one of longer tokens comes first.
     pub fn ordinary_texts(&self) -> Vec<(&'static str, Text)> {
-        let short_tokens = self.short_tokens;
-        let short_tokens = short_tokens.map(|text| ("ordinary, one byte a token", text));
-        let ordinary = ("ordinary", self.ordinary);
-        [ordinary].into_iter().chain(short_tokens).collect()
+        vec![
+            ("ordinary", self.ordinary),
+            ("ordinary, one byte a token", self.short_tokens),
+        ]
     }
 }
 
@@ -130,7 +130,7 @@ pub fn a_star_b() -> LongWalks {
         name: "`a`, `a*b`",
         sheet: sheet([byte(b'a'), byte(b'a').star().then(byte(b'b'))], &[]),
         ordinary,
-        short_tokens: Some(|length| repeated(length, b"b")),
+        short_tokens: |length| repeated(length, b"b"),
         in_vain: vec![
             ("`a` alone", only_a),
             ("`aaab`, later `a` alone", |length| {
@@ -157,7 +157,7 @@ pub fn a_star_b_and_c() -> LongWalks {
             &[],
         ),
         ordinary,
-        short_tokens: Some(|length| repeated(length, b"bc")),
+        short_tokens: |length| repeated(length, b"bc"),
         in_vain: vec![
             ("hundreds of `a`, then `c` or `b` in turn", |length| {
                 fill(length, |varied| {
@@ -205,7 +205,7 @@ pub fn comments() -> LongWalks {
             &[byte(b' ').or(byte(b'\n')), comment()],
         ),
         ordinary: commented_lines,
-        short_tokens: Some(|length| fill(length, sign)),
+        short_tokens: |length| fill(length, sign),
         in_vain: vec![
             ("`/* ` again and again", opened),
             ("`/* x + y; ` again and again", |length| {
@@ -261,7 +261,7 @@ pub fn sixty_of_two_letters() -> LongWalks {
         name: "`a`, `b`, `[ab]*c` of 59 positions",
         sheet: sheet([byte(b'a'), byte(b'b'), letters_then_c(58)], &[]),
         ordinary: sevens_and_c,
-        short_tokens: Some(|length| repeated(length, b"c")),
+        short_tokens: |length| repeated(length, b"c"),
         in_vain: vec![("`a` or `b`", |length| {
             fill(length, |varied| varied.letters(64, b"ab"))
         })],
@@ -276,7 +276,7 @@ fn closed_or_not() -> LongWalks {
         name: "`a`, `b`, `z`, `[ab]*c` of 58 positions",
         sheet: sheet(signs.into_iter().chain([letters_then_c(57)]), &[]),
         ordinary: sevens_and_c,
-        short_tokens: Some(|length| repeated(length, b"c")),
+        short_tokens: |length| repeated(length, b"c"),
         in_vain: vec![
             ("3,000 letters and `z`, then ordinary", |length| {
                 with_front(letters_and_z(), length, sevens_and_c)
@@ -292,22 +292,24 @@ fn closed_or_not() -> LongWalks {
     }
 }
 
-/// A walk goes on for 59 bytes at most, one position after the other.
+/// A walk goes on for 59 bytes at most, one position after the other. `c` is there for short tokens that begin no walk
+/// in vain.
 fn sixty_in_a_row() -> LongWalks {
     fn run(more: usize) -> Vec<u8> {
         [vec![b'a'; 59 + more], vec![b'b']].concat()
     }
     LongWalks {
-        name: "`a`, 59 times `a` then `b`",
+        name: "`a`, 59 times `a` then `b`, `c`",
         sheet: sheet(
             [
                 byte(b'a'),
                 Regex::sequence((0..59).map(|_| byte(b'a')).chain([byte(b'b')])),
+                byte(b'c'),
             ],
             &[],
         ),
         ordinary: |length| repeated(length, &run(0)),
-        short_tokens: None,
+        short_tokens: |length| repeated(length, b"c"),
         in_vain: vec![
             ("`a` alone", |length| repeated(length, b"a")),
             ("`a`, now and then `b`", |length| {
@@ -327,7 +329,7 @@ fn sixty_optional() -> LongWalks {
             &[],
         ),
         ordinary: |length| repeated(length, b"aaaaaaab"),
-        short_tokens: Some(|length| repeated(length, b"b")),
+        short_tokens: |length| repeated(length, b"b"),
         in_vain: vec![
             ("`a` alone", |length| repeated(length, b"a")),
             ("`a`, now and then `b`", |length| {
@@ -371,7 +373,7 @@ pub fn many_rows() -> LongWalks {
         name: "`a`, `b`, `[ab]*a[ab]..c`",
         sheet: sheet(signs.into_iter().chain(others), &[]),
         ordinary,
-        short_tokens: Some(|length| repeated(length, b"z")),
+        short_tokens: |length| repeated(length, b"z"),
         in_vain: vec![
             ("`a` or `b`", |length| {
                 fill(length, |varied| varied.letters(64, b"ab"))

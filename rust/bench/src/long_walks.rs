@@ -88,7 +88,7 @@ fn mebibyte_rows(own: &LongWalks, sheet_d: &Grammar, buffers: &mut Buffers) {
 }
 
 /// For each text its time, and that divided by the times of sheet D's text, of the ordinary text, and of the one whose
-/// tokens have one byte, which is left out if there is none. The ordinary texts come first.
+/// tokens have one byte. The ordinary texts come first.
 fn mebibyte_columns(
     own: &LongWalks,
     texts: &[Vec<u8>],
@@ -104,16 +104,14 @@ fn mebibyte_columns(
         cases.push(case);
     }
     let times = times(&cases, buffers);
-    let short_tokens = own.short_tokens.map(|_| times[2]);
     let columns = times[1..].iter().map(|&time| {
         let figures = [
             milliseconds(time),
             ratio(time, times[0]),
             ratio(time, times[1]),
+            ratio(time, times[2]),
         ];
-        let mut shown_figures = figures.map(shown).to_vec();
-        shown_figures.push(short_tokens.map_or(String::new(), |other| shown(ratio(time, other))));
-        shown_figures.join(" | ")
+        figures.map(shown).join(" | ")
     });
     columns.collect()
 }

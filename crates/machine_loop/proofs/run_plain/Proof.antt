@@ -11,7 +11,7 @@ use Rattle.image.specs.Image.{Image}
 use Rattle.image_reader.specs.Decoded.{ImageTables, tables-of}
 use Rattle.machine.specs.Trace.{Ended}
 use Rattle.machine.specs.Run.{trace}
-use Rattle.machine.specs.Work.{budget, none-yet}
+use Rattle.machine.specs.Work.{budget}
 use Rattle.machine.specs.laws.RunLaws.{trace-some-entry}
 use Rattle.machine_turn.specs.Steps.{answer-held}
 use Rattle.machine_turn.specs.laws.StackLaws.{ready-entries}
@@ -26,7 +26,7 @@ use Rattle.machine_loop.specs.Prepared.{WithTables}
 use Rattle.machine_loop.specs.Turning.{ChargedAt, Charged, TurnsLead, AgainLead}
 use Rattle.machine_loop.proofs.TurningLaws.{charged-at}
 use Rattle.machine_loop.proofs.Ending.{run-no-entry}
-use Rattle.machine_loop.proofs.Charging.{PlainTo, end-place, charged-first, walk-inside, charge-is}
+use Rattle.machine_loop.proofs.Charging.{PlainTo, end-place, none-at-end, charged-first, walk-inside, charge-is}
 use Rattle.machine_loop.proofs.run_plain.Statement.{statement}
 use Rattle.machine_loop.proofs.run_plain.Tie as tie
 
@@ -114,8 +114,7 @@ returns c =
     let start = c .before .before .before .before .before .before .before in
     λ i w. (
       ap answer-held (c .answer .ensures) ∙ run-no-entry i _ (now (start .args .text)) (c .before .if1 .taken),
-      subst (λ (r : RunAnswer). ChargedAt i (now (start .args .text)) (r .place) (budget (now (start .args .text)))) (sym (c .answer .ensures))
-          (0, 0, 0, none-yet, omega arith),
+      λ h. absurd (omega (arith, h, c .before .if1 .taken)),
     )
 
 first-state-requires : tie.Need-first-state-requires Inv-loop μ-loop
@@ -167,7 +166,7 @@ returns-2 c =
     λ i w.
     let x = subst (Led turns i) (c .before .turned .given .1) (led turns i w) in
     let y = x .1 _ (head-of turns .loop .inv .1 i w .charged) in
-    (x .0, (y .0, y .1, y .2, y .3, omega (arith, y .4)))
+    (x .0, λ h. (y .0, y .1, y .2, y .3, omega (arith, y .4)))
 
 enum-known-turned-2 : tie.Need-enum-known-turned-2 Inv-loop μ-loop
 enum-known-turned-2 c = search needs
@@ -195,10 +194,11 @@ returns-3 c =
     λ i w.
     let x = reached-here turns at (c .before .before .before .turned2 .given .1) i w in
     let l = head-of turns .loop in
-    let y = charged-at i (now (a .text)) [] (at .place) (budget (now (a .text)) - l .left) (drop (x .2 .0) []) (x .2 .2 _ (l .inv .1 i w .charged)) in (
+    let y = charged-at i (now (a .text)) [] (at .place) (budget (now (a .text)) - l .left) (drop (x .2 .0) [])
+    (λ e. none-at-end i (now (a .text)) (at .place) (x .1)) (x .2 .2 _ (l .inv .1 i w .charged)) in (
       ap answer-held (c .at-end .ensures)
           ∙ going-ends i (now (a .image)) (tables-here s) (w .decoded) (now (a .text)) _ _ (whole s i) (x .0) (x .1),
-      subst (λ (q : ℕ). ChargedAt i (now (a .text)) q (budget (now (a .text))))
+      λ h. subst (λ (q : ℕ). ChargedAt i (now (a .text)) q (budget (now (a .text))))
           (sym (ap (λ (r : RunAnswer). r .place) (c .at-end .ensures) ∙ end-place _ _ (at .place) (at .count)))
           (y .0, y .1, y .2, y .3, omega (arith, y .4)),
     )
@@ -287,7 +287,7 @@ returns-5 c =
     λ i w.
     let x = subst (Again again i) (c .before .again .given .1) (again-here again i w) in
     let y = x .1 _ (charged-here again i w) in
-    (x .0, (y .0, y .1, y .2, y .3, omega (arith, y .4, l .inv .1 i w .within, again .before .before .if2 .left)))
+    (x .0, λ h. (y .0, y .1, y .2, y .3, omega (arith, y .4, l .inv .1 i w .within, again .before .before .if2 .left)))
 
 enum-known-again-2 : tie.Need-enum-known-again-2 Inv-loop μ-loop
 enum-known-again-2 c = search needs

@@ -209,7 +209,8 @@ returns-2 c =
       going-done i (now (a .image)) t (w .decoded) (now (a .text)) (l .stack) (l .state) whole (old .going) (more-here look)
           found (seen-here look i whole to held .longest (quiet turn)) (fits-here look (quiet turn) i whole to held) done e,
       λ v x. subst (λ (q : ℕ). ChargedAt i (now (a .text)) q v) (sym p)
-          (charged-at i (now (a .text)) (now (a .matches)) (l .state .place) v (drop (l .turn) (now (a .matches))) (old .charged v x)),
+          (charged-at i (now (a .text)) (now (a .matches)) (l .state .place) v (drop (l .turn) (now (a .matches)))
+          (seen-here look i whole to held .not-in-vain (quiet turn)) (old .charged v x)),
     )
 
 enum-known-after-2 : tie.Need-enum-known-after-2 Inv-loop μ-loop

@@ -110,7 +110,7 @@ word-of-requires c κs =
     ))
 
 add-stop : tie.Need-add-stop
-add-stop c = search needs
+add-stop c = let s = start-of (c .before .before) in omega (arith, inside s, s .pre .0, s .pre .1)
 
 slice-aggregate-run-turns : tie.Need-slice-aggregate-run-turns
 slice-aggregate-run-turns c = search needs
@@ -121,7 +121,7 @@ run-turns-requires c κs =
     let s = start-of (word .before .before) in
     let w = s .pre .3 in
     let held : Held s (w .0) (w .1) = (w .2, w .3, w .4) in
-    (omega (arith, s .pre .1), λ e. absurd (not-rows e), (w .0, w .1, s .args .state .place + 1, without-rows (w .2), w .3, ahead-here word (w .0) (w .1) held))
+    (omega (arith, inside s, s .pre .1), λ e. absurd (not-rows e), (w .0, w .1, s .args .state .place + 1, without-rows (w .2), w .3, ahead-here word (w .0) (w .1) held))
 
 turn-left-requires : tie.Need-turn-left-requires
 turn-left-requires c κs = search needs
