@@ -11,10 +11,13 @@ use Rattle.basics.specs.laws.Order.{lt-or-le}
 use Rattle.lexer.specs.Match.{matched}
 use Rattle.lexer.specs.Alive.{walk-bytes, vain-bytes, cut-bytes}
 use Rattle.image.specs.Image.{Image}
-use Rattle.machine.specs.Trace.{match-at}
+use Rattle.machine.specs.Trace.{match-at, Ended}
 use Rattle.machine.specs.Work.{charge, TurnsTo, one-more}
 use Rattle.alive_scanner.specs.Ahead.{Ahead}
-use Rattle.machine_loop.specs.Turning.{ChargedAt, Charged}
+use Rattle.image_reader.specs.Decoded.{ImageTables}
+use Rattle.machine_loop.specs.declared.Turns.{Turns}
+use Rattle.machine_loop.specs.declared.Turns.the-variants.{Done, Reached, InVain}
+use Rattle.machine_loop.specs.Turning.{ChargedAt, Charged, TurnsLead, NotInVain}
 
 module _ (i : Image) (text matches : List ℕ) where
   -- The words left after one more turn: the tail, and none where there is none.
@@ -60,3 +63,10 @@ module _ (i : Image) (text matches : List ℕ) where
   unfolding charge
   charged-at p v [] z c = (c .0, v, c .1, c .2, omega (arith, z refl))
   charged-at p v (word ∷ words) z c = c .0
+
+-- Matches found ahead that lead to where the turns end leave no walk to be made, so that none is in vain.
+pub no-walk : (i : Image) (bytes : List ℕ) (t : ImageTables) (text : List ℕ) (place : ℕ) (matches : List ℕ) (stop : ℕ) (whole : Ended) (stack : List ℕ)
+    (turned : Turns) → TurnsLead i bytes t text place matches stop stop whole stack turned → NotInVain turned
+no-walk i bytes t text place matches stop whole stack (Done a) l = tt
+no-walk i bytes t text place matches stop whole stack (Reached s) l = tt
+no-walk i bytes t text place matches stop whole stack (InVain s n) l = absurd (omega (arith, l .1, l .2))

@@ -48,8 +48,9 @@ Charged i text p (word ∷ words) v =
     × ((rule n : ℕ) → match-at i text p ≡ matched rule n → Charged i text (p + n) words v)
 
 -- What the turns from a place leave, by these matches found ahead, which lead to place `to`: the answer of the whole run; a state from which its
--- turns go on, once a place is reached; or one before that place where a walk went over so many bytes in vain, all matches being used. What was
--- charged before them is charged up to there, and no more.
+-- turns go on, once a place is reached, after so many turns, which are none only if the place is still the first; or a state before that place
+-- where a walk went over so many bytes in vain, all matches being used. What was charged for the first place is charged for the last, with the
+-- matches that are left.
 abbrev pub TurnsLead : Image → List ℕ → ImageTables → List ℕ → ℕ → List ℕ → ℕ → ℕ → Ended → List ℕ → Turns → Type 0
 TurnsLead i bytes t text place matches to stop whole stack (Done a) =
     (answer-held a ≡ answer-of whole) × ((v : ℕ) → Charged i text place matches v → ChargedAt i text (a .place) v)
@@ -61,7 +62,13 @@ TurnsLead i bytes t text place matches to stop whole stack (InVain s n) =
     × (n ≡ vain-bytes (i .positions) (i .first) (drop (s .place) text))
     × ((v : ℕ) → Charged i text place matches v → Charged i text (s .place) [] v)
 
--- What is gone on from after turns by matches found ahead. These lead to the place where the turns end, so that the last case does not come.
+-- No walk was in vain.
+abbrev pub NotInVain : Turns → Type 0
+NotInVain (Done a) = Unit
+NotInVain (Reached s) = Unit
+NotInVain (InVain s n) = ⊥
+
+-- What is gone on from after turns in which no walk was in vain.
 abbrev pub turn-left : Turns → Turn
 turn-left (Done a) = turn.Done a
 turn-left (Reached s) = turn.Next s
@@ -87,7 +94,7 @@ abbrev pub AgainLead : Image → List ℕ → ImageTables → List ℕ → ℕ �
 AgainLead i bytes t text place more whole stack (turn.Done a) =
     (answer-held a ≡ answer-of whole) × ((v : ℕ) → Charged i text place [] v → ChargedAt i text (a .place) (v + more))
 AgainLead i bytes t text place more whole stack (turn.Next s) =
-    Going i bytes t text stack s whole × ((v : ℕ) → Charged i text place [] v → Charged i text (s .place) [] (v + more))
+    Going i bytes t text stack s whole × (place < s .place) × ((v : ℕ) → Charged i text place [] v → Charged i text (s .place) [] (v + more))
 
 -- What turns from a place by matches found ahead leave: the answer of the whole run; or a state at a later place, from which its turns go on,
 -- with the block that ends before `end`.

@@ -19,7 +19,7 @@ ghost use Rattle.machine_turn.specs.laws.Going.{Going};
 ghost use Rattle.alive_scanner.specs.Ahead.{word-match, Ahead};
 ghost use Rattle.alive_scanner.specs.Blocks.{AliveHeld};
 ghost use Rattle.machine_loop.specs.Prepared.{WithTables};
-ghost use Rattle.machine_loop.specs.Turning.{SeenBy, SeenAt, TurnsLead, turn-left, WordFits, PlainLead, AgainLead, AheadLead};
+ghost use Rattle.machine_loop.specs.Turning.{SeenBy, SeenAt, TurnsLead, NotInVain, turn-left, WordFits, PlainLead, AgainLead, AheadLead};
 use image_reader::ImageRead;
 use machine_turn::RunAnswer;
 use machine_turn::State;
@@ -114,8 +114,8 @@ fn walk<'a>(
     scanner::walk_once(text, tables, read.last, read.first)
 }
 
-// What is seen at a place in a turn: the match that was found ahead for it, or what one walk tells. A turn by rows has no match found ahead,
-// and so is not asked for one.
+// What is seen at a place in a turn: the match that was found ahead for it, or what one walk tells. Turns by rows have no matches found ahead:
+// the list is not looked at.
 fn look<'a>(
     text: &'a [u8],
     place: usize,
@@ -244,8 +244,9 @@ fn word_of(found: Found) -> u64
     }
 }
 
-// What is gone on from after turns by matches found ahead. No walk is in vain there, so the last case does not come.
+// What is gone on from after turns by matches found ahead. No walk may be in vain there, so the last case does not come.
 fn turn_left(turned: Turns) -> Turn
+    requires { ⌜ NotInVain turned ⌝ }
     ensures { λ r. ⌜ r ≡ turn-left turned ⌝ }
 {
     match turned {
@@ -455,7 +456,7 @@ fn turns_ahead<'a>(
     }
 }
 
-// The turns from a state on, with alive positions, given what leads to each set of positions and those alive after each block.
+// The turns from a state on, with alive positions, given what leads to each set of positions and follows it, and those alive after each block.
 fn run_ahead<'a>(
     image: &[u8],
     read: ImageRead,
@@ -515,7 +516,7 @@ fn run_ahead<'a>(
     machine_turn::at_end(read.empty, stack, state)
 }
 
-// The turns from a state on, with alive positions: each byte is walked once. Their memory is local, 40 KiB.
+// The turns from a state on, with alive positions: each byte is walked once. Their memory is local, 60 KiB.
 fn run_rest<'a>(
     image: &[u8],
     read: ImageRead,

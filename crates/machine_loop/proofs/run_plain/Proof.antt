@@ -312,7 +312,7 @@ loop-again c =
           record {
             going = x .0;
             within = omega (arith, p .within);
-            charged = subst (Charged i text (c .before .again2 .given .0 .0 .place) []) e (x .1 _ (charged-here again i w));
+            charged = subst (Charged i text (c .before .again2 .given .0 .0 .place) []) e (x .2 _ (charged-here again i w));
           },
     )
 

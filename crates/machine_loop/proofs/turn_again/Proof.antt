@@ -1,14 +1,11 @@
 -- `turn_again` meets its contract: the match of the walk that is made again is the one match found ahead, and the turn by it leads past its place.
 use borrow.Author.Needs.{needs}
-use mathlib.Core.Path.{_≡_, refl, sym, ap, subst, _∙_}
-use mathlib.Core.Bool.{true, false}
+use mathlib.Core.Path.{_≡_, refl, sym, subst, _∙_}
 use mathlib.Core.List.{List, [], _∷_}
-use mathlib.Core.Logic.{⊎-elim}
-use Prim.Native.Nat.{ℕ, zero, suc, _+_, _-_, _≤_, _<_}
+use Prim.Native.Nat.{ℕ, zero, suc, _+_, _-_, _≤_}
 use native.Mathlib.Omega.{arith}
-use lib.ListN.{length, take, drop, length-take, length-drop}
+use lib.ListN.{length, drop, length-take, length-drop}
 use denote.Ref.{now}
-use Rattle.lexer.specs.Match.{matched}
 use Rattle.lexer.specs.laws.LongestMatchLaws.{match-within}
 use Rattle.lexer.specs.Alive.{vain-bytes}
 use Rattle.image.specs.Image.{Image}
@@ -16,13 +13,13 @@ use Rattle.image_reader.specs.Decoded.{ImageTables, tables-of}
 use Rattle.scanner.specs.Meaning.{match-of}
 use Rattle.machine.specs.Trace.{Ended, match-at}
 use Rattle.machine_turn.specs.laws.Going.{Going}
-use Rattle.machine_turn.specs.declared.Turn.{Turn}
-use Rattle.alive_scanner.specs.Ahead.{word-match, Ahead}
+use Rattle.alive_scanner.specs.Ahead.{Ahead}
 use Rattle.machine_loop.specs.declared.Turns.{Turns}
 use Rattle.machine_loop.specs.declared.Turns.the-variants.{Done, Reached, InVain}
 use Rattle.machine_loop.specs.Prepared.{WithTables}
 use Rattle.machine_loop.specs.Turning.{Charged, TurnsLead, turn-left, AgainLead}
 use Rattle.machine_loop.proofs.ByRows.{not-rows, without-rows}
+use Rattle.machine_loop.proofs.TurningLaws.{no-walk}
 use Rattle.machine_loop.proofs.Charging.{word-fits, walk-inside, match-again, charged-again}
 use Rattle.machine_loop.proofs.turn_again.Statement.{statement}
 use Rattle.machine_loop.proofs.turn_again.Tie as tie
@@ -33,13 +30,14 @@ gone-on : (i : Image) (bytes : List ℕ) (t : ImageTables) (text : List ℕ) (pl
     → TurnsLead i bytes t text place (word ∷ []) (place + 1) (place + 1) whole stack turned
     → AgainLead i bytes t text place more whole stack (turn-left turned)
 gone-on i bytes t text place word more whole stack charged (Done a) l = (l .0, λ v x. l .1 _ (charged v x))
-gone-on i bytes t text place word more whole stack charged (Reached s) l = (l .0, λ v x. used (l .2 .0) (l .2 .1) (v + more) (l .2 .2 _ (charged v x)))
+gone-on i bytes t text place word more whole stack charged (Reached s) l = (l .0, omega (arith, l .1), λ v x. used (l .2 .0) (l .2 .1) (v + more) (l .2 .2 _ (charged v x)))
   where
     used : (turns : ℕ) → (turns ≡ 0 → s .place ≡ place) → (v : ℕ) → Charged i text (s .place) (drop turns (word ∷ [])) v → Charged i text (s .place) [] v
     used zero h v x = absurd (omega (arith, h refl, l .1))
     used (suc zero) h v x = x
     used (suc (suc k)) h v x = x
-gone-on i bytes t text place word more whole stack charged (InVain s n) l = absurd (omega (arith, l .1, l .2))
+gone-on i bytes t text place word more whole stack charged (InVain s n) l =
+    absurd (no-walk i bytes t text place (word ∷ []) (place + 1) whole stack (InVain s n) l)
 
 -- The start, from where the walk is made again, and from there on.
 abbrev start-of : tie.After-scan-arg → tie.Start
@@ -80,6 +78,18 @@ ahead-here c i whole w =
     let a = start-of (c .before .before) .args in
     let e = c .word-of .ensures ∙ match-here (c .before) i whole w in
     (e, λ rule n m. omega (arith, match-within (i .positions) (i .first) (drop (a .state .place) (now (a .text))) rule n m .0))
+
+-- What the turn leaves.
+led : (c : tie.After-run-turns) (i : Image) (whole : Ended)
+    → let word = c .before .before .before in
+    let s = start-of (word .before .before) in
+    let a = s .args in
+    Held s i whole
+    → TurnsLead i (now (a .image)) (tables-here s) (now (a .text)) (a .state .place) (word .word-of .result ∷ []) (a .state .place + 1) (a .state .place + 1)
+    whole (c .run-turns .last .1 .1 .1 .1 .1 .1 .1 .1 .1 .0) (c .run-turns .result)
+led c i whole w =
+    let word = c .before .before .before in
+    c .run-turns .ensures i whole _ (without-rows (w .0)) (w .1) (ahead-here word i whole w)
 
 add-scan : tie.Need-add-scan
 add-scan c = let s = c .before .before .before .before .before in omega (arith, inside s, s .pre .0)
@@ -124,7 +134,12 @@ run-turns-requires c κs =
     (omega (arith, inside s, s .pre .1), λ e. absurd (not-rows e), (w .0, w .1, s .args .state .place + 1, without-rows (w .2), w .3, ahead-here word (w .0) (w .1) held))
 
 turn-left-requires : tie.Need-turn-left-requires
-turn-left-requires c κs = search needs
+turn-left-requires c κs =
+    let turns = c .before .before in
+    let word = turns .before .before .before in
+    let s = start-of (word .before .before) in
+    let w = s .pre .3 in
+    no-walk (w .0) _ _ _ _ _ (s .args .state .place + 1) (w .1) _ (turns .run-turns .result) (led turns (w .0) (w .1) (w .2, w .3, w .4))
 
 same-length : tie.Need-same-length
 same-length c = search needs
@@ -137,12 +152,12 @@ returns c =
     let a = s .args in
     λ i whole w g e.
     let held : Held s i whole = (w, g, e) in
-    let m = c .before .before .before .before .before .before .word-of .ensures ∙ match-here (word .before) i whole held in
+    let m = word .word-of .ensures ∙ match-here (word .before) i whole held in
     subst (AgainLead i (now (a .image)) (tables-here s) (now (a .text)) (a .state .place) (a .n + a .n) whole (turns .run-turns .last .1 .1 .1 .1 .1 .1 .1 .1 .1 .0))
     (sym (c .turn-left .ensures))
     (gone-on i (now (a .image)) (tables-here s) (now (a .text)) (a .state .place) (word .word-of .result) (a .n + a .n) whole _
     (λ v x. charged-again i (now (a .text)) (a .state .place) (a .n) (s .pre .2) e (word .word-of .result) v (s .pre .1) m x) (turns .run-turns .result)
-    (turns .run-turns .ensures i whole (a .state .place + 1) (without-rows w) g (ahead-here word i whole held)))
+    (led turns i whole held))
 
 pub turn-again-spec : {M : Type 1} → statement M
 turn-again-spec =

@@ -18,6 +18,7 @@ use Rattle.machine_loop.specs.Turning.{TurnsLead, turn-left, AheadLead}
 use Rattle.machine_loop.specs.declared.Turns.{Turns}
 use Rattle.machine_loop.specs.declared.Turns.the-variants.{Done, Reached, InVain}
 use Rattle.machine_loop.proofs.ByRows.{not-rows, without-rows}
+use Rattle.machine_loop.proofs.TurningLaws.{no-walk}
 use Rattle.machine_loop.proofs.turns_ahead.Statement.{statement}
 use Rattle.machine_loop.proofs.turns_ahead.Tie as tie
 
@@ -27,7 +28,8 @@ gone-on : (i : Image) (bytes : List ℕ) (t : ImageTables) (text : List ℕ) (pl
     → TurnsLead i bytes t text place words stop stop whole stack turned → AheadLead i bytes t text place whole stack block end (turn-left turned)
 gone-on i bytes t text place words stop whole stack block end ps es h (Done a) l = l .0
 gone-on i bytes t text place words stop whole stack block end ps es h (Reached s) l = (l .0, omega (arith, ps, l .1), omega (arith, es, l .1), h)
-gone-on i bytes t text place words stop whole stack block end ps es h (InVain s n) l = absurd (omega (arith, l .1, l .2))
+gone-on i bytes t text place words stop whole stack block end ps es h (InVain s n) l =
+    absurd (no-walk i bytes t text place words stop whole stack (InVain s n) l)
 
 -- The start, from the matches found ahead, and these, from what the turns leave.
 abbrev start-of : tie.After-find-ahead → tie.Start
@@ -72,6 +74,16 @@ count-here c =
     length-take-le (c .find-ahead .result .count) (c .find-ahead .last .1 .1 .1 .1 .1 .1 .1 .1 .1 .0)
     (omega (arith, c .find-ahead .ensures .0, c .find-ahead .ensures .5))
 
+-- What the turns leave.
+led : (c : tie.After-run-turns) (i : Image) (whole : Ended) (k : ℕ)
+    → let found = turns-found c in
+    let s = start-of found in
+    let a = s .args in
+    Held s i whole k
+    → TurnsLead i (now (a .image)) (tables-here s) (now (a .text)) (a .state .place) (words-here found) (found .find-ahead .result .stop)
+    (found .find-ahead .result .stop) whole (c .run-turns .last .1 .1 .1 .1 .1 .1 .1 .1 .1 .0) (c .run-turns .result)
+led c i whole k w = c .run-turns .ensures i whole _ (without-rows (w .0)) (w .1) (ahead-here (turns-found c) i whole k w .0)
+
 find-ahead-requires : tie.Need-find-ahead-requires
 find-ahead-requires c κs = search needs
 
@@ -88,7 +100,11 @@ run-turns-requires c κs =
     )
 
 turn-left-requires : tie.Need-turn-left-requires
-turn-left-requires c κs = search needs
+turn-left-requires c κs =
+    let turns = c .before .before in
+    let found = turns-found turns in
+    let w = start-of found .pre .5 in
+    no-walk (w .0) _ _ _ _ _ (found .find-ahead .result .stop) (w .1) _ (turns .run-turns .result) (led turns (w .0) (w .1) (w .2) (w .3, w .4, w .5))
 
 same-length : tie.Need-same-length
 same-length c = search needs
@@ -110,7 +126,7 @@ returns c =
           (sym (c .turn-left .ensures))
           (gone-on i _ _ _ _ _ (found .find-ahead .result .stop) whole _ (block-left found) (found .find-ahead .result .end)
           (found .find-ahead .ensures .2 more) (found .find-ahead .ensures .3) (ahead .1) (turns .run-turns .result)
-          (turns .run-turns .ensures i whole _ (without-rows w) g (ahead .0))),
+          (led turns i whole k (w, g, h))),
     )
 
 pub turns-ahead-spec : {M : Type 1} → statement M
