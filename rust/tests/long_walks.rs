@@ -232,15 +232,19 @@ fn sheets_with_names_around_block_ends() {
     }
 }
 
-/// The texts in vain are so: the switch is made in each of them, and in none that is ordinary.
+/// The texts in vain are so: the switch is made in each of them, and in none that is ordinary. Where each token has one
+/// byte, no walk is in vain at all: else the times of that text would not tell what such walks cost.
 #[test]
 fn texts_with_names_are_walked_in_vain() {
     for own in long_walk_sheets::all() {
         let image = image_of_named(&own);
-        let made = |text: Text| switch(&turns(&image, &text(2_048)), 2_048).is_some();
+        let turns = |text: Text| turns(&image, &text(2_048));
+        let made = |text: Text| switch(&turns(text), 2_048).is_some();
         for (name, text) in own.ordinary_texts() {
             assert!(!made(text), "{}: {name}", own.name);
         }
+        let short = |turn: &Turn| turn.length == 1 && !turn.is_in_vain();
+        assert!(turns(own.short_tokens).iter().all(short), "{}", own.name);
         for (name, text) in own.in_vain {
             assert!(made(text), "{}: {name}", own.name);
         }

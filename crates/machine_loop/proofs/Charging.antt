@@ -24,12 +24,6 @@ use Rattle.machine_turn.specs.declared.State.{State}
 use Rattle.alive_scanner.specs.Ahead.{word-match}
 use Rattle.machine_loop.specs.Turning.{Charged, WordFits}
 
--- What holds of a state, where so much of the budget is left.
-pub record PlainTo (i : Image) (bytes : List ℕ) (t : ImageTables) (text stack : List ℕ) (state : State) (left : ℕ) (whole : Ended) : Type 0 where
-  pub going : Going i bytes t text stack state whole
-  pub within : left ≤ budget text
-  pub charged : Charged i text (state .place) [] (budget text - left)
-
 -- The text's end is named by its place.
 pub end-place : (empty : ℕ) (l : List ℕ) (p count : ℕ) → end-answer empty l p count .place ≡ p
 unfolding end-answer

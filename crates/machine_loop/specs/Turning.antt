@@ -2,7 +2,7 @@
 -- walks in vain. What a turn does is said by machine_turn, what walks cost by machine's Work.
 use mathlib.Core.Path.{_≡_}
 use mathlib.Core.List.{List, [], _∷_}
-use Prim.Native.Nat.{ℕ, _+_, _≤_, _<_}
+use Prim.Native.Nat.{ℕ, _+_, _-_, _≤_, _<_}
 use lib.ListN.{length, drop}
 use Rattle.lexer.specs.Match.{matched}
 use Rattle.lexer.specs.Alive.{Told, ends-with, in-vain, vain-bytes}
@@ -79,22 +79,38 @@ abbrev pub WordFits : Found → Type 0
 WordFits found.Nothing = Unit
 WordFits (found.Rule rule n) = (1 ≤ n) × (n ≤ 1048576)
 
+-- The turns up to a place are within the budget, and the walk there breaks it.
+abbrev pub Broken : Image → List ℕ → ℕ → Type 0
+Broken i text p =
+    (walked charged cut : ℕ) × TurnsTo (i .positions) (i .first) text p walked charged cut
+    × (charged ≤ budget text) × (budget text < charged + charge (i .positions) (i .first) (drop p text))
+
 -- What is left once the turns are over, or once their walks in vain cost more than the budget allows: the answer of the whole run, within the
 -- budget with its last walk, unless the stack has no entry and no walk is made; or a state from which its turns go on, where the next walk
 -- breaks it.
 abbrev pub PlainLead : Image → List ℕ → ImageTables → List ℕ → Ended → List ℕ → Turn → Type 0
 PlainLead i bytes t text whole stack (turn.Done a) = (answer-held a ≡ answer-of whole) × (1 ≤ length stack → ChargedAt i text (a .place) (budget text))
-PlainLead i bytes t text whole stack (turn.Next s) =
-    Going i bytes t text stack s whole
-    × ((walked charged cut : ℕ) × TurnsTo (i .positions) (i .first) text (s .place) walked charged cut
-    × (charged ≤ budget text) × (budget text < charged + charge (i .positions) (i .first) (drop (s .place) text)))
+PlainLead i bytes t text whole stack (turn.Next s) = Going i bytes t text stack s whole × Broken i text (s .place)
 
 -- What the turn at a place leaves, after a walk in vain that was charged so much: the answer of the whole run; or a state at a later place.
-abbrev pub AgainLead : Image → List ℕ → ImageTables → List ℕ → ℕ → ℕ → Ended → List ℕ → Turn → Type 0
-AgainLead i bytes t text place more whole stack (turn.Done a) =
+abbrev pub AgainLead : Image → List ℕ → ImageTables → List ℕ → ℕ → ℕ → Ended → List ℕ → Turns → Type 0
+AgainLead i bytes t text place more whole stack (Done a) =
     (answer-held a ≡ answer-of whole) × ((v : ℕ) → Charged i text place [] v → ChargedAt i text (a .place) (v + more))
-AgainLead i bytes t text place more whole stack (turn.Next s) =
+AgainLead i bytes t text place more whole stack (Reached s) =
     Going i bytes t text stack s whole × (place < s .place) × ((v : ℕ) → Charged i text place [] v → Charged i text (s .place) [] (v + more))
+AgainLead i bytes t text place more whole stack (InVain s n) = ⊥
+
+-- So much of the budget is left at a place: what was not charged.
+abbrev pub LeftAt : Image → List ℕ → ℕ → ℕ → Type 0
+LeftAt i text p left = (left ≤ budget text) × Charged i text p [] (budget text - left)
+
+-- What turns by walks leave from a place on, up to the first turn whose walk is made again: the answer of the whole run, within the budget; a
+-- state at a later place or at the text's end, with so much of the budget left; or a state where the next walk breaks the budget.
+abbrev pub RoundLead : Image → List ℕ → ImageTables → List ℕ → ℕ → Ended → List ℕ → ℕ → Turns → Type 0
+RoundLead i bytes t text place whole stack left (Done a) = (answer-held a ≡ answer-of whole) × ChargedAt i text (a .place) (budget text)
+RoundLead i bytes t text place whole stack left (Reached s) =
+    Going i bytes t text stack s whole × (s .place < length text → place < s .place) × LeftAt i text (s .place) left
+RoundLead i bytes t text place whole stack left (InVain s n) = Going i bytes t text stack s whole × Broken i text (s .place)
 
 -- What turns from a place by matches found ahead leave: the answer of the whole run; or a state at a later place, from which its turns go on,
 -- with the block that ends before `end`.

@@ -19,7 +19,7 @@ ghost use Rattle.machine_turn.specs.laws.Going.{Going};
 ghost use Rattle.alive_scanner.specs.Ahead.{word-match, Ahead};
 ghost use Rattle.alive_scanner.specs.Blocks.{AliveHeld};
 ghost use Rattle.machine_loop.specs.Prepared.{WithTables};
-ghost use Rattle.machine_loop.specs.Turning.{SeenBy, SeenAt, TurnsLead, NotInVain, turn-left, WordFits, PlainLead, AgainLead, AheadLead};
+ghost use Rattle.machine_loop.specs.Turning.{SeenBy, SeenAt, TurnsLead, NotInVain, turn-left, WordFits, AgainLead, LeftAt, RoundLead, PlainLead, AheadLead};
 use image_reader::ImageRead;
 use machine_turn::RunAnswer;
 use machine_turn::State;
@@ -41,6 +41,12 @@ enum Turns {
     Done(RunAnswer),
     Reached(State),
     InVain(State, usize),
+}
+
+// What turns by walks leave, and how much of the budget is left.
+struct Round {
+    turned: Turns,
+    left: usize,
 }
 
 // What turns by matches found ahead leave: the answer, or a state, and where the block that is held ends.
@@ -244,18 +250,6 @@ fn word_of(found: Found) -> u64
     }
 }
 
-// What is gone on from after turns by matches found ahead. No walk may be in vain there, so the last case does not come.
-fn turn_left(turned: Turns) -> Turn
-    requires { ⌜ NotInVain turned ⌝ }
-    ensures { λ r. ⌜ r ≡ turn-left turned ⌝ }
-{
-    match turned {
-        Turns::Done(done) => return Turn::Done(done),
-        Turns::Reached(s) => return Turn::Next(s),
-        Turns::InVain(s, n) => return Turn::Next(s),
-    }
-}
-
 // The turn at a state where a walk went over so many bytes in vain. The walk is made again, noting the match on the way, and the turn is made
 // with that match, as one found ahead.
 fn turn_again<'a>(
@@ -270,7 +264,7 @@ fn turn_again<'a>(
     stack: &mut [u8],
     state: State,
     n: usize,
-) -> Turn
+) -> Turns
     requires { ⌜ (length (now text) ≤ 1048576) × (state .place < length (now text)) × (n ≡ 0 → ⊥) × ((i : Image) × (whole : Ended)
         × WithTables (now image) (tables-of read (now tables) (now productions)) «by_rows» (now table) (now winners) i
         × Going i (now image) (tables-of read (now tables) (now productions)) (now text) (now stack) state whole
@@ -288,7 +282,7 @@ fn turn_again<'a>(
     let found = scan(&text[p..p + n], read, tables, table, winners, by_rows);
     let words = [word_of(found); 1];
     let stop = p + 1;
-    let turned = run_turns(
+    run_turns(
         image,
         read,
         tables,
@@ -301,8 +295,7 @@ fn turn_again<'a>(
         stack,
         state,
         stop,
-    );
-    turn_left(turned)
+    )
 }
 
 // What may be charged for a text of so many bytes.
@@ -315,8 +308,76 @@ fn budget_of(bytes: usize) -> usize
     bytes
 }
 
-// All turns from the start, by walks. Where a walk is in vain, it is made again and both walks are charged. A walk in vain that the budget does
-// not allow is not made again: its state is answered. What is left on the stack is not promised.
+// Turns by walks from a state on, up to the first whose walk is in vain and is made again. Both walks are charged. A walk in vain that the
+// budget does not allow is not made again: its state is answered.
+fn turns_by_walks<'a>(
+    image: &[u8],
+    read: ImageRead,
+    tables: &'a [u64; 448],
+    productions: &[u16; 2048],
+    table: &'a [u16],
+    winners: &'a [u16],
+    by_rows: bool,
+    text: &'a [u8],
+    stack: &mut [u8],
+    from: State,
+    left: usize,
+) -> Round
+    requires { ⌜ (length (now text) ≤ 1048576) × ((i : Image) × (whole : Ended)
+        × WithTables (now image) (tables-of read (now tables) (now productions)) «by_rows» (now table) (now winners) i
+        × Going i (now image) (tables-of read (now tables) (now productions)) (now text) (now stack) from whole
+        × LeftAt i (now text) (from .place) left) ⌝ }
+    ensures { λ r. ⌜ ((i : Image) (whole : Ended)
+        → WithTables (now (image .entry)) (tables-of read (now (tables .entry)) (now (productions .entry))) «by_rows» (now (table .entry))
+        (now (winners .entry)) i
+        → Going i (now (image .entry)) (tables-of read (now (tables .entry)) (now (productions .entry))) (now (text .entry))
+        (now (stack .entry)) from whole
+        → LeftAt i (now (text .entry)) (from .place) left
+        → RoundLead i (now (image .entry)) (tables-of read (now (tables .entry)) (now (productions .entry))) (now (text .entry)) (from .place)
+        whole (now (stack .exit)) (r .left) (r .turned)) ⌝ }
+{
+    let none = [0u64; 1];
+    let stop = text.len();
+    let turned = run_turns(
+        image,
+        read,
+        tables,
+        productions,
+        table,
+        winners,
+        by_rows,
+        &none[..0],
+        text,
+        stack,
+        from,
+        stop,
+    );
+    let Turns::InVain(s, n) = turned else {
+        return Round { turned, left };
+    };
+    if left < n + n {
+        return Round { turned, left };
+    }
+    let again = turn_again(
+        image,
+        read,
+        tables,
+        productions,
+        table,
+        winners,
+        by_rows,
+        text,
+        stack,
+        s,
+        n,
+    );
+    Round {
+        turned: again,
+        left: left - (n + n),
+    }
+}
+
+// All turns from the start, by walks, until the budget does not allow to make a walk again. What is left on the stack is not promised.
 fn run_plain<'a>(
     image: &[u8],
     read: ImageRead,
@@ -338,12 +399,10 @@ fn run_plain<'a>(
     if stack.len() < 1 {
         return Turn::Done(machine_turn::answer(17, 0, 0));
     }
-    let none = [0u64; 1];
     let mut state = machine_turn::first_state();
     let mut left = budget_of(text.len());
     loop {
-        let stop = text.len();
-        let turned = run_turns(
+        let round = turns_by_walks(
             image,
             read,
             tables,
@@ -351,39 +410,35 @@ fn run_plain<'a>(
             table,
             winners,
             by_rows,
-            &none[..0],
             text,
             stack,
             state,
-            stop,
+            left,
         );
+        left = round.left;
+        let turned = round.turned;
         match turned {
             Turns::Done(done) => return Turn::Done(done),
-            Turns::Reached(s) => return Turn::Done(machine_turn::at_end(read.empty, stack, s)),
-            Turns::InVain(s, n) => {
-                if left < n + n {
-                    return Turn::Next(s);
+            Turns::InVain(s, n) => return Turn::Next(s),
+            Turns::Reached(s) => {
+                if text.len() <= s.place {
+                    return Turn::Done(machine_turn::at_end(read.empty, stack, s));
                 }
-                left -= n + n;
-                let again = turn_again(
-                    image,
-                    read,
-                    tables,
-                    productions,
-                    table,
-                    winners,
-                    by_rows,
-                    text,
-                    stack,
-                    s,
-                    n,
-                );
-                match again {
-                    Turn::Done(done) => return Turn::Done(done),
-                    Turn::Next(next) => state = next,
-                }
+                state = s;
             }
         }
+    }
+}
+
+// What is gone on from after turns by matches found ahead. No walk may be in vain there, so the last case does not come.
+fn turn_left(turned: Turns) -> Turn
+    requires { ⌜ NotInVain turned ⌝ }
+    ensures { λ r. ⌜ r ≡ turn-left turned ⌝ }
+{
+    match turned {
+        Turns::Done(done) => return Turn::Done(done),
+        Turns::Reached(s) => return Turn::Next(s),
+        Turns::InVain(s, n) => return Turn::Next(s),
     }
 }
 

@@ -100,18 +100,19 @@ fn halves(length: usize, [first, second]: [Text; 2]) -> Vec<u8> {
     [first(half), second(length - half)].concat()
 }
 
-/// Some bytes, and then a text of another kind.
-fn with_front(front: Vec<u8>, length: usize, rest: Text) -> Vec<u8> {
-    let mut text = front;
+/// Letters in vain and a byte that ends their walks, and then a text of another kind. 3,000 letters are enough that the
+/// library goes on with alive positions within them, also in a text of a mebibyte. They are at most half of the text,
+/// so that what comes after them is read in a short text too.
+fn with_front(length: usize, front: impl Fn(usize) -> Vec<u8>, rest: Text) -> Vec<u8> {
+    let mut text = front((length / 2).min(3_000));
     text.truncate(length);
     text.extend(rest(length - text.len()));
     text
 }
 
-/// Enough letters in vain that the library goes on with alive positions within them, also in a text of a mebibyte, and
-/// a byte that ends these walks.
-fn letters_and_z() -> Vec<u8> {
-    [&Varied(1).letters(3_000, b"ab")[..], b"z"].concat()
+/// A front for `with_front` of so many letters.
+fn letters_and_z(count: usize) -> Vec<u8> {
+    letters_and(&mut Varied(1), count as u32, b"z")
 }
 
 fn byte(byte: u8) -> Regex {
@@ -168,8 +169,8 @@ pub fn a_star_b_and_c() -> LongWalks {
                 fill(length, |varied| run(varied, b'c'))
             }),
             ("3,000 `a` and `c`, then ordinary", |length| {
-                let front = [vec![b'a'; 3_000], vec![b'c']].concat();
-                with_front(front, length, ordinary)
+                let front = |count| [vec![b'a'; count], vec![b'c']].concat();
+                with_front(length, front, ordinary)
             }),
         ],
     }
@@ -279,7 +280,7 @@ fn closed_or_not() -> LongWalks {
         short_tokens: |length| repeated(length, b"c"),
         in_vain: vec![
             ("3,000 letters and `z`, then ordinary", |length| {
-                with_front(letters_and_z(), length, sevens_and_c)
+                with_front(length, letters_and_z, sevens_and_c)
             }),
             ("300 letters, then `z` or `c` in turn", |length| {
                 fill(length, |varied| {
@@ -388,7 +389,7 @@ pub fn many_rows() -> LongWalks {
                 },
             ),
             ("3,000 letters and `z`, then ordinary", |length| {
-                with_front(letters_and_z(), length, ordinary)
+                with_front(length, letters_and_z, ordinary)
             }),
         ],
     }

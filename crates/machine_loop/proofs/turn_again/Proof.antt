@@ -1,6 +1,6 @@
 -- `turn_again` meets its contract: the match of the walk that is made again is the one match found ahead, and the turn by it leads past its place.
 use borrow.Author.Needs.{needs}
-use mathlib.Core.Path.{_≡_, refl, sym, subst, _∙_}
+use mathlib.Core.Path.{_≡_, refl, _∙_}
 use mathlib.Core.List.{List, [], _∷_}
 use Prim.Native.Nat.{ℕ, zero, suc, _+_, _-_, _≤_}
 use native.Mathlib.Omega.{arith}
@@ -17,7 +17,7 @@ use Rattle.alive_scanner.specs.Ahead.{Ahead}
 use Rattle.machine_loop.specs.declared.Turns.{Turns}
 use Rattle.machine_loop.specs.declared.Turns.the-variants.{Done, Reached, InVain}
 use Rattle.machine_loop.specs.Prepared.{WithTables}
-use Rattle.machine_loop.specs.Turning.{Charged, TurnsLead, turn-left, AgainLead}
+use Rattle.machine_loop.specs.Turning.{Charged, TurnsLead, AgainLead}
 use Rattle.machine_loop.proofs.ByRows.{not-rows, without-rows}
 use Rattle.machine_loop.proofs.TurningLaws.{no-walk}
 use Rattle.machine_loop.proofs.Charging.{word-fits, walk-inside, match-again, charged-again}
@@ -28,7 +28,7 @@ use Rattle.machine_loop.proofs.turn_again.Tie as tie
 gone-on : (i : Image) (bytes : List ℕ) (t : ImageTables) (text : List ℕ) (place word more : ℕ) (whole : Ended) (stack : List ℕ)
     → ((v : ℕ) → Charged i text place [] v → Charged i text place (word ∷ []) (v + more)) → (turned : Turns)
     → TurnsLead i bytes t text place (word ∷ []) (place + 1) (place + 1) whole stack turned
-    → AgainLead i bytes t text place more whole stack (turn-left turned)
+    → AgainLead i bytes t text place more whole stack turned
 gone-on i bytes t text place word more whole stack charged (Done a) l = (l .0, λ v x. l .1 _ (charged v x))
 gone-on i bytes t text place word more whole stack charged (Reached s) l = (l .0, omega (arith, l .1), λ v x. used (l .2 .0) (l .2 .1) (v + more) (l .2 .2 _ (charged v x)))
   where
@@ -36,8 +36,7 @@ gone-on i bytes t text place word more whole stack charged (Reached s) l = (l .0
     used zero h v x = absurd (omega (arith, h refl, l .1))
     used (suc zero) h v x = x
     used (suc (suc k)) h v x = x
-gone-on i bytes t text place word more whole stack charged (InVain s n) l =
-    absurd (no-walk i bytes t text place (word ∷ []) (place + 1) whole stack (InVain s n) l)
+gone-on i bytes t text place word more whole stack charged (InVain s n) l = no-walk i bytes t text place (word ∷ []) (place + 1) whole stack (InVain s n) l
 
 -- The start, from where the walk is made again, and from there on.
 abbrev start-of : tie.After-scan-arg → tie.Start
@@ -133,31 +132,21 @@ run-turns-requires c κs =
     let held : Held s (w .0) (w .1) = (w .2, w .3, w .4) in
     (omega (arith, inside s, s .pre .1), λ e. absurd (not-rows e), (w .0, w .1, s .args .state .place + 1, without-rows (w .2), w .3, ahead-here word (w .0) (w .1) held))
 
-turn-left-requires : tie.Need-turn-left-requires
-turn-left-requires c κs =
-    let turns = c .before .before in
-    let word = turns .before .before .before in
-    let s = start-of (word .before .before) in
-    let w = s .pre .3 in
-    no-walk (w .0) _ _ _ _ _ (s .args .state .place + 1) (w .1) _ (turns .run-turns .result) (led turns (w .0) (w .1) (w .2, w .3, w .4))
-
 same-length : tie.Need-same-length
 same-length c = search needs
 
 returns : tie.Need-returns
 returns c =
-    let turns = c .before .before .before in
+    let turns = c .before .before in
     let word = turns .before .before .before in
     let s = start-of (word .before .before) in
     let a = s .args in
     λ i whole w g e.
     let held : Held s i whole = (w, g, e) in
     let m = word .word-of .ensures ∙ match-here (word .before) i whole held in
-    subst (AgainLead i (now (a .image)) (tables-here s) (now (a .text)) (a .state .place) (a .n + a .n) whole (turns .run-turns .last .1 .1 .1 .1 .1 .1 .1 .1 .1 .0))
-    (sym (c .turn-left .ensures))
-    (gone-on i (now (a .image)) (tables-here s) (now (a .text)) (a .state .place) (word .word-of .result) (a .n + a .n) whole _
+    gone-on i (now (a .image)) (tables-here s) (now (a .text)) (a .state .place) (word .word-of .result) (a .n + a .n) whole _
     (λ v x. charged-again i (now (a .text)) (a .state .place) (a .n) (s .pre .2) e (word .word-of .result) v (s .pre .1) m x) (turns .run-turns .result)
-    (led turns i whole held))
+    (led turns i whole held)
 
 pub turn-again-spec : {M : Type 1} → statement M
 turn-again-spec =
@@ -172,6 +161,5 @@ turn-again-spec =
     add-stop
     slice-aggregate-run-turns
     run-turns-requires
-    turn-left-requires
     same-length
     returns)
