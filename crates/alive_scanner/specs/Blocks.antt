@@ -12,7 +12,7 @@ use Rattle.leading_sets.specs.Leading.{Unions}
 -- The tables hold the positions, and what leads to each set of them and follows it.
 pub record AliveReady (ps : List Position) (last : ℕ) (tables unions : List ℕ) : Type 0 where
   pub prepared : Prepared ps last tables
-  pub leading-held : Unions (drop 256 tables) unions
+  pub unions-held : Unions (drop 256 tables) unions
 
 -- The places from one to another have their sets in the block.
 abbrev pub BlockHolds : List Position → List ℕ → ℕ → ℕ → List ℕ → Type 0

@@ -22,7 +22,7 @@ fn held_before(next: u64, last: u64, unions: &[u64; 4096]) -> u64
 }
 
 // Puts the positions alive at the places from `from` to `to` into the block, from the right, given those at `to`; answers those at `from`.
-// Where a byte leaves the same alive as the byte after it, the same is held before it. Otherwise what is held before a set is kept by the byte
+// Where a byte leaves the same alive as the byte after it, the same is held before it. Otherwise what is held before a set is remembered by the byte
 // that left it, since most texts leave the same positions alive at the same byte.
 fn fill_block<'a>(
     text: &'a [u8],
@@ -42,7 +42,7 @@ fn fill_block<'a>(
         → (r ≡ alive ps (drop from (now (text .entry)))) × BlockHolds ps (now (text .entry)) from to (now (block .exit))) ⌝ }
 {
     let mut sets = [0u64; 256];
-    let mut helds = [last; 256];
+    let mut held_sets = [last; 256];
     let mut q = to;
     let mut set = after;
     let mut held = held_before(after, last, unions);
@@ -52,11 +52,11 @@ fn fill_block<'a>(
         let next = held & tables[byte];
         block[q % 1024] = next;
         if next != set {
-            held = helds[byte];
+            held = held_sets[byte];
             if next != sets[byte] {
                 held = held_before(next, last, unions);
                 sets[byte] = next;
-                helds[byte] = held;
+                held_sets[byte] = held;
             }
             set = next;
         }
@@ -216,7 +216,6 @@ pub fn find_ahead<'a>(
     ensures { λ r.
         ⌜ (r .count ≤ 1024) × (r .stop ≤ length (now (text .entry))) × (place < length (now (text .entry)) → place < r .stop)
         × (r .end ≤ r .stop + 1024) × (length (now (block .exit)) ≡ 1024) × (length (now (words .exit)) ≡ 1024)
-        × (place < length (now (text .entry)) → 1 ≤ r .count)
         × ((ps : List Position) (k : ℕ)
         → AliveHeld ps last (now (tables .entry)) (now (unions .entry)) (now (text .entry)) k (now (marks .entry)) place «held_end» (now (block .entry))
         → Ahead ps first (now (text .entry)) (r .stop) place (take (r .count) (now (words .exit)))

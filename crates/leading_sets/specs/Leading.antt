@@ -32,8 +32,8 @@ following follow set = over-positions (following-part follow set) 0 64
 
 -- Both questions as one, so that one table answers both: of two sets as one number of 128 digits, what leads to the lower one, and what
 -- follows the upper one.
-abbrev pub answer : List ℕ → ℕ → ℕ
-answer follow sets = bitOr (leading follow (sets % 2 ^ 64)) (following follow (sets / 2 ^ 64))
+abbrev pub leading-and-following : List ℕ → ℕ → ℕ
+leading-and-following follow sets = bitOr (leading follow (sets % 2 ^ 64)) (following follow (sets / 2 ^ 64))
 
 -- What a word of the table is for: word 256 * c + b is for the positions of byte b as byte c of the two sets. So the first 2048 words tell
 -- what leads to a set, and the other 2048 what follows one.
@@ -42,7 +42,7 @@ set-of-word k = (k % 256) * 256 ^ (k / 256)
 
 -- The first n words of the table are right.
 abbrev pub UnionsBelow : ℕ → List ℕ → List ℕ → Type 0
-UnionsBelow n follow unions = (k : ℕ) → k < n → getD unions k 0 ≡ answer follow (set-of-word k)
+UnionsBelow n follow unions = (k : ℕ) → k < n → getD unions k 0 ≡ leading-and-following follow (set-of-word k)
 
 -- All 4096 are: one for each choice of positions of each of the sixteen bytes of two sets.
 abbrev pub Unions : List ℕ → List ℕ → Type 0
@@ -50,4 +50,4 @@ Unions follow unions = UnionsBelow 4096 follow unions
 
 -- What leads to each single position, and what follows each.
 abbrev pub Singles : List ℕ → List ℕ → Type 0
-Singles follow singles = (y : ℕ) → y < 128 → getD singles y 0 ≡ answer follow (2 ^ y)
+Singles follow singles = (y : ℕ) → y < 128 → getD singles y 0 ≡ leading-and-following follow (2 ^ y)

@@ -6,7 +6,7 @@ ghost use mathlib.Core.List.{List};
 ghost use Prim.Native.Nat.{ℕ, _*_, _/_, _%_, _^_, _≤_, _<_};
 ghost use lib.ListN.{drop};
 ghost use Rattle.lexer.specs.Alive.{meets};
-ghost use Rattle.leading_sets.specs.Leading.{leading, following, answer, set-of-word, UnionsBelow, Unions, Singles};
+ghost use Rattle.leading_sets.specs.Leading.{leading, following, leading-and-following, set-of-word, UnionsBelow, Unions, Singles};
 
 // Whether two sets have a common member.
 fn shares(a: u64, b: u64) -> bool
@@ -43,7 +43,7 @@ fn leading_to(set: u64, tables: &[u64; 448]) -> u64
 // What leads to a single position; from 64 on, what follows one: its follow set.
 fn single_of(y: usize, tables: &[u64; 448]) -> u64
     requires { ⌜ y < 128 ⌝ }
-    ensures { λ r. ⌜ r ≡ answer (drop 256 (now (tables .entry))) (2 ^ y) ⌝ }
+    ensures { λ r. ⌜ r ≡ leading-and-following (drop 256 (now (tables .entry))) (2 ^ y) ⌝ }
 {
     if y < 64 {
         return leading_to(1u64 << y, tables);
@@ -69,7 +69,7 @@ fn singles_of(tables: &[u64; 448]) -> [u64; 128]
 fn word_of(k: usize, unions: &[u64; 4096], singles: &[u64; 128]) -> u64
     requires { ⌜ k < 4096 ⌝ }
     ensures { λ r. ⌜ ((follow : List ℕ) → Singles follow (now (singles .entry)) → UnionsBelow k follow (now (unions .entry))
-        → r ≡ answer follow (set-of-word k)) ⌝ }
+        → r ≡ leading-and-following follow (set-of-word k)) ⌝ }
 {
     let byte = k % 256;
     if byte == 0 {
@@ -96,7 +96,7 @@ pub fn unions_of(tables: &[u64; 448]) -> [u64; 4096]
 // The table's answer for a set, by the half that starts at a word: one word for each byte of the set, up to its highest member.
 fn union_of(set: u64, start: usize, unions: &[u64; 4096]) -> u64
     requires { ⌜ (start ≤ 2048) × (start % 256 ≡ 0) ⌝ }
-    ensures { λ r. ⌜ ((follow : List ℕ) → Unions follow (now (unions .entry)) → r ≡ answer follow (set * 256 ^ (start / 256))) ⌝ }
+    ensures { λ r. ⌜ ((follow : List ℕ) → Unions follow (now (unions .entry)) → r ≡ leading-and-following follow (set * 256 ^ (start / 256))) ⌝ }
 {
     let mut left = set;
     let mut at = start;

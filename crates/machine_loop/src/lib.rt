@@ -442,7 +442,8 @@ fn turn_left(turned: Turns) -> Turn
     }
 }
 
-// Some turns from a state on, by matches that are found ahead with alive positions. So no walk is in vain.
+// Some turns from a state on, by matches that are found ahead with alive positions. So no walk is made, and `by_rows` is named by the contract
+// alone.
 fn turns_ahead<'a>(
     image: &[u8],
     read: ImageRead,

@@ -16,12 +16,12 @@ use Rattle.alive_scanner.proofs.fill_block.Statement.{statement}
 use Rattle.alive_scanner.proofs.fill_block.Tie as tie
 
 abbrev Inv-loop : tie.InvT-loop
-Inv-loop text from to after last tables unions block₀ sets₀ helds₀ q₀ set₀ held₀ block sets helds q set held =
-    (from ≤ q) × (q ≤ to) × (length block ≡ 1024) × Remembered last unions sets helds
+Inv-loop text from to after last tables unions block₀ sets₀ held-sets₀ q₀ set₀ held₀ block sets held-sets q set held =
+    (from ≤ q) × (q ≤ to) × (length block ≡ 1024) × Remembered last unions sets held-sets
     × ((ps : List Position) → AliveReady ps last tables unions → after ≡ alive ps (drop to text) → PassedTo ps text to last tables block q set held)
 
 abbrev μ-loop : tie.MeasureT-loop
-μ-loop text from to after last tables unions block₀ sets₀ helds₀ q₀ set₀ held₀ block sets helds q set held = q
+μ-loop text from to after last tables unions block₀ sets₀ held-sets₀ q₀ set₀ held₀ block sets held-sets q set held = q
 
 held-before-requires : tie.Need-held-before-requires Inv-loop μ-loop
 held-before-requires c κs = tt
@@ -35,7 +35,7 @@ loop-holds c =
       z .3,
       remembered-none (a .last) (now (a .unions)),
       λ ps w e. passed-start ps (now (a .text)) (a .to) (a .last) (now (a .tables)) (now (a .block)) (a .after) _ e
-          (c .held-before .ensures _ (w .leading-held)),
+          (c .held-before .ensures _ (w .unions-held)),
     )
 
 sub-q : tie.Need-sub-q Inv-loop μ-loop
@@ -85,11 +85,11 @@ mul-sets c = omega (arith, byte-small (c .before .before .before .before))
 array-write-sets : tie.Need-array-write-sets Inv-loop μ-loop
 array-write-sets c = byte-small (c .before .before .before .before)
 
-mul-helds : tie.Need-mul-helds Inv-loop μ-loop
-mul-helds c = omega (arith, byte-small (c .before .before .before .before))
+mul-held-sets : tie.Need-mul-held-sets Inv-loop μ-loop
+mul-held-sets c = omega (arith, byte-small (c .before .before .before .before))
 
-array-write-helds : tie.Need-array-write-helds Inv-loop μ-loop
-array-write-helds c = byte-small (c .before .before .before .before)
+array-write-held-sets : tie.Need-array-write-held-sets Inv-loop μ-loop
+array-write-held-sets c = byte-small (c .before .before .before .before)
 
 loop-less : tie.Need-loop-less Inv-loop μ-loop
 loop-less c = omega arith
@@ -104,10 +104,10 @@ loop-again c =
       omega arith,
       omega arith,
       simp length-set (l .inv .2),
-      remembered-more (a .last) (now (a .unions)) (l .sets) (l .helds) (getD (now (a .text)) (l .q - 1) 0) _ _ small (c .held-before2 .ensures) (l .inv .3),
+      remembered-more (a .last) (now (a .unions)) (l .sets) (l .held-sets) (getD (now (a .text)) (l .q - 1) 0) _ _ small (c .held-before2 .ensures) (l .inv .3),
       λ ps w e. passed-step ps (now (a .text)) (a .to) (a .last) (now (a .tables)) (now (a .unions)) (l .block) w (l .q) (l .q - 1) (l .set) (l .held) _ _
           (omega arith) (omega arith) (omega (arith, s .pre .2)) (l .inv .2) small refl
-          (c .held-before2 .ensures _ (w .leading-held)) (l .inv .4 ps w e),
+          (c .held-before2 .ensures _ (w .unions-held)) (l .inv .4 ps w e),
     )
 
 loop-less-2 : tie.Need-loop-less-2 Inv-loop μ-loop
@@ -126,7 +126,7 @@ loop-again-2 c =
       l .inv .3,
       λ ps w e. passed-step ps (now (a .text)) (a .to) (a .last) (now (a .tables)) (now (a .unions)) (l .block) w (l .q) (l .q - 1) (l .set) (l .held) _ _
           (omega arith) (omega arith) (omega (arith, s .pre .2)) (l .inv .2) small refl
-          (l .inv .3 .held-of _ (w .leading-held) _ small ∙ ap (λ (x : ℕ). bitOr (a .last) (leading (drop 256 (now (a .tables))) x)) (sym (c .if2 .left)))
+          (l .inv .3 .held-of _ (w .unions-held) _ small ∙ ap (λ (x : ℕ). bitOr (a .last) (leading (drop 256 (now (a .tables))) x)) (sym (c .if2 .left)))
           (l .inv .4 ps w e),
     )
 
@@ -186,8 +186,8 @@ fill-block-spec =
     held-before-requires-2
     mul-sets
     array-write-sets
-    mul-helds
-    array-write-helds
+    mul-held-sets
+    array-write-held-sets
     loop-less
     loop-again
     loop-less-2

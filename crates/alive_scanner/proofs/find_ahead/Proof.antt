@@ -1,5 +1,4 @@
--- `find_ahead` meets its contract. The loop's invariant: the words found so far lead to place p; while there is none, p is the
--- first place.
+-- `find_ahead` meets its contract. The loop's invariant: the words found so far lead to place p.
 use borrow.Author.Needs.{needs}
 use mathlib.Core.Path.{_≡_, refl, sym, ap, _∙_}
 use mathlib.Core.List.{List}
@@ -23,7 +22,7 @@ use Rattle.alive_scanner.proofs.find_ahead.Tie as tie
 abbrev Inv-loop : tie.InvT-loop
 Inv-loop text place held-end last first tables unions marks block₀ words₀ count₀ p₀ end₀ block words count p end =
     (count ≤ 1024) × (place + count ≤ p) × (p ≤ length text) × (end ≤ p + 1024) × (length block ≡ 1024) × (length words ≡ 1024)
-    × (count ≡ 0 → p ≡ place) × ((ps : List Position) (k : ℕ) → AliveHeld ps last tables unions text k marks place held-end block₀
+    × ((ps : List Position) (k : ℕ) → AliveHeld ps last tables unions text k marks place held-end block₀
     → FoundTo ps first text place p count words × HeldBefore ps text end block)
 
 abbrev μ-loop : tie.MeasureT-loop
@@ -43,7 +42,7 @@ held-here : (head : tie.At-loop Inv-loop μ-loop)
     → AliveHeld ps (a .last) (now (a .tables)) (now (a .unions)) (now (a .text)) k (now (a .marks)) (l .p) (l .end) (l .block)
 held-here head ps k w =
     let l = head .loop in
-    record { ready = w .ready; marked = w .marked; from-mark = omega (arith, w .from-mark, l .inv .1); held = l .inv .7 ps k w .1 }
+    record { ready = w .ready; marked = w .marked; from-mark = omega (arith, w .from-mark, l .inv .1); held = l .inv .6 ps k w .1 }
 
 -- The match that was found: the longest one, of so many bytes.
 match-here : (c : tie.After-known-told Inv-loop μ-loop)
@@ -71,7 +70,7 @@ loop-holds : tie.Need-loop-holds Inv-loop μ-loop
 loop-holds c =
     let a = c .before .args in
     let z = c .before .pre in
-    (omega arith, omega arith, z .1, z .2, z .3, z .4, λ e. refl, λ ps k w. (found-start ps (a .first) (now (a .text)) (a .place) (now (a .words)), w .held))
+    (omega arith, omega arith, z .1, z .2, z .3, z .4, λ ps k w. (found-start ps (a .first) (now (a .text)) (a .place) (now (a .words)), w .held))
 
 returns : tie.Need-returns Inv-loop μ-loop
 returns c =
@@ -84,9 +83,8 @@ returns c =
       l .inv .3,
       l .inv .4,
       l .inv .5,
-      λ h. omega arith,
       λ ps k w.
-          let f = l .inv .7 ps k w in
+          let f = l .inv .6 ps k w in
           (found-all ps (a .first) (now (a .text)) (a .place) (l .p) (l .count) (l .words) (f .0), f .1),
     )
 
@@ -130,11 +128,10 @@ returns-2 c =
       omega (arith, la .longest-alive .ensures .2, none-after),
       la .longest-alive .ensures .3,
       simp length-set (l .inv .5),
-      λ h. omega arith,
       λ ps k w.
           let e = la .longest-alive .ensures .4 ps k (held-here head ps k w) in (
             found-none ps (a .first) (now (a .text)) (a .place) (l .p) (l .count) (l .p + 1) (l .words) (omega arith)
-                (ap match-of (sym (c .enum-told .given .1)) ∙ e .0) (l .inv .7 ps k w .0),
+                (ap match-of (sym (c .enum-told .given .1)) ∙ e .0) (l .inv .6 ps k w .0),
             e .2,
           ),
     )
@@ -180,19 +177,13 @@ loop-again c =
       la .longest-alive .ensures .2,
       la .longest-alive .ensures .3,
       simp length-set (l .inv .5),
-      λ e. omega (arith, e),
       λ ps k w.
           let x = match-here (c .before) ps k w in (
             found-more ps (a .first) (now (a .text)) (a .place) (l .p) _ (l .count) _ _ _ (l .words) (omega arith)
-                (ap word-match (c .match-word .ensures) ∙ word-some _ _ (omega arith) (x .2)) (x .0) (x .1) (l .inv .7 ps k w .0),
+                (ap word-match (c .match-word .ensures) ∙ word-some _ _ (omega arith) (x .2)) (x .0) (x .1) (l .inv .6 ps k w .0),
             la .longest-alive .ensures .4 ps k (held-here head ps k w) .2,
           ),
     )
-
--- Before the end, some word is found: while there is none, the place is the first.
-by-count : {place p n : ℕ} (count : ℕ) → (count ≡ 0 → p ≡ place) → place < n → n ≤ p → 1 ≤ count
-by-count zero e h g = absurd (omega (arith, e refl, h, g))
-by-count (suc k) e h g = omega arith
 
 returns-3 : tie.Need-returns-3 Inv-loop μ-loop
 returns-3 c =
@@ -205,9 +196,8 @@ returns-3 c =
       l .inv .3,
       l .inv .4,
       l .inv .5,
-      λ h. by-count (l .count) (l .inv .6) h (omega arith),
       λ ps k w.
-          let f = l .inv .7 ps k w in
+          let f = l .inv .6 ps k w in
           (found-all ps (a .first) (now (a .text)) (a .place) (l .p) (l .count) (l .words) (f .0), f .1),
     )
 

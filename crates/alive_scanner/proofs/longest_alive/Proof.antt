@@ -99,7 +99,7 @@ loop-again c =
                 (λ v.
                 rw (v .2, v .3)
                 (cut-step ps (a .first) (now (a .text)) (a .place) (l .held) (l .q) (l .kept) next _ (l .inv .0) inside e (c .before .if2 .left)
-                (v .1 .ensures _ (w .ready .leading-held)
+                (v .1 .ensures _ (w .ready .unions-held)
                 ∙ follows-at ps (a .last) (now (a .tables)) (w .ready .prepared) (now (a .text)) (l .held) (l .q) next inside e) old))
                 (λ v.
                 let same = v .0 .left in

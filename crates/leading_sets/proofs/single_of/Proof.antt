@@ -9,23 +9,23 @@ use lib.ListN.{getD, drop}
 use lib.Pow.{pow-add, pow-lt}
 use lib.Seq.{getD-drop}
 use Rattle.basics.specs.laws.BitLaws.{shl-one}
-use Rattle.leading_sets.specs.Leading.{leading, answer}
-use Rattle.leading_sets.specs.laws.LeadingLaws.{answer-lower, answer-upper, following-one}
+use Rattle.leading_sets.specs.Leading.{leading, leading-and-following}
+use Rattle.leading_sets.specs.laws.LeadingLaws.{both-lower, both-upper, following-one}
 use Rattle.leading_sets.proofs.single_of.Statement.{statement}
 use Rattle.leading_sets.proofs.single_of.Tie as tie
 
 -- A position of the lower set.
-lower-single : (follow : List ℕ) (y : ℕ) → y < 64 → leading follow ((1 * 2 ^ y) % 2 ^ 64) ≡ answer follow (2 ^ y)
-lower-single follow y h = ap (leading follow) (shl-one y h) ∙ sym (answer-lower follow (2 ^ y) (pow-lt {i = y} {j = 64} h))
+lower-single : (follow : List ℕ) (y : ℕ) → y < 64 → leading follow ((1 * 2 ^ y) % 2 ^ 64) ≡ leading-and-following follow (2 ^ y)
+lower-single follow y h = ap (leading follow) (shl-one y h) ∙ sym (both-lower follow (2 ^ y) (pow-lt {i = y} {j = 64} h))
 
 -- A position of the upper set.
-upper-single : (tables : List ℕ) (y : ℕ) → 64 ≤ y → y < 128 → getD tables (256 + (y - 64)) 0 ≡ answer (drop 256 tables) (2 ^ y)
+upper-single : (tables : List ℕ) (y : ℕ) → 64 ≤ y → y < 128 → getD tables (256 + (y - 64)) 0 ≡ leading-and-following (drop 256 tables) (2 ^ y)
 upper-single tables y l h =
     let e : y - 64 + 64 ≡ y = omega arith in
     sym (getD-drop 256 tables (y - 64) 0)
     ∙ sym (following-one (drop 256 tables) (y - 64) (omega arith))
-    ∙ sym (answer-upper (drop 256 tables) (2 ^ (y - 64)))
-    ∙ ap (answer (drop 256 tables)) (sym (pow-add 2 (y - 64) 64) ∙ ap (λ (x : ℕ). 2 ^ x) e)
+    ∙ sym (both-upper (drop 256 tables) (2 ^ (y - 64)))
+    ∙ ap (leading-and-following (drop 256 tables)) (sym (pow-add 2 (y - 64) 64) ∙ ap (λ (x : ℕ). 2 ^ x) e)
 
 shl-leading-to : tie.Need-shl-leading-to
 shl-leading-to c = search needs

@@ -4,13 +4,13 @@ use Prim.Native.Nat.{_-_, _^_, _≤_}
 use native.Mathlib.Omega.{arith}
 use denote.Ref.{now}
 use lib.ListN.{drop}
-use Rattle.leading_sets.specs.Leading.{answer}
+use Rattle.leading_sets.specs.Leading.{leading-and-following}
 use Rattle.leading_sets.proofs.Entries.{FirstEntries, entry-more}
 use Rattle.leading_sets.proofs.singles_of.Statement.{statement}
 use Rattle.leading_sets.proofs.singles_of.Tie as tie
 
 abbrev Inv-loop : tie.InvT-loop
-Inv-loop tables singles₀ y₀ singles y = (y ≤ 128) × FirstEntries (λ z. answer (drop 256 tables) (2 ^ z)) 128 y singles
+Inv-loop tables singles₀ y₀ singles y = (y ≤ 128) × FirstEntries (λ z. leading-and-following (drop 256 tables) (2 ^ z)) 128 y singles
 
 abbrev μ-loop : tie.MeasureT-loop
 μ-loop tables singles₀ y₀ singles y = 128 - y
@@ -38,7 +38,7 @@ loop-again c =
     let l = c .before .before .loop in
     let f = drop 256 (now (c .before .before .before .args .tables)) in (
       omega arith,
-      entry-more (λ z. answer f (2 ^ z)) 128 (l .y) _ (l .singles) (omega arith)
+      entry-more (λ z. leading-and-following f (2 ^ z)) 128 (l .y) _ (l .singles) (omega arith)
           (c .single-of .ensures) (l .inv .1),
     )
 

@@ -7,15 +7,15 @@ use native.Mathlib.Omega.{arith}
 use lib.Bits.{bitOr, or-zero-l, or-zero-r}
 use lib.ListN.{getD}
 use Rattle.basics.specs.laws.BitLaws.{or-assoc}
-use Rattle.leading_sets.specs.Leading.{answer, Unions}
-use Rattle.leading_sets.specs.laws.LeadingLaws.{answer-joins, bytes-joined, bytes-few, bytes-fewer}
+use Rattle.leading_sets.specs.Leading.{leading-and-following, Unions}
+use Rattle.leading_sets.specs.laws.LeadingLaws.{both-join, bytes-joined, bytes-few, bytes-fewer}
 use Rattle.leading_sets.proofs.union_of.Statement.{statement}
 use Rattle.leading_sets.proofs.union_of.Tie as tie
 
 -- Byte at / 256 of the two sets comes next.
 record Joined (set start : ℕ) (unions : List ℕ) (left at joined : ℕ) : Type 0 where
   whole : (follow : List ℕ) → Unions follow unions
-      → bitOr joined (answer follow (left * 256 ^ (at / 256))) ≡ answer follow (set * 256 ^ (start / 256))
+      → bitOr joined (leading-and-following follow (left * 256 ^ (at / 256))) ≡ leading-and-following follow (set * 256 ^ (start / 256))
   low : start ≤ 2048
   onward : start ≤ at
   bytes : (start % 256 ≡ 0) × (at % 256 ≡ 0)
@@ -24,7 +24,7 @@ record Joined (set start : ℕ) (unions : List ℕ) (left at joined : ℕ) : Typ
 joined-none : (set start : ℕ) (unions : List ℕ) → set < 2 ^ 64 → start ≤ 2048 → start % 256 ≡ 0 → Joined set start unions set start 0
 joined-none set start unions h l b =
     let none : (start - start) / 256 ≡ 0 = omega arith in record {
-      whole = λ follow u. or-zero-l (answer follow (set * 256 ^ (start / 256)));
+      whole = λ follow u. or-zero-l (leading-and-following follow (set * 256 ^ (start / 256)));
       low = l;
       onward = omega arith;
       bytes = (b, b);
@@ -44,12 +44,12 @@ module _ (set start : ℕ) (unions : List ℕ) (left at joined : ℕ) (j : Joine
       let count : (at + 256 - start) / 256 ≡ suc ((at - start) / 256) = omega (arith, j .onward) in
       record {
         whole = λ follow u.
-            ap₂ (λ (x y : ℕ). bitOr (bitOr joined x) (answer follow (left / 256 * 256 ^ y)))
-            (u (at + left % 256) (place-few h) ∙ ap₂ (λ (x y : ℕ). answer follow (x * 256 ^ y)) low same)
+            ap₂ (λ (x y : ℕ). bitOr (bitOr joined x) (leading-and-following follow (left / 256 * 256 ^ y)))
+            (u (at + left % 256) (place-few h) ∙ ap₂ (λ (x y : ℕ). leading-and-following follow (x * 256 ^ y)) low same)
             next
-            ∙ or-assoc joined (answer follow ((left % 256) * 256 ^ c)) (answer follow (left / 256 * 256 ^ suc c))
+            ∙ or-assoc joined (leading-and-following follow ((left % 256) * 256 ^ c)) (leading-and-following follow (left / 256 * 256 ^ suc c))
             ∙ ap (bitOr joined)
-            (sym (answer-joins follow .union ((left % 256) * 256 ^ c) (left / 256 * 256 ^ suc c)) ∙ ap (answer follow) (sym (bytes-joined left c)))
+            (sym (both-join follow .union ((left % 256) * 256 ^ c) (left / 256 * 256 ^ suc c)) ∙ ap (leading-and-following follow) (sym (bytes-joined left c)))
             ∙ j .whole follow u;
         low = j .low;
         onward = omega (arith, j .onward);
@@ -57,10 +57,10 @@ module _ (set start : ℕ) (unions : List ℕ) (left at joined : ℕ) (j : Joine
         few = rw count (bytes-fewer left ((at - start) / 256) (j .few));
       }
 
-  joined-all : left ≡ 0 → (follow : List ℕ) → Unions follow unions → joined ≡ answer follow (set * 256 ^ (start / 256))
+  joined-all : left ≡ 0 → (follow : List ℕ) → Unions follow unions → joined ≡ leading-and-following follow (set * 256 ^ (start / 256))
   joined-all e follow u =
       let z : left * 256 ^ (at / 256) ≡ 0 = ap (λ (x : ℕ). x * 256 ^ (at / 256)) e ∙ omega arith in
-      sym (or-zero-r joined) ∙ ap (bitOr joined) (sym (ap (answer follow) z ∙ answer-joins follow .none)) ∙ j .whole follow u
+      sym (or-zero-r joined) ∙ ap (bitOr joined) (sym (ap (leading-and-following follow) z ∙ both-join follow .none)) ∙ j .whole follow u
 
 abbrev Inv-loop : tie.InvT-loop
 Inv-loop set start unions left₀ at₀ joined₀ left at joined = Joined set start unions left at joined

@@ -4,13 +4,13 @@ use Prim.Native.Nat.{_-_, _≤_}
 use native.Mathlib.Omega.{arith}
 use denote.Ref.{now}
 use lib.ListN.{drop}
-use Rattle.leading_sets.specs.Leading.{answer, set-of-word}
+use Rattle.leading_sets.specs.Leading.{leading-and-following, set-of-word}
 use Rattle.leading_sets.proofs.Entries.{FirstEntries, entry-more}
 use Rattle.leading_sets.proofs.unions_of.Statement.{statement}
 use Rattle.leading_sets.proofs.unions_of.Tie as tie
 
 abbrev Inv-loop : tie.InvT-loop
-Inv-loop tables singles unions₀ k₀ unions k = (k ≤ 4096) × FirstEntries (λ z. answer (drop 256 tables) (set-of-word z)) 4096 k unions
+Inv-loop tables singles unions₀ k₀ unions k = (k ≤ 4096) × FirstEntries (λ z. leading-and-following (drop 256 tables) (set-of-word z)) 4096 k unions
 
 abbrev μ-loop : tie.MeasureT-loop
 μ-loop tables singles unions₀ k₀ unions k = 4096 - k
@@ -42,7 +42,7 @@ loop-again c =
     let s = c .before .before .before .before .before .singles-of in
     let f = drop 256 (now (c .before .before .before .before .before .before .args .tables)) in (
       omega arith,
-      entry-more (λ z. answer f (set-of-word z)) 4096 (l .k) _ (l .unions) (omega arith)
+      entry-more (λ z. leading-and-following f (set-of-word z)) 4096 (l .k) _ (l .unions) (omega arith)
           (c .word-of .ensures f (s .ensures) (l .inv .1 .done)) (l .inv .1),
     )
 

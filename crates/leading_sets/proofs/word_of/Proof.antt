@@ -9,25 +9,25 @@ use lib.Count.{trailingZeros}
 use lib.ListN.{getD}
 use lib.Pow.{pow-pos}
 use Rattle.basics.specs.laws.BitLaws.{shl-one}
-use Rattle.leading_sets.specs.Leading.{answer, set-of-word, UnionsBelow, Singles}
-use Rattle.leading_sets.specs.laws.LeadingLaws.{answer-joins, LowestOfByte, lowest-of-byte}
+use Rattle.leading_sets.specs.Leading.{leading-and-following, set-of-word, UnionsBelow, Singles}
+use Rattle.leading_sets.specs.laws.LeadingLaws.{both-join, LowestOfByte, lowest-of-byte}
 use Rattle.leading_sets.proofs.word_of.Statement.{statement}
 use Rattle.leading_sets.proofs.word_of.Tie as tie
 
 -- A word of no position.
-word-none : (follow : List ℕ) (k : ℕ) → k % 256 ≡ 0 → _≡_ {A = ℕ} 0 (answer follow (set-of-word k))
+word-none : (follow : List ℕ) (k : ℕ) → k % 256 ≡ 0 → _≡_ {A = ℕ} 0 (leading-and-following follow (set-of-word k))
 word-none follow k e =
     let z : set-of-word k ≡ 0 = ap (λ (x : ℕ). x * 256 ^ (k / 256)) e ∙ omega arith in
-    sym (ap (answer follow) z ∙ answer-joins follow .none)
+    sym (ap (leading-and-following follow) z ∙ both-join follow .none)
 
 -- A word with a lowest position t.
 word-some : (follow unions singles : List ℕ) (k t : ℕ) → k < 4096 → LowestOfByte k t → Singles follow singles → UnionsBelow k follow unions
-    → bitOr (getD unions (k - (1 * 2 ^ t) % 2 ^ 64) 0) (getD singles (8 * (k / 256) + t) 0) ≡ answer follow (set-of-word k)
+    → bitOr (getD unions (k - (1 * 2 ^ t) % 2 ^ 64) 0) (getD singles (8 * (k / 256) + t) 0) ≡ leading-and-following follow (set-of-word k)
 word-some follow unions singles k t h w s u =
     ap (λ (x : ℕ). bitOr (getD unions (k - x) 0) (getD singles (8 * (k / 256) + t) 0)) (shl-one t (omega (arith, w .small)))
     ∙ ap₂ bitOr (u (k - 2 ^ t) (omega (arith, w .within, pow-pos t))) (s (8 * (k / 256) + t) (omega (arith, w .small)))
-    ∙ sym (answer-joins follow .union (set-of-word (k - 2 ^ t)) (2 ^ (8 * (k / 256) + t)))
-    ∙ ap (answer follow) (sym (w .word-joined))
+    ∙ sym (both-join follow .union (set-of-word (k - 2 ^ t)) (2 ^ (8 * (k / 256) + t)))
+    ∙ ap (leading-and-following follow) (sym (w .word-joined))
 
 returns : tie.Need-returns
 returns c = λ follow s u. word-none follow (c .before .args .k) (c .if1 .taken)

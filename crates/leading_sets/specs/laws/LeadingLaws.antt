@@ -18,7 +18,7 @@ use Rattle.basics.specs.Bits.{bit}
 use Rattle.basics.specs.laws.LowestMember.{Lowest, lowest}
 use Rattle.basics.specs.laws.Order.{lt-or-le}
 use Rattle.lexer.specs.Alive.{meets}
-use Rattle.leading_sets.specs.Leading.{over-positions, leading-part, following-part, leading, following, answer, set-of-word}
+use Rattle.leading_sets.specs.Leading.{over-positions, leading-part, following-part, leading, following, leading-and-following, set-of-word}
 
 -- ---- a union
 
@@ -102,8 +102,8 @@ following-joins follow =
     }) 0 64
 
 module _ (follow : List ℕ) where
-  pub answer-joins : Joins (answer follow)
-  answer-joins =
+  pub both-join : Joins (leading-and-following follow)
+  both-join =
       let l = leading-joins follow in
       let f = following-joins follow in record {
         none = ap₂ bitOr (l .none) (f .none) ∙ or-zero-l 0;
@@ -114,16 +114,16 @@ module _ (follow : List ℕ) where
       }
 
   -- Of one of the two sets alone.
-  pub answer-lower : (set : ℕ) → set < 2 ^ 64 → answer follow set ≡ leading follow set
-  answer-lower set h =
+  pub both-lower : (set : ℕ) → set < 2 ^ 64 → leading-and-following follow set ≡ leading follow set
+  both-lower set h =
       let low : set % 2 ^ 64 ≡ set = omega arith in
       let high : set / 2 ^ 64 ≡ 0 = omega arith in
       ap₂ (λ (x y : ℕ). bitOr (leading follow x) (following follow y)) low high
       ∙ ap (bitOr (leading follow set)) (following-joins follow .none)
       ∙ or-zero-r (leading follow set)
 
-  pub answer-upper : (set : ℕ) → answer follow (set * 2 ^ 64) ≡ following follow set
-  answer-upper set =
+  pub both-upper : (set : ℕ) → leading-and-following follow (set * 2 ^ 64) ≡ following follow set
+  both-upper set =
       let low : set * 2 ^ 64 % 2 ^ 64 ≡ 0 = omega arith in
       let high : set * 2 ^ 64 / 2 ^ 64 ≡ set = omega arith in
       ap₂ (λ (x y : ℕ). bitOr (leading follow x) (following follow y)) low high

@@ -101,10 +101,12 @@ loop-holds c =
         subst (Going i (now (a .image)) (tables-of (a .read) (now (a .tables)) (now (a .productions))) (now (a .text)) (now (a .stack)) _)
             (sym (trace-some-entry i (length (now (a .stack))) (now (a .text)) room))
             (going-first i _ _ (w .decoded) _ _ (c .before .first-state .ensures) room),
-        (omega (arith, c .budget-of .ensures),
-        subst (λ (p : ℕ). Charged i (now (a .text)) p [] (budget (now (a .text)) - c .budget-of .result))
-            (sym (ap (λ (s : State). s .place) (c .before .first-state .ensures)))
-            (subst (λ (v : ℕ). Charged i (now (a .text)) 0 [] (budget (now (a .text)) - v)) (sym (c .budget-of .ensures)) (charged-first i (now (a .text))))),
+        (
+          omega (arith, c .budget-of .ensures),
+          subst (λ (p : ℕ). Charged i (now (a .text)) p [] (budget (now (a .text)) - c .budget-of .result))
+              (sym (ap (λ (s : State). s .place) (c .before .first-state .ensures)))
+              (subst (λ (v : ℕ). Charged i (now (a .text)) 0 [] (budget (now (a .text)) - v)) (sym (c .budget-of .ensures)) (charged-first i (now (a .text)))),
+        ),
       ),
     )
 

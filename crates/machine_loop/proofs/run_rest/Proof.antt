@@ -25,7 +25,7 @@ marked-here : (c : tie.After-mark-blocks) (i : Image)
     (c .mark-blocks .last .1 .1 .1 .1 .1 .0) (a .from .place) 0 (c .mark-blocks .last .1 .1 .1 .1 .1 .1 .0)
 marked-here c i w =
     let ready : AliveReady (i .positions) _ _ _ =
-    record { prepared = w .decoded .positions (w .in-range .never-falling); leading-held = unions-of c .unions-of .ensures } in
+    record { prepared = w .decoded .positions (w .in-range .never-falling); unions-held = unions-of c .unions-of .ensures } in
     record {
       ready = ready;
       marked = c .mark-blocks .ensures .2 (i .positions) ready;

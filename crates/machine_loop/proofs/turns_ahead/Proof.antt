@@ -64,7 +64,7 @@ ahead-here : (c : tie.After-find-ahead) (i : Image) (whole : Ended) (k : ℕ)
     × HeldBefore (i .positions) (now (a .text)) (c .find-ahead .result .end) (block-left c)
 ahead-here c i whole k w =
     let a = start-of c .args in
-    let e = c .find-ahead .ensures .7 (i .positions) k (w .2) in (
+    let e = c .find-ahead .ensures .6 (i .positions) k (w .2) in (
       subst (λ (first : ℕ). Ahead (i .positions) first (now (a .text)) (c .find-ahead .result .stop) (a .state .place) (words-here c)) (w .0 .decoded .first) (e .0),
       e .1,
     )
