@@ -22,8 +22,8 @@ fn held_before(next: u64, last: u64, unions: &[u64; 4096]) -> u64
 }
 
 // Puts the positions alive at the places from `from` to `to` into the block, from the right, given those at `to`; answers those at `from`.
-// Where a byte leaves the same alive as the byte after it, the same is held before it. Otherwise what is held before a set is remembered by the byte
-// that left it, since most texts leave the same positions alive at the same byte.
+// Where a byte leaves the same alive as the byte after it, the same is held before it. Otherwise what is held before a set is remembered by the
+// byte that left it, for texts that leave the same positions alive at the same byte.
 fn fill_block<'a>(
     text: &'a [u8],
     from: usize,

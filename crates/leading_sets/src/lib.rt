@@ -93,7 +93,8 @@ pub fn unions_of(tables: &[u64; 448]) -> [u64; 4096]
     unions
 }
 
-// The table's answer for a set, by the half that starts at a word: one word for each byte of the set, up to its highest member.
+// The table's answer for a set, from a word on, with which one of its halves begins: one word for each byte of the set, up to its highest
+// member.
 fn union_of(set: u64, start: usize, unions: &[u64; 4096]) -> u64
     requires { ⌜ (start ≤ 2048) × (start % 256 ≡ 0) ⌝ }
     ensures { λ r. ⌜ ((follow : List ℕ) → Unions follow (now (unions .entry)) → r ≡ leading-and-following follow (set * 256 ^ (start / 256))) ⌝ }

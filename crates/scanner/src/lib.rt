@@ -167,7 +167,7 @@ pub fn longest_match<'a>(text: &'a [u8], tables: &'a [u64; 448], last: u64, firs
     found_match(earlier.ending, earlier.length, tables)
 }
 
-// What one walk over a text tells; the text has a byte, so that this is not asked. The walk goes as in `longest_match`, but notes no match on
+// What one walk over a text of a byte or more tells. The walk goes as in `longest_match`, but notes no match on
 // the way: where no match ends with its latest byte, the answer is only how many bytes it went over.
 pub fn walk_once<'a>(text: &'a [u8], tables: &'a [u64; 448], last: u64, first: u64) -> WalkEnd
     requires { ⌜ (1 ≤ length (now text)) × ((ps : List Position) × Prepared ps last (now tables)) ⌝ }

@@ -10,7 +10,7 @@ ghost use Rattle.lexer.specs.Alive.{told-by-rows};
 ghost use Rattle.scanner.specs.Meaning.{match-of, told-of};
 ghost use Rattle.table_scanner.specs.Rows.{RowsIn};
 
-// What one walk over a text tells; the text has a byte, so that this is not asked. Row 1 leads to itself and has no winner, so that the walk
+// What one walk over a text of a byte or more tells. Row 1 leads to itself and has no winner, so that the walk
 // ends there. If the row that the latest byte led to has a winner, that is the longest match; otherwise the walk was in vain. The first
 // byte's entry stands in row 0, at the byte itself; a row that stays needs no new address.
 pub fn walk_rows<'a>(text: &'a [u8], table: &'a [u16], winners: &'a [u16]) -> WalkEnd
