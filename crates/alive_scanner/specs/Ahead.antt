@@ -1,4 +1,4 @@
--- Matches that were found ahead, one word each: those at a place, where that match ends, and so on, to a place that they lead to.
+-- Matches that were found ahead, one word each: the one at a place, the one where that match ends, and so on, up to a place that they lead to.
 use mathlib.Core.Path.{_≡_}
 use mathlib.Core.Bool.{cond}
 use mathlib.Core.List.{List, [], _∷_}

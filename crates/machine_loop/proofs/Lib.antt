@@ -1,4 +1,4 @@
--- The laws that the functions' proofs cite: what is found by rows, what is seen at a place, and how runs end.
+-- The laws that the functions' proofs cite: what is found by rows, what is seen at a place, what turns leave and are charged, how runs end.
 pub mod ByRows
 pub mod Looking
 pub mod TurningLaws

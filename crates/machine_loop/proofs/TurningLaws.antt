@@ -1,4 +1,4 @@
--- One turn more: the matches found ahead that are left, and what was charged.
+-- One turn more: the matches found ahead that are left, and what was charged. And turns that stop at no walk in vain.
 use mathlib.Core.Path.{_≡_, refl, sym, subst}
 use mathlib.Core.List.{List, [], _∷_}
 use mathlib.Core.Logic.{⊎-elim}

@@ -48,9 +48,9 @@ Charged i text p (word ∷ words) v =
     × ((rule n : ℕ) → match-at i text p ≡ matched rule n → Charged i text (p + n) words v)
 
 -- What the turns from a place leave, by these matches found ahead, which lead to place `to`: the answer of the whole run; a state from which its
--- turns go on, once a place is reached, after so many turns, which are none only if the place is still the first; or a state before that place
--- where a walk went over so many bytes in vain, all matches being used. What was charged for the first place is charged for the last, with the
--- matches that are left.
+-- turns go on, at place `stop` or past it, with matches left from a number on, which is 0 only at the first place; or a state before `stop`, at
+-- `to` or past it, where a walk went over so many bytes in vain, no match being left. What was charged for the first place is charged for the
+-- last, with the matches that are left.
 abbrev pub TurnsLead : Image → List ℕ → ImageTables → List ℕ → ℕ → List ℕ → ℕ → ℕ → Ended → List ℕ → Turns → Type 0
 TurnsLead i bytes t text place matches to stop whole stack (Done a) =
     (answer-held a ≡ answer-of whole) × ((v : ℕ) → Charged i text place matches v → ChargedAt i text (a .place) v)
@@ -62,13 +62,13 @@ TurnsLead i bytes t text place matches to stop whole stack (InVain s n) =
     × (n ≡ vain-bytes (i .positions) (i .first) (drop (s .place) text))
     × ((v : ℕ) → Charged i text place matches v → Charged i text (s .place) [] v)
 
--- No walk was in vain.
+-- The turns did not stop at a walk in vain.
 abbrev pub NotInVain : Turns → Type 0
 NotInVain (Done a) = Unit
 NotInVain (Reached s) = Unit
 NotInVain (InVain s n) = ⊥
 
--- What is gone on from after turns in which no walk was in vain.
+-- What is gone on from after turns that did not stop at a walk in vain. The last case is not asked for.
 abbrev pub turn-left : Turns → Turn
 turn-left (Done a) = turn.Done a
 turn-left (Reached s) = turn.Next s
@@ -92,7 +92,8 @@ abbrev pub PlainLead : Image → List ℕ → ImageTables → List ℕ → Ended
 PlainLead i bytes t text whole stack (turn.Done a) = (answer-held a ≡ answer-of whole) × (1 ≤ length stack → ChargedAt i text (a .place) (budget text))
 PlainLead i bytes t text whole stack (turn.Next s) = Going i bytes t text stack s whole × Broken i text (s .place)
 
--- What the turn at a place leaves, after a walk in vain that was charged so much: the answer of the whole run; or a state at a later place.
+-- What the turn at a place leaves, after a walk in vain that was charged so much: the answer of the whole run; or a state at a later place. It
+-- does not stop at a walk in vain.
 abbrev pub AgainLead : Image → List ℕ → ImageTables → List ℕ → ℕ → ℕ → Ended → List ℕ → Turns → Type 0
 AgainLead i bytes t text place more whole stack (Done a) =
     (answer-held a ≡ answer-of whole) × ((v : ℕ) → Charged i text place [] v → ChargedAt i text (a .place) (v + more))
@@ -104,8 +105,8 @@ AgainLead i bytes t text place more whole stack (InVain s n) = ⊥
 abbrev pub LeftAt : Image → List ℕ → ℕ → ℕ → Type 0
 LeftAt i text p left = (left ≤ budget text) × Charged i text p [] (budget text - left)
 
--- What turns by walks leave from a place on, up to the first turn whose walk is made again: the answer of the whole run, within the budget; a
--- state at a later place or at the text's end, with so much of the budget left; or a state where the next walk breaks the budget.
+-- What some turns by walks leave from a place on: the answer of the whole run, within the budget; a state at a later place or at the text's end,
+-- with so much of the budget left; or a state where the next walk breaks the budget.
 abbrev pub RoundLead : Image → List ℕ → ImageTables → List ℕ → ℕ → Ended → List ℕ → ℕ → Turns → Type 0
 RoundLead i bytes t text place whole stack left (Done a) = (answer-held a ≡ answer-of whole) × ChargedAt i text (a .place) (budget text)
 RoundLead i bytes t text place whole stack left (Reached s) =
@@ -113,7 +114,7 @@ RoundLead i bytes t text place whole stack left (Reached s) =
 RoundLead i bytes t text place whole stack left (InVain s n) = Going i bytes t text stack s whole × Broken i text (s .place)
 
 -- What turns from a place by matches found ahead leave: the answer of the whole run; or a state at a later place, from which its turns go on,
--- with the block that ends before `end`.
+-- with the block that ends before `end`, at most 1,024 places after it.
 abbrev pub AheadLead : Image → List ℕ → ImageTables → List ℕ → ℕ → Ended → List ℕ → List ℕ → ℕ → Turn → Type 0
 AheadLead i bytes t text place whole stack block end (turn.Done a) = answer-held a ≡ answer-of whole
 AheadLead i bytes t text place whole stack block end (turn.Next s) =
