@@ -371,7 +371,7 @@ pub fn many_rows() -> LongWalks {
         Regex::literal(&(128..146).collect::<Vec<u8>>()),
     ];
     LongWalks {
-        name: "`a`, `b`, `[ab]*a[ab]..c`",
+        name: "`a`, `b`, `z`, `[ab]*a[ab]..c`",
         sheet: sheet(signs.into_iter().chain(others), &[]),
         ordinary,
         short_tokens: |length| repeated(length, b"z"),
