@@ -77,7 +77,7 @@ pub ends_failed : (v : check.Verdict) (k : CheckedSheet) {question place : ℕ} 
     → k.verdict ≡ verdict_case.Refused question place → Ends (after_checking (length buffer) v) (Refused question place) buffer buffer
 unfolding after_checking case_of image_after
 ends_failed v k {question} {place} buffer h e =
-    rw (checker_laws.failed-by v k h e) (record { answer = refl; image = refl })
+    rw (checker_laws.failed_by v k h e) (record { answer = refl; image = refl })
 
 pub ends_passed : (v : check.Verdict) (s : Sheet) (room : ℕ) {r : Written} {entry exit : List ℕ} → v ≡ check.passed s
     → Ends (fitted room (image_bytes (plain_image (image_sheet s)))) r entry exit → Ends (after_checking room v) r entry exit
@@ -85,6 +85,6 @@ unfolding after_checking image_of
 ends_passed v s room e h = rw e h
 
 -- What writing promises, with the work area that it leaves.
-pub promised : {m : page.Written} {r : Written} {entry exit after : List ℕ} (work : List ℕ) → Ends m r entry exit → after ≡ check.work-after work
-    → (r ≡ case_of m) × (exit ≡ image_after m entry) × (after ≡ check.work-after work) × (answer_of r ≡ write_answer m)
+pub promised : {m : page.Written} {r : Written} {entry exit after : List ℕ} (work : List ℕ) → Ends m r entry exit → after ≡ check.work_after work
+    → (r ≡ case_of m) × (exit ≡ image_after m entry) × (after ≡ check.work_after work) × (answer_of r ≡ write_answer m)
 promised {m} work h w = (h.answer, h.image, w, ap answer_of h.answer ∙ case_answer m)

@@ -39,23 +39,23 @@ module _ (out : List ℕ) where
   after_long after lent h = rw (le-ltb (length out) 3 h)
 
 -- The numbers of each case.
-pub told_passed : (v : Verdict) → v ≡ Passed → 0 ∷ 0 ∷ 0 ∷ [] ≡ numbers_of (checker.answer-of v)
-unfolding numbers_of checker.answer-of
+pub told_passed : (v : Verdict) → v ≡ Passed → 0 ∷ 0 ∷ 0 ∷ [] ≡ numbers_of (checker.answer_of v)
+unfolding numbers_of checker.answer_of
 told_passed v e = rw e
 
-pub told_failed : (v : Verdict) (number place : ℕ) → v ≡ verdict_case.Refused number place → number ∷ place ∷ 0 ∷ [] ≡ numbers_of (checker.answer-of v)
-unfolding numbers_of checker.answer-of
+pub told_failed : (v : Verdict) (number place : ℕ) → v ≡ verdict_case.Refused number place → number ∷ place ∷ 0 ∷ [] ≡ numbers_of (checker.answer_of v)
+unfolding numbers_of checker.answer_of
 told_failed v number place e = rw e
 
 module _ (w : Written) where
-  pub told_done : (length : ℕ) → w ≡ Done length → 0 ∷ 0 ∷ length ∷ [] ≡ numbers_of (compiler.answer-of w)
-  unfolding numbers_of compiler.answer-of
+  pub told_done : (length : ℕ) → w ≡ Done length → 0 ∷ 0 ∷ length ∷ [] ≡ numbers_of (compiler.answer_of w)
+  unfolding numbers_of compiler.answer_of
   told_done length e = rw e
 
-  pub told_long : (needed : ℕ) → w ≡ TooLong needed → 11 ∷ 0 ∷ needed ∷ [] ≡ numbers_of (compiler.answer-of w)
-  unfolding numbers_of compiler.answer-of
+  pub told_long : (needed : ℕ) → w ≡ TooLong needed → 11 ∷ 0 ∷ needed ∷ [] ≡ numbers_of (compiler.answer_of w)
+  unfolding numbers_of compiler.answer_of
   told_long needed e = rw e
 
-  pub told_refused : (number place : ℕ) → w ≡ Refused number place → number ∷ place ∷ 0 ∷ [] ≡ numbers_of (compiler.answer-of w)
-  unfolding numbers_of compiler.answer-of
+  pub told_refused : (number place : ℕ) → w ≡ Refused number place → number ∷ place ∷ 0 ∷ [] ≡ numbers_of (compiler.answer_of w)
+  unfolding numbers_of compiler.answer_of
   told_refused number place e = rw e

@@ -38,7 +38,7 @@ fn three(number: u64, place: u64, amount: u64) -> Numbers
 
 // A verdict has no length.
 fn verdict_numbers(verdict: Verdict) -> Numbers
-    ensures { numbers_held result ≡ numbers_of (checker.answer-of verdict) }
+    ensures { numbers_held result ≡ numbers_of (checker.answer_of verdict) }
 {
     match verdict {
         Verdict::Passed => three(0, 0, 0),
@@ -48,7 +48,7 @@ fn verdict_numbers(verdict: Verdict) -> Numbers
 
 // Document 01's number, place and length for each way in which writing ends.
 fn written_numbers(written: Written) -> Numbers
-    ensures { numbers_held result ≡ numbers_of (compiler.answer-of written) }
+    ensures { numbers_held result ≡ numbers_of (compiler.answer_of written) }
 {
     match written {
         Written::Done(length) => three(0, 0, length as u64),
@@ -66,7 +66,7 @@ fn run_numbers(ran: RunAnswer) -> Numbers
 
 // "It returns as running does, with the count of tokens written"
 fn recognition_numbers(told: Recognition) -> Numbers
-    ensures { numbers_held result ≡ numbers_of (recogniser.answer-held told) }
+    ensures { numbers_held result ≡ numbers_of (recogniser.answer_held told) }
 {
     three(told.number as u64, told.place as u64, told.count as u64)
 }

@@ -200,9 +200,9 @@ module _ (f : Functions) (demand : Demand1 f) where
         let image = image_bytes (image_of p.0) in
         let buffer : List ℕ = replicate (length image) 0 in
         let room = length-replicate {A = ℕ} (length image) 0 in
-        let e = writing.passed-written sheet (length work) p.0 p.1 (length buffer) (omega (arith, room)) in
+        let e = writing.passed_written sheet (length work) p.0 p.1 (length buffer) (omega (arith, room)) in
         (buffer, accepted_as sheet work buffer image bytes e),
-    λ h. let p = writing.written-passed sheet (length work) (length h.0) _ ((accepts_by sheet work h.0 bytes).0 h.1) in
+    λ h. let p = writing.written_passed sheet (length work) (length h.0) _ ((accepts_by sheet work h.0 bytes).0 h.1) in
         (passes_by sheet work bytes).1 (p.0, p.1),
   )
 
@@ -212,8 +212,8 @@ module _ (f : Functions) (demand : Demand1 f) where
       ↔ (length (f.write sheet work buffer).part ≤ length other)
   long_buffers sheet work buffer bytes h other =
       let e = (accepts_by sheet work buffer bytes).0 h in
-      let p = writing.written-passed sheet (length work) (length buffer) _ e in (
-        λ k. let q = writing.written-passed sheet (length work) (length other) _ ((accepts_by sheet work other bytes).0 k.0) in
+      let p = writing.written_passed sheet (length work) (length buffer) _ e in (
+        λ k. let q = writing.written_passed sheet (length work) (length other) _ ((accepts_by sheet work other bytes).0 k.0) in
             let same : q.0 ≡ p.0 = let z = sym q.1 ∙ p.1 in cc in
             let long = subst (λ (s : Sheet). (f.write sheet work other).part ≡ image_bytes (image_of s)) same q.2 in
             omega (arith, q.3, ap length p.2, ap length long),
@@ -229,7 +229,7 @@ module _ (f : Functions) (demand : Demand1 f) where
   checks_again sheet work buffer bytes question place some few =
       let check_same = one_check f demand sheet work bytes in
       let write_same = one_write f demand sheet work buffer bytes in
-      let again = writing.refused-exactly sheet (length work) (length buffer) question place in (
+      let again = writing.refused_exactly sheet (length work) (length buffer) question place in (
         λ h. let w = ap (λ (r : Wrote). r.answer) (sym write_same) ∙ h in
             ap (λ (r : Checked). r.answer) check_same
             ∙ ap check_answer (again.0 (refused_by sheet (length work) (length buffer) question place some few w)),
@@ -245,7 +245,7 @@ module _ (f : Functions) (demand : Demand1 f) where
       let s = q.0 in
       let p = (passed_passable sheet bytes (length work) s q.1).1 in
       let few = image_fits s (spelled_limits sheet s p.well_formed) ((none_empty s.rules).1 p.no_empty_text) p.has_type.1 in
-      accepted_as sheet work buffer _ bytes (writing.passed-written sheet (length work) s q.1 (length buffer) (omega (arith, few, enough)))
+      accepted_as sheet work buffer _ bytes (writing.passed_written sheet (length work) s q.1 (length buffer) (omega (arith, few, enough)))
 
   -- ---- [3] "A sheet and its padded twin of at most 4,096 bytes give the same image"
 
@@ -363,7 +363,7 @@ module _ (f : Functions) (demand : Demand1 f) (image text : List ℕ) (bytes : B
       → let alone = f.run image text (stack_alone lent.stack) in (ran.answer ≡ alone.answer) × (ran.left.stack ≡ alone.left.stack)
   as_without_table =
       let alone = stack_alone lent.stack in
-      lent_laws.as-without-table image text lent bytes runs ((demand.running image text bytes alone _).0 refl)
+      lent_laws.as_without_table image text lent bytes runs ((demand.running image text bytes alone _).0 refl)
 
 -- ---- [7] "document 001's recogniser as a yardstick"
 
@@ -509,7 +509,7 @@ module _ (f : Functions) (demand : Demand1 f) (sheet text work list : List ℕ) 
     by_descent : (lexemes : List Lexeme) → Lexes by_kind s text (length text) lexemes
         → (o : Descent) → DescendsFromStart s.expression (tokens_of lexemes) o
         → recognition.answer ≡ answer (number_for o) (place_for (starts_of lexemes) o (length text)) (length lexemes)
-    by_descent lexemes x = recogniser_laws.descent-decides sheet text (length work) (length list) bytes fixed_by.0 s read_by x
+    by_descent lexemes x = recogniser_laws.descent_decides sheet text (length work) (length list) bytes fixed_by.0 s read_by x
 
     -- 14 is given for no other reason.
     pub unmatched_only : recognition.answer.number ≡ 14 → (p : ℕ) × (lexemes : List Lexeme) × Lexes by_kind s text p lexemes × Unmatched s text p
@@ -621,4 +621,4 @@ first_exactly s limits types least n t = sheet_first_exact s.tokens limits.token
 -- "N·⊥ ∨ N now passes and denotes N alone": that it passes is a row of the table of worked cases (`cases`).
 pub unfinished_denotes : (t : ℕ) (tokens : List ℕ)
     → Denotes (alternative (sequence (token t) bottom) (token t)) tokens ↔ (tokens ≡ t ∷ [])
-unfinished_denotes = unfinished_laws.unfinished-denotes
+unfinished_denotes = unfinished_laws.unfinished_denotes

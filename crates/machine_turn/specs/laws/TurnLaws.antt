@@ -111,12 +111,12 @@ module _ (i : Image) (bytes : List ℕ) (t : ImageTables) (decoded : Decoded byt
   members_are (n ∷ l) = ap₂ ◌&&◌ (decoded.rows.empty n) (members_are l)
 
   pub end_is : answer_held (end_answer t.empty (pending stack s.depth s.first) s.place s.count)
-      ≡ machine.answer-of (machine.ended (end_number i here) here)
-  unfolding end_answer end_number answer_held machine.answer-of
+      ≡ machine.answer_of (machine.ended (end_number i here) here)
+  unfolding end_answer end_number answer_held machine.answer_of
   end_is = by_test (all_members t.empty (pending stack s.depth s.first)) (members_are (pending stack s.depth s.first))
     where
       by_test : (b : Bool) → b ≡ all_nullable i.rows (pending stack s.depth s.first)
           → answer_held (cond b (run_answer 0 s.place s.count) (run_answer 16 s.place s.count))
-          ≡ machine.answer-of (machine.ended (end_number i here) here)
+          ≡ machine.answer_of (machine.ended (end_number i here) here)
       by_test true e = rw (← e, counted)
       by_test false e = rw (← e, counted)
