@@ -1,1 +1,2 @@
 // What several crates share: definitions and proofs alone, in specs/. This crate has no code.
+#![tactic(auto)]

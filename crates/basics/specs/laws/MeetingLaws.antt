@@ -21,6 +21,7 @@ unfolding is_met
 met_left n (m ∷ met) more t =
     ⊎_elim (λ x. or_left (eqb m n) (is_met n (met ++ more)) x) (λ x. or_right (eqb m n) (is_met n (met ++ more)) (met_left n met more x))
     (or-cases (eqb m n) (is_met n met) t)
+met_left n [] more t = elim t [ ]
 
 met_right : (n : ℕ) (met more : List ℕ) → Met n more → Met n (met ++ more)
 unfolding is_met
@@ -133,6 +134,7 @@ number_below n (m ∷ met) t = go (eqb m n) refl (λ x. number_below n met x) t
         × (get_or (m ∷ met) (cond b 0 (suc (number_of met n))) 0 ≡ n)
     go true e ih x = (omega arith, eqb→eq m n (subst T (sym e) tt))
     go false e ih x = let r = ih x in ((let a = r.0 in omega arith), r.1)
+number_below n [] t = elim t [ ]
 
 pub number_left : (n : ℕ) (met more : List ℕ) → Met n met → number_of (met ++ more) n ≡ number_of met n
 unfolding is_met number_of
@@ -142,6 +144,7 @@ number_left n (m ∷ met) more t = go (eqb m n) (λ x. number_left n met more x)
         → ◌≡◌ {A = ℕ} (cond b 0 (suc (number_of (met ++ more) n))) (cond b 0 (suc (number_of met n)))
     go true ih x = refl
     go false ih x = ap suc (ih x)
+number_left n [] more t = elim t [ ]
 
 pub number-last : (n : ℕ) (met : List ℕ) → is_met n met ≡ false → number_of (met ++ (n ∷ [])) n ≡ length met
 unfolding is_met number_of

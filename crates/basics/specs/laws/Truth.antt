@@ -7,6 +7,7 @@ use Rattle.std.proofs.lemmas.Bool.{false≢true}
 
 pub or_left : (a b : Bool) → T a → T (a || b)
 or_left true b t = tt
+or_left false b t = elim t [ ]
 
 pub or_right : (a b : Bool) → T b → T (a || b)
 or_right true b t = tt
@@ -18,18 +19,23 @@ or-cases false b t = inr t
 
 pub and_both : (a b : Bool) → T a → T b → T (a && b)
 and_both true b s t = t
+and_both false b s t = elim s [ ]
 
 pub and-first : (a b : Bool) → T (a && b) → T a
 and-first true b t = tt
+and-first false b t = elim t [ ]
 
 pub and-second : (a b : Bool) → T (a && b) → T b
 and-second true b t = t
+and-second false b t = elim t [ ]
 
 pub not_holds : (a : Bool) → T (not a) → T a → ⊥
 not_holds false s t = t
+not_holds true s t = elim s [ ]
 
 pub holds_true : (a : Bool) → T a → a ≡ true
 holds_true true t = refl
+holds_true false t = elim t [ ]
 
 pub true_holds : (a : Bool) → a ≡ true → T a
 true_holds a e = subst T (sym e) tt
