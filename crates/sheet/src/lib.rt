@@ -1,1 +1,2 @@
 // The sheet: definitions and their laws alone, in specs/. This crate has no code.
+#![tactic(auto)]

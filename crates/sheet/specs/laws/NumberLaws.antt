@@ -100,9 +100,12 @@ module _ {bytes : List ℕ} where
   numbers_forward no_more = omega arith
   numbers_forward (one_more n rest) = omega (arith, (number-read n).2, numbers_forward rest)
 
+  none_between : {at end : ℕ} {ns : List ℕ} → end ≤ at → NumbersAt bytes at ns end → [] ≡ ns
+  none_between h no_more = refl
+  none_between h (one_more n rest) = absurd (omega (arith, h, (number-read n).2, numbers_forward rest))
+
   pub numbers-between : {at end : ℕ} {ms ns : List ℕ} → NumbersAt bytes at ms end → NumbersAt bytes at ns end → ms ≡ ns
-  numbers-between no_more no_more = refl
-  numbers-between no_more (one_more n rest) = absurd (omega (arith, (number-read n).2, numbers_forward rest))
+  numbers-between no_more t = none_between (omega arith) t
   numbers-between (one_more n rest) no_more = absurd (omega (arith, (number-read n).2, numbers_forward rest))
   numbers-between {end = end} (one_more {ns = ms} m rest) (one_more {ns = ns} n others) =
       let same = number_once m n in

@@ -68,15 +68,21 @@ Pairs S (i ∷ l) (j ∷ m) = S i j × Pairs S l m
 pairs_length : (S : ℕ → ℕ → Type 0) (l m : List ℕ) → Pairs S l m → length l ≡ length m
 pairs_length S [] [] h = refl
 pairs_length S (i ∷ l) (j ∷ m) h = ap suc (pairs_length S l m h.1)
+pairs_length S [] (j ∷ m) h = elim h [ ]
+pairs_length S (i ∷ l) [] h = elim h [ ]
 
 pairs_more : (S : ℕ → ℕ → Type 0) (l m : List ℕ) (i j : ℕ) → Pairs S l m → S i j → Pairs S (l ++ (i ∷ [])) (m ++ (j ∷ []))
 pairs_more S [] [] i j h s = (s, tt)
 pairs_more S (x ∷ l) (y ∷ m) i j h s = (h.0, pairs_more S l m i j h.1 s)
+pairs_more S [] (y ∷ m) i j h s = elim h [ ]
+pairs_more S (x ∷ l) [] i j h s = elim h [ ]
 
 pub pairs_at : (S : ℕ → ℕ → Type 0) → S 0 0 → (l m : List ℕ) (k : ℕ) → Pairs S l m → S (get_or l k 0) (get_or m k 0)
 pairs_at S z [] [] k h = z
 pairs_at S z (i ∷ l) (j ∷ m) zero h = h.0
 pairs_at S z (i ∷ l) (j ∷ m) (suc k) h = pairs_at S z l m k h.1
+pairs_at S z [] (j ∷ m) k h = elim h [ ]
+pairs_at S z (i ∷ l) [] k h = elim h [ ]
 
 -- ---- numbers
 

@@ -149,6 +149,7 @@ module _ {a b : List ℕ} where
             → (d : Contents) × SpellsContents b d × SameContents (SamePlace a b) c d
         by_reading (got d end) k r =
             (d, record { bytes_most = l; answered = subst (λ (p : ℕ). SheetAnswer b (got d p)) r.1 k }, r.0)
+        by_reading (stop _ _) k r = elim r [ ]
 
     pub twin_spells : {s : Sheet} → length b ≤ most_sheet_bytes → Spells a s → Spells b s
     twin_spells l h = let r = twin_contents h.0 l h.1 in (r.0, r.1, sym r.2.same_sheet ∙ h.2)
@@ -161,6 +162,7 @@ module _ {a b : List ℕ} where
         by_reading : (y : Reading Contents) → SheetAnswer b y → BothAnswer a b (SameContents (SamePlace a b)) (stop question place) y
             → (other : ℕ) × SheetAnswer b (stop question other) × SamePlace a b place other
         by_reading (stop other q) k r = (q, subst (λ (n : ℕ). SheetAnswer b (stop n q)) (sym r.0) k, r.1)
+        by_reading (got _ _) k r = elim r [ ]
 
 -- ---- the twin in the fewest bytes
 
