@@ -4,7 +4,7 @@ use Rattle.std.specs.Prelude.{◌≡◌, refl, List, [], ◌∷◌, ◌↔◌, �
 use Rattle.std.proofs.Common.{sym, ap, ap₂, ◌∙◌, arith}
 use Rattle.std.proofs.Math.Path.{transport}
 use Rattle.std.proofs.Math.Option.{none}
-use Rattle.std.proofs.Math.Logic.{Iff·rfl, Iff·symm, Iff·trans}
+use Rattle.std.proofs.Math.Logic.Iff
 use Rattle.sheet.specs.Expression.{Expression, epsilon, bottom, token, sequence, alternative, fixed_point, variable, repetition}
 use Rattle.sheet.specs.Limits.{most_tokens}
 use Rattle.sheet.specs.WellFormed.{Closed}
@@ -85,13 +85,13 @@ both_iff f x y c = (
 )
 
 pub some-spelled_out : (e : Expression) (l : List LanguageType) (c : LanguageType) → SomeSolution e l c ↔ SomeSolution (spelled_out e) l c
-some-spelled_out epsilon l c = Iff·rfl
-some-spelled_out bottom l c = Iff·rfl
-some-spelled_out (token k) l c = Iff·rfl
+some-spelled_out epsilon l c = Iff.rfl
+some-spelled_out bottom l c = Iff.rfl
+some-spelled_out (token k) l c = Iff.rfl
 some-spelled_out (sequence g h) l c = both_iff sequence_type (some-spelled_out g l) (some-spelled_out h l) c
 some-spelled_out (alternative g h) l c = both_iff alternative_type (some-spelled_out g l) (some-spelled_out h l) c
 some-spelled_out (fixed_point g) l c = some-spelled_out g (c ∷ l) c
-some-spelled_out (variable n) l c = Iff·rfl
+some-spelled_out (variable n) l c = Iff.rfl
 some-spelled_out (repetition g) l c =
     let form = repetition_some (spelled_out g) l c in (
       λ s. form.0 (s.0, (some-spelled_out g l s.0).0 s.1, s.2),
@@ -109,5 +109,5 @@ module _ (tokens : ℕ) (within : tokens ≤ most_tokens) (e : Expression) (clos
       (least_type_least tokens within (spelled_out e) form_closed _ ((some-spelled_out e [] _).0 (least_type_some tokens within e closed)))
 
   pub spelled_out_faultless : (type_fault e ≡ none) ↔ (type_fault (spelled_out e) ≡ none)
-  spelled_out_faultless = Iff·trans (typed_iff tokens within e closed)
-      (Iff·trans (spelled_out_has_type e) (Iff·symm (typed_iff tokens within (spelled_out e) form_closed)))
+  spelled_out_faultless = Iff.trans (typed_iff tokens within e closed)
+      (Iff.trans (spelled_out_has_type e) (Iff.symm (typed_iff tokens within (spelled_out e) form_closed)))

@@ -15,7 +15,6 @@ use Rattle.sheet.specs.WellFormed.{Closed}
 use Rattle.types.specs.Types.{LanguageType, bottom_type, Separable, Apart, HasType}
 use Rattle.types.specs.Nodes.{Node, epsilon_node, bottom_node, token_node, sequence_node, alternative_node, fixed_point_node, variable_node, repetition_node, nodes, node_at}
 use Rattle.types.specs.LeastTypes.{type_of, node_type, least_types}
-use Rattle.types.specs.Solutions.{next_types}
 use Rattle.types.specs.LeastSolution.{LeastSolution}
 use Rattle.types.specs.Solutions.{Solves}
 use Rattle.types.specs.laws.TypeLaws.{⊑_antisym}
