@@ -1,7 +1,6 @@
 -- One name that opens every definition of this crate and of those below it, for theorems that compute.
 use Rattle.basics.specs.Rounds.{rounds}
 use Rattle.normal_form.specs.Productions.{production_of, ended_by, node_row, rows}
-use Rattle.normal_form.specs.RowNames.{next_rows, rows_after}
 use Rattle.normal_form.specs.Derives.{node_derives, derives}
 use Rattle.basics.specs.Lists.{filter}
 use Rattle.normal_form.specs.NormalForm.{all_derive, normal_form}

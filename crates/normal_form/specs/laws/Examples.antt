@@ -5,7 +5,6 @@ use Rattle.basics.specs.Lists.{All, filter}
 use Rattle.sheet.specs.Expression.{Expression, epsilon, bottom, token, sequence, alternative, fixed_point, variable, repetition}
 use Rattle.types.specs.Nodes.{nodes_from, nodes}
 use Rattle.normal_form.specs.Productions.{Production, Row, ended_by, node_row, rows}
-use Rattle.normal_form.specs.RowNames.{next_rows, rows_after}
 use Rattle.normal_form.specs.Derives.{node_derives, derives}
 use Rattle.normal_form.specs.NormalForm.{all_derive, normal_form}
 

@@ -12,7 +12,7 @@ use Rattle.normal_form.specs.Productions.{Row, row_of}
 use Rattle.normal_form.specs.Unfolds.{Unfolds, none_pending, unfold_epsilon, unfold_production}
 use Rattle.normal_form.specs.NormalForm.{normal_form}
 use Rattle.types.specs.NodeLanguages.{language_of}
-use Rattle.normal_form.specs.laws.Unfolding.{◌of◌, concatenation, ByRow, by_epsilon, by_production, UnfoldsOnce, concatenation-append, concatenation_split, production_word, null_exact}
+use Rattle.normal_form.specs.laws.Unfolding.{concatenation, ByRow, by_epsilon, by_production, UnfoldsOnce, concatenation-append, concatenation_split, production_word, null_exact}
 use Rattle.normal_form.specs.laws.NormalFormLaws.{normal_form_fits, start-words}
 
 module _ (N : ℕ → Language) (rows : List Row) (unfolds : (n : ℕ) → UnfoldsOnce N (N n) (row_of rows n)) where

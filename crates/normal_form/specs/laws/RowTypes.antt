@@ -1,7 +1,7 @@
 -- What types say of the rows that stay: a production's head is in FIRST, and each token begins one production at most. Half of Lemma 3.6 of
 -- the flap paper, for any types that solve the equations; the other half, for the least types, is in `ExactRows`.
 use Rattle.std.specs.Prelude.{◌≡◌, refl, Bool, cond, List, [], ℕ, ◌^◌}
-use Rattle.std.proofs.Common.{sym, true≢false, ⊎_elim}
+use Rattle.std.proofs.Common.{sym, ⊎_elim}
 use Rattle.std.proofs.Math.Path.{subst}
 use Rattle.std.proofs.Math.Bool.{true, false}
 use mathlib.Core.List.Memᴰ
@@ -14,7 +14,6 @@ use Rattle.types.specs.Nodes.{Node, epsilon_node, bottom_node, token_node, seque
 use Rattle.types.specs.LeastTypes.{type_of, node_type, node_type_with}
 use Rattle.types.specs.laws.LeastTypeLaws.{solved_at}
 use Rattle.types.specs.Solutions.{Solves}
-use Rattle.types.specs.laws.SetOrder.{or_rises}
 use Rattle.types.specs.laws.SequenceTypeLaws.{sequence_first_left}
 use Rattle.types.specs.laws.QuestionLaws.{AlternativesApart, passes_apart}
 use Rattle.types.specs.laws.Typing.{typed_solution}

@@ -1,6 +1,6 @@
 -- What a node's words begin with is in its type, by any solution of the equations, whether the expression has a type or not: NULL if the
 -- empty word is one, and in FIRST the token that begins one. So a node with a word has a type that is not that of ⊥.
-use Rattle.std.specs.Prelude.{◌≡◌, List, [], ◌∷◌, ◌++◌, ℕ}
+use Rattle.std.specs.Prelude.{List, [], ◌∷◌, ◌++◌, ℕ}
 use Rattle.std.proofs.Math.Path.{refl, subst}
 use Rattle.std.proofs.Common.{sym, inl, inr}
 use Rattle.basics.specs.laws.BitLaws.{∈_self}
