@@ -1,1 +1,2 @@
 // The lexer: definitions and their laws alone, in specs/. This crate has no code.
+#![tactic(auto)]

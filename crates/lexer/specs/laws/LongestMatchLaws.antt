@@ -2,7 +2,7 @@
 -- lowest rule that has it; over any positions at least a front of the text and a rule of some position.
 use Rattle.std.specs.Prelude.{◌≡◌, refl, List, [], ◌∷◌, ◌↔◌, ℕ, zero, suc, ◌+◌, ◌≤◌, ◌<◌, length, take}
 use Rattle.std.proofs.Common.{sym, ap₂, subst, ⊎_elim, zero-add, add-zero, add-one}
-use Rattle.std.proofs.Math.Logic.{Iff·trans}
+use Rattle.std.proofs.Math.Logic.Iff
 use Rattle.std.proofs.Math.Option.{Option, none, some}
 use native.Mathlib.Omega.{arith}
 use Rattle.basics.specs.Lists.{All}
@@ -70,11 +70,11 @@ walk_best P ps held (b ∷ text) n best f h =
     let now : (k : ℕ) → Matches ps held k (b ∷ []) ↔ P k (suc n) =
     λ k. subst (λ (N : ℕ). Matches ps held k (b ∷ []) ↔ P k N) (add-one n) (f k 1 (omega arith) (omega arith)) in
     let low : LeastOf (λ k. P k (suc n)) o =
-    least_iff (EndsRule ps 0 kept) (λ k. P k (suc n)) (λ k. Iff·trans (one_step ps held k b) (now k)) o (ended-least ps 0 kept) in
+    least_iff (EndsRule ps 0 kept) (λ k. P k (suc n)) (λ k. Iff.trans (one_step ps held k b) (now k)) o (ended-least ps 0 kept) in
     let later : (k m : ℕ) → 0 < m → m ≤ length text → Matches ps (follows ps 0 kept) k (take m text) ↔ P k (suc n + m) =
     λ k m p l.
     let e : n + suc m ≡ suc n + m = omega arith in
-    Iff·trans (later_steps ps held k b m text p l)
+    Iff.trans (later_steps ps held k b m text p l)
     (subst (λ (N : ℕ). Matches ps held k (b ∷ take m text) ↔ P k N) e (f k (suc m) (omega arith) (omega arith))) in
     let e : suc n + length text ≡ n + suc (length text) = omega arith in
     subst (λ (N : ℕ). Best P N (walk ps (follows ps 0 kept) text (suc n) (longer o (suc n) best))) e

@@ -1,6 +1,6 @@
 -- Matches by kind and by number: the lowest rule of the image's order is the best rule of the sheet, and what was found by number differs
 -- only where another rule stands above a word rule and both match equally far. Limits and question 7 do not ask for the order.
-use Rattle.std.specs.Prelude.{◌≡◌, List, ◌⊎◌, ◌↔◌, ℕ, ◌<◌, length, take}
+use Rattle.std.specs.Prelude.{◌≡◌, List, ◌⊎◌, ◌↔◌, ℕ, ◌<◌, take}
 use Rattle.std.proofs.Common.{sym, subst, inl, inr, ⊎_elim, arith}
 use Rattle.std.proofs.Math.Option.{none}
 use Rattle.basics.specs.laws.Order.{compare_cases}

@@ -28,10 +28,13 @@ pub place_within : {ps : List Position} {i j : ℕ} {p : Position} → PositionF
 place_within (first_place {ps = ps}) = omega arith
 place_within (later_place t) = let h = place_within t in omega arith
 
+place_first : {ps : List Position} {i j : ℕ} {p q : Position} → j ≤ i → PositionFrom (p ∷ ps) i j q → p ≡ q
+place_first h first_place = refl
+place_first h (later_place t) = let k = place_within t in absurd (omega arith)
+
 -- Each place holds one position, and each place within the list holds one.
 pub place_one : {ps : List Position} {i j : ℕ} {p q : Position} → PositionFrom ps i j p → PositionFrom ps i j q → p ≡ q
-place_one first_place first_place = refl
-place_one first_place (later_place t) = let h = place_within t in absurd (omega arith)
+place_one first_place t = place_first (omega arith) t
 place_one (later_place t) first_place = let h = place_within t in absurd (omega arith)
 place_one (later_place t) (later_place u) = place_one t u
 

@@ -3,7 +3,7 @@
 use Rattle.std.specs.Prelude.{◌≡◌, refl, Bool, true, false, ◌&&◌, cond, List, [], ◌∷◌, ◌⊎◌, ◌↔◌, ℕ, suc, ◌^◌, min}
 use Rattle.std.proofs.Math.Path.{sym, subst}
 use Rattle.std.proofs.Common.{ap, ap₂, ◌∙◌, true≢false, inl, inr, ⊎_elim, zero-add}
-use Rattle.std.proofs.Math.Logic.{Iff·trans}
+use Rattle.std.proofs.Math.Logic.Iff
 use Rattle.std.proofs.Math.Option.{Option, none, some}
 use native.Mathlib.Omega.{arith}
 use Rattle.basics.specs.Bits.{bit, ◌∈◌}
@@ -158,7 +158,7 @@ kept_by ps held b (a ∷ u) = kept_by ps (follows ps 0 (keep ps 0 held b)) a u
 pub kept_chain : (ps : List Position) (held k b : ℕ) (u : List ℕ) → EndsRule ps 0 (kept_by ps held b u) k ↔ Matches ps held k (b ∷ u)
 unfolding kept_by
 kept_chain ps held k b [] = one_step ps held k b
-kept_chain ps held k b (a ∷ u) = Iff·trans (kept_chain ps (follows ps 0 (keep ps 0 held b)) k a u) (more-steps ps held k b a u)
+kept_chain ps held k b (a ∷ u) = Iff.trans (kept_chain ps (follows ps 0 (keep ps 0 held b)) k a u) (more-steps ps held k b a u)
 
 -- A rule's own chains, and those of the sheet's list.
 module _ (rules : List Rule) where
@@ -233,4 +233,4 @@ module _ (rules : List Rule) where
   -- The walk decides the words of all rules at once.
   pub kept_right : (k b : ℕ) (u : List ℕ)
       → EndsRule (positions rules) 0 (kept_by (positions rules) (first_positions rules) b u) k ↔ WordOf rules k (b ∷ u)
-  kept_right k b u = Iff·trans (kept_chain (positions rules) (first_positions rules) k b u) (matches_right k b u)
+  kept_right k b u = Iff.trans (kept_chain (positions rules) (first_positions rules) k b u) (matches_right k b u)
