@@ -200,7 +200,7 @@ satisfies_at : {γ : Environment} {Γ : Context} {n : ℕ} {a : LanguageType}
     → Pointwise SatisfiesHypothesis γ Γ → Usable Γ n a → Satisfies (language_at γ n) a
 satisfies_at (pointwise_cons r s) here = r
 satisfies_at (pointwise_cons r s) (there u) = satisfies_at s u
-satisfies_at {n = n} {a = a} pointwise_nil x4 = elim x4 [ ]
+satisfies_at pointwise_nil h = elim h [ ]
 
 pub satisfies_usable : {γ : Environment} {Γ : Context} → Pointwise SatisfiesHypothesis γ Γ → Pointwise SatisfiesHypothesis γ (all_usable Γ)
 satisfies_usable pointwise_nil = pointwise_nil

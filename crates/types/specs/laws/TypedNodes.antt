@@ -39,7 +39,7 @@ module _ (types : List LanguageType) where
       → ((binder_at binders n).guarded ≡ true) × (type_of types (binder_at binders n).node ≡ a)
   usable_guarded (and_more u t s) here = (u, t)
   usable_guarded (and_more u t s) (there v) = usable_guarded s v
-  usable_guarded {n = n} {a = a} no_more x4 = elim x4 [ ]
+  usable_guarded no_more h = elim h [ ]
 
 -- Node x at place p has the type that its equation gives, and passes.
 pub record Holds (op : Operation) (types : List LanguageType) (p : ℕ) (x : Node) : Type 0 where
