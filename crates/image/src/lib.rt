@@ -1,1 +1,2 @@
 // The image: definitions and their laws alone, in specs/. This crate has no code.
+#![tactic(auto)]

@@ -1,7 +1,7 @@
 -- What the lent buffers hold after checking and writing, said of their parts: "A refused compile leaves the image buffer untouched; success
 -- leaves the bytes past the image. The first 65,536 work bytes end as zero, except after 1, when none changes; the rest never
 -- change."
-use Rattle.std.specs.Prelude.{◌≡◌, refl, List, [], ◌∷◌, ◌++◌, ℕ, ◌≤◌, ◌<◌, length, take, drop, replicate}
+use Rattle.std.specs.Prelude.{◌≡◌, refl, List, ◌++◌, ℕ, ◌≤◌, ◌<◌, length, take, drop, replicate}
 use Rattle.std.proofs.Common.{take_at, lt-ltb, le-ltb}
 use Rattle.basics.specs.Lists.{written_over}
 use Rattle.image.specs.Check.{work_bytes, work_after}

@@ -1,6 +1,6 @@
 -- Checking's answer is the one that the page's terms fix (Checks): `check` answers so, whatever is handed over, and there is no other
 -- answer. Writing is not spoken of here.
-use Rattle.std.specs.Prelude.{◌≡◌, Bool, cond, List, ◌↔◌, ◌⊎◌, ℕ, ◌≤◌, length}
+use Rattle.std.specs.Prelude.{◌≡◌, Bool, cond, List, ◌↔◌, ℕ, ◌≤◌, length}
 use Rattle.std.proofs.Math.Path.{refl, sym, ap, subst}
 use Rattle.std.proofs.Common.{◌∙◌, arith}
 use Rattle.std.proofs.Math.Bool.{true, false}

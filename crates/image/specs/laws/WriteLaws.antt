@@ -10,7 +10,7 @@ use Rattle.std.proofs.Math.Dec.{leb}
 use Rattle.sheet.specs.Sheet.{Sheet}
 use Rattle.image.specs.Image.{image_of, image_bytes}
 use Rattle.image.specs.Check.{Verdict, failed, passed, check}
-use Rattle.image.specs.Write.{Written, refused, too_long, written, fitted, after_checking, write}
+use Rattle.image.specs.Write.{refused, too_long, written, fitted, after_checking, write}
 
 -- The ways to end are different.
 pub not_written : {X : Type 0} {question place : ℕ} {image : List ℕ} → refused question place ≡ written image → X

@@ -1,6 +1,6 @@
 -- Writing's answer is the one that the page's terms fix: `write` ends so, whatever is handed over, and there is no other answer. When it
 -- succeeds, and what it then has made: demand 2 over the definitions. And 11 never comes with 65,536 bytes of room.
-use Rattle.std.specs.Prelude.{◌≡◌, Bool, cond, List, [], ◌↔◌, ◌⊎◌, ℕ, ◌≤◌, ◌<◌, length}
+use Rattle.std.specs.Prelude.{◌≡◌, Bool, cond, List, [], ◌↔◌, ℕ, ◌≤◌, ◌<◌, length}
 use Rattle.std.proofs.Math.Path.{refl, ap}
 use Rattle.std.proofs.Common.{sym, subst, ◌∙◌, inl, inr, arith, leb→le}
 use Rattle.std.proofs.Math.Bool.{true, false}
