@@ -1,6 +1,6 @@
 -- "The sheet's own answer. It comes from the sheet's rules and expression and from the text, and from nothing in the image or the
 -- run." A relation, step by step as the page has it.
-use Rattle.std.specs.Prelude.{◌≡◌, List, [], ◌∷◌, ◌++◌, ℕ, zero, suc, ◌+◌, ◌<◌, length, drop}
+use Rattle.std.specs.Prelude.{◌≡◌, List, [], ◌∷◌, ◌++◌, ℕ, suc, ◌+◌, ◌<◌, length, drop}
 use Rattle.sheet.specs.Sheet.{Rule, Sheet}
 use Rattle.types.specs.Denotation.{Denotes}
 use Rattle.lexer.specs.Words.{RuleAt}

@@ -2,7 +2,7 @@
 -- The count of tokens is the number of takes. Which turn leads from a state to the next is not said here.
 use Rattle.std.specs.Prelude.{Bool, true, false, ◌&&◌, List, [], ◌∷◌, ◌++◌, ℕ, length, drop}
 use Rattle.std.proofs.Math.Option.{Option, none, some}
-use Rattle.normal_form.specs.Productions.{Production, Row, row_of, production_of, Taking}
+use Rattle.normal_form.specs.Productions.{Row, row_of, production_of, Taking}
 use Rattle.lexer.specs.Match.{Match}
 use Rattle.lexer.specs.Walk.{longest_match}
 use Rattle.image.specs.Image.{Image}

@@ -1,6 +1,6 @@
 -- The image of a typed sheet whose rules match no empty text, numbered as they stand, is faithful to the sheet: it has the four facts from
 -- which a run gives the sheet's own answer by number.
-use Rattle.std.specs.Prelude.{◌≡◌, refl, Bool, true, false, ◌↔◌, ℕ, suc, eqb, length, get_or}
+use Rattle.std.specs.Prelude.{◌≡◌, refl, true, false, ◌↔◌, ℕ, suc, eqb, length, get_or}
 use Rattle.std.proofs.Common.{sym, ◌∙◌, arith}
 use Rattle.std.proofs.Math.Path.{ap}
 use mathlib.Core.List.{List, [], ◌∷◌, ◌++◌, map, append-nil, append_assoc}
@@ -10,25 +10,25 @@ use Rattle.basics.specs.Lists.{All}
 use Rattle.sheet.specs.Expression.{Expression}
 use Rattle.sheet.specs.Sheet.{Rule, Sheet}
 use Rattle.sheet.specs.WellFormed.{WithinLimits}
-use Rattle.types.specs.Denotation.{Language, Denotes}
+use Rattle.types.specs.Denotation.{Denotes}
 use Rattle.types.specs.Types.{LanguageType, ◌⊢◌∶◌}
-use Rattle.normal_form.specs.Productions.{Row, row_of, Taking, most_growth}
+use Rattle.normal_form.specs.Productions.{row_of, Taking, most_growth}
 use Rattle.normal_form.specs.NormalForm.{normal_form}
 use Rattle.types.specs.NodeLanguages.{language_of}
 use Rattle.normal_form.specs.laws.Unfolding.{concatenation}
-use Rattle.normal_form.specs.laws.Pending.{Ready, TokenStep, StepWords, step-words, end_exact, GrowsBy, ready_one}
+use Rattle.normal_form.specs.laws.Pending.{Ready, StepWords, step-words, end_exact, GrowsBy, ready_one}
 use Rattle.normal_form.specs.laws.NormalFormLaws.{normal_form_fits, start-words}
 use Rattle.normal_form.specs.laws.Tails.{pending_grows}
 use Rattle.lexer.specs.Words.{RuleAt, first_rule, later_rule}
 use Rattle.lexer.specs.Positions.{empty_match}
-use Rattle.lexer.specs.laws.LongestMatchLaws.{Right, match_right}
+use Rattle.lexer.specs.laws.LongestMatchLaws.{match_right}
 use Rattle.image.specs.Fusion.{fused}
 use Rattle.basics.specs.Meeting.{number_of}
 use Rattle.image.specs.Numbering.{reached, numbered}
 use Rattle.basics.specs.laws.MeetingLaws.{Met}
 use Rattle.image.specs.laws.Simulation.{Simulates, image_simulates}
 use Rattle.image.specs.laws.ImageLaws.{normal_form-inside, normal_form-some}
-use Rattle.image.specs.Image.{Image, plain_image}
+use Rattle.image.specs.Image.{plain_image}
 use Rattle.image.specs.laws.RowRanges.{skips_rule}
 use Rattle.image.specs.laws.FusionLaws.{Returns}
 use Rattle.machine.specs.Trace.{taking, all_nullable, start_state, answer_of}
@@ -36,7 +36,7 @@ use Rattle.machine.specs.Lent.{long_enough}
 use Rattle.machine.specs.Run.{trace_from}
 use Rattle.machine.specs.laws.RunLaws.{start_traces}
 use Rattle.machine.specs.OwnAnswer.{ActionOf, OwnAnswerByNumber}
-use Rattle.machine.specs.laws.TakingLaws.{Taken, taken, nullable_same, numbers_of, AllKnown}
+use Rattle.machine.specs.laws.TakingLaws.{taken, nullable_same, numbers_of, AllKnown}
 use Rattle.machine.specs.laws.RunAnswers.{TakenIs, Faithful, runs_own-answer}
 
 -- The image's flag of a rule says whether it skips.

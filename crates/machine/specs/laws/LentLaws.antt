@@ -8,7 +8,6 @@ use Rattle.sheet.specs.laws.FieldLaws.{Bytes}
 use Rattle.basics.specs.Lists.{written_over}
 use Rattle.image.specs.Image.{Image}
 use Rattle.image.specs.laws.ReadableImages.{readable_one}
-use Rattle.image.specs.Answer.{Answer}
 use Rattle.machine.specs.Trace.{State, Ended, answer_of}
 use Rattle.machine.specs.Lent.{Lent, stack_alone, Ran, entries_of, winners_of, built, turned_away, finished}
 use Rattle.machine.specs.Runs.{Traces, rule_skipped, rule_taken, nothing_matched, rule_untaken, stack_overflowed, nullable_at_end}

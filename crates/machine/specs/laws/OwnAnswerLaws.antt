@@ -7,7 +7,7 @@ use Rattle.lexer.specs.RuleOrder.{by_kind, Order, by_number}
 use Rattle.lexer.specs.LongestMatch.{LongestMatch}
 use Rattle.lexer.specs.laws.RuleOrderLaws.{rule_one}
 use Rattle.lexer.specs.laws.LongestMatchLaws.{longest_one, longest_not-none}
-use Rattle.image.specs.Answer.{Answer, answer}
+use Rattle.image.specs.Answer.{Answer}
 use Rattle.machine.specs.OwnAnswer.{Allowed, ActionOf, AnswersFrom, accepts, ends_early, no_rule, skips, takes, refuses, OwnAnswer, OwnAnswerByNumber}
 
 module _ (order : Order) (s : Sheet) (text : List ℕ) where

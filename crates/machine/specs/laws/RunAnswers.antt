@@ -1,7 +1,7 @@
 -- A run gives a sheet's own answer by number, by one induction over the run, from four facts about the image: it finds the longest
 -- match, it knows which rules skip, taking a rule agrees with what the expression still allows, and so does ending.
 -- That the image of a sheet whose rules stand in its order has these facts is shown elsewhere.
-use Rattle.std.specs.Prelude.{◌≡◌, refl, Bool, true, false, List, [], ◌∷◌, ◌++◌, ◌↔◌, ℕ, zero, suc, ◌+◌, ◌*◌, ◌≤◌, ◌<◌, length, drop, get_or, eqb}
+use Rattle.std.specs.Prelude.{◌≡◌, refl, true, false, List, [], ◌∷◌, ◌++◌, ◌↔◌, ℕ, zero, suc, ◌+◌, ◌*◌, ◌≤◌, ◌<◌, length, drop, get_or, eqb}
 use Rattle.std.proofs.Common.{sym, subst, ◌∙◌, arith, length-append, length-drop, eq-eqb, ne_eqb}
 use Rattle.std.proofs.Math.Bool.{true≢false}
 use Rattle.std.proofs.Math.Option.{Option, none, some}
@@ -11,11 +11,10 @@ use Rattle.normal_form.specs.Productions.{Taking, most_growth}
 use Rattle.lexer.specs.Words.{RuleAt}
 use Rattle.lexer.specs.RuleOrder.{by_number}
 use Rattle.lexer.specs.LongestMatch.{LongestMatch, NoMatch}
-use Rattle.lexer.specs.Match.{Match, no_match, matched}
+use Rattle.lexer.specs.Match.{no_match, matched}
 use Rattle.lexer.specs.Walk.{longest_match}
 use Rattle.lexer.specs.laws.LongestMatchLaws.{Right}
 use Rattle.image.specs.Image.{Image}
-use Rattle.image.specs.Answer.{Answer}
 use Rattle.machine.specs.Trace.{match_at, taking, all_nullable, take_of, State, start_state, Ended, answer_of}
 use Rattle.machine.specs.Lent.{long_enough}
 use Rattle.machine.specs.Runs.{Matches, Traces, rule_skipped, rule_taken, nothing_matched, rule_untaken, stack_overflowed}

@@ -10,9 +10,8 @@ use Rattle.lexer.specs.Table.{most_rows}
 use Rattle.image.specs.Image.{Image}
 use Rattle.image.specs.ImageReading.{read_image}
 use Rattle.image.specs.laws.ReadableImages.{read_refusal, first-offence_one, stop_offends, read_readable, readable_read}
-use Rattle.machine.specs.Trace.{Ended}
 use Rattle.machine.specs.Lent.{most_text_bytes, lent_entries, Scanner, Lent, stack_alone, Ran, rows_of, turned_away, finished}
-use Rattle.machine.specs.Runs.{Traces, Short, ManyRows, Begins, Runs, short, long_text, unreadable, many_rows, no_entry, started}
+use Rattle.machine.specs.Runs.{Short, ManyRows, Begins, Runs, short, long_text, unreadable, many_rows, no_entry, started}
 use Rattle.machine.specs.Run.{trace, is_short, has_many_rows, run_image, run_reading, run}
 use Rattle.machine.specs.laws.RunLaws.{traces_only, trace_no_entry, trace-some_entry, start_traces}
 
