@@ -26,7 +26,7 @@ use Rattle.image.specs.laws.ReadableImages.{read_readable}
 use Rattle.image.specs.Check.{work_bytes, check, check_answer}
 use Rattle.image.specs.Checks.{Passable}
 use Rattle.image.specs.Write.{Written, written, write, written_part}
-use Rattle.image.specs.Answer.{Answer, answer}
+use Rattle.image.specs.Answer.{Answer}
 use Rattle.machine.specs.Trace.{start_state, answer_of}
 use Rattle.machine.specs.Lent.{most_text_bytes, long_enough, rows_of, winners_of}
 use Rattle.machine.specs.Run.{trace_from, run}

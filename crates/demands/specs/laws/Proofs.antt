@@ -17,7 +17,7 @@ use Rattle.image.specs.ImageFormat.{ReadableAs}
 use Rattle.image.specs.laws.ReadableImages.{readable_one, image_are_bytes}
 use Rattle.image.specs.Unfolding.{DenotedRules}
 use Rattle.image.specs.laws.ImageLaws.{image_denotes}
-use Rattle.image.specs.Check.{work_bytes, check, work_after, Checked, checked}
+use Rattle.image.specs.Check.{work_bytes, work_after, Checked, checked}
 use Rattle.image.specs.Checks.{Checks}
 use Rattle.image.specs.laws.CheckQuestions.{check_answers, checks_only}
 use Rattle.image.specs.Write.{Written, refused, too_long, written, write, written_part, image_after, Wrote, wrote}

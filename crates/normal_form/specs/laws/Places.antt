@@ -143,7 +143,7 @@ usable_still (there u) = there (usable_still u)
 pub usable_again : (Γ : Context) {n : ℕ} {a : LanguageType} → Usable (all_usable (all_usable Γ)) n a → Usable (all_usable Γ) n a
 usable_again (h ∷ Γ) here = here
 usable_again (h ∷ Γ) (there u) = there (usable_again Γ u)
-usable_again [] {n = n} {a = a} x' = elim x' [ ]
+usable_again [] h = elim h [ ]
 
 pub none_usable {ℓ} : {X : Type ℓ} {n : ℕ} {a : LanguageType} → Usable [] n a → X
 none_usable u = absurd (elim u [ ])

@@ -1,6 +1,6 @@
 -- A descent is one: Figure 6 is a function. At an alternative this is what apart means; and a branch that is entered denotes something.
-use Rattle.std.specs.Prelude.{◌≡◌, refl, ◌&&◌, List, [], ◌∷◌, ℕ, ◌≤◌}
-use Rattle.std.proofs.Common.{sym, ap₂, subst, ◌∙◌, true≢false, inl, inr, ⊎_elim, arith}
+use Rattle.std.specs.Prelude.{◌≡◌, refl, ◌&&◌, List, [], ℕ, ◌≤◌}
+use Rattle.std.proofs.Common.{sym, ap₂, subst, ◌∙◌, true≢false, ⊎_elim, arith}
 use Rattle.std.proofs.Math.ListN.{get_or-eq_default}
 use Rattle.basics.specs.laws.BitLaws.{∈_disjoint}
 use Rattle.sheet.specs.Expression.{Expression, size}
@@ -13,7 +13,7 @@ use Rattle.types.specs.Nodes.{Node, epsilon_node, bottom_node, token_node, seque
 use Rattle.normal_form.specs.laws.Places.{nodes-count}
 use Rattle.normal_form.specs.laws.NodeLanguages.{Site, at_first, at_second, site_sound, at_every_node}
 use Rattle.types.specs.NodeLanguages.{language_of}
-use Rattle.types.specs.Languages.{HasWord, Begins}
+use Rattle.types.specs.Languages.{Begins}
 use Rattle.recogniser.specs.Descends.{Descent, left, stuck, Enters, DescendsAt, Descends, DescendsFromStart, entered, not_entered, bottom_fails, epsilon_leaves, token_taken, token_fails, token_missing, sequence_through, sequence_stuck, alternative_leaves, alternative_missing, into_first, into_second, into_neither, into_body, into_fixed_point, repetition_leaves, repetition_done, repetition_through, repetition_stuck}
 
 -- The parts of an alternative begin with no common token, and one of them at most has the empty word.
