@@ -14,7 +14,7 @@ import re
 import sys
 
 ROOT = pathlib.Path(__file__).resolve().parent.parent / "crates"
-USE = re.compile(r"(?:ghost )?use Rattle·(\w+?)(?:·specs)?\.specs\.([\w.]+?)(?:\.\{(.*?)\})?(?: as ([\w-]+))?;?$")
+USE = re.compile(r"(?:ghost )?use Rattle\.(\w+?)\.(?:specs|proofs)\.([\w.]+?)(?:\.\{(.*?)\})?(?: as ([\w-]+))?;?$")
 HEAD = re.compile(r"((?:(?:abbrev|unfoldable|pub)\s+)*)(data |record )?(\S+)\s*([:({].*)?$")
 WORD = re.compile(r"[^\s(){}\[\];,λ|⌜⌝]+")
 
@@ -64,7 +64,7 @@ def imports(module, text):
 
 def load():
     modules = {}
-    for path in ROOT.glob("*/specs/**/*.antt"):
+    for path in [*ROOT.glob("*/specs/**/*.antt"), *ROOT.glob("demands/proofs/laws/Proofs.antt")]:
         crate, _, *inner = path.relative_to(ROOT).with_suffix("").parts
         modules[crate, ".".join(inner)] = Module(path.read_text(encoding="utf-8").split("\n"))
     return modules
@@ -76,12 +76,12 @@ def find(modules, place, word):
     if "." in word and word.split(".")[0] in module.aliases:
         alias, word = word.split(".", 1)
         return own(modules, module.aliases[alias], word)
-    for name in (word, f"_{word}_"):
+    for name in (word, f"◌{word}◌"):
         found = own(modules, place, name) or own(modules, module.uses.get(name), name)
         if found:
             return found
     for name in [*module.names, *module.uses]:
-        if "_" in name and word in [part for part in name.split("_") if part]:
+        if "◌" in name and word in [part for part in name.split("◌") if part]:
             return own(modules, place, name) or own(modules, module.uses.get(name), name)
     return None
 

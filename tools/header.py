@@ -13,7 +13,7 @@ C_TYPES = {"u8": "uint8_t", "u16": "uint16_t", "u64": "uint64_t"}
 def exported():
     """Each exported function's prototype in C: a slice is a pointer and a length, and nothing else is passed."""
     source = (ROOT / "crates/vinzagew/src/lib.rt").read_text(encoding="utf-8")
-    found = re.findall(r'#\[no_mangle\]\s*pub extern "C" fn (\w+)\(([^)]*)\)\s*(.*)', source)
+    found = re.findall(r'#\[unsafe\(no_mangle\)\]\s*pub extern "C" fn (\w+)\(([^)]*)\)\s*(.*)', source)
     if len(found) != source.count("no_mangle"):
         sys.exit("header: an exported function of the source could not be read")
     for name, parameters, rest in found:

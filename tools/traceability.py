@@ -18,11 +18,11 @@ def declared(crate, module):
         text = "\n".join(path.read_text(encoding="utf-8") for path in folder.glob("src/*.rt"))
         return set(re.findall(r"\b(?:fn|struct|enum|const) (\w+)", text))
     place = module.replace(".", "/")
-    path = folder / (place if module.startswith("proofs.") else f"specs/{place}")
-    path = path.with_suffix(".antt")
-    if not path.is_file():
+    sides = [place] if module.startswith("proofs.") else [f"specs/{place}", f"proofs/{place}"]
+    paths = [path for path in ((folder / side).with_suffix(".antt") for side in sides) if path.is_file()]
+    if not paths:
         return None
-    text = re.sub(r"--.*", "", path.read_text(encoding="utf-8"))
+    text = re.sub(r"--.*", "", "\n".join(path.read_text(encoding="utf-8") for path in paths))
     heads = r"^\s*(?:abbrev |unfoldable )?(?:pub )?(?:data |record )?([^\s(){}:]+)\s*(?=[:({])"
     return set(re.findall(heads, text, re.M))
 
