@@ -1,5 +1,7 @@
 // Numbers in groups of seven bits: the reader, the width and the writer that sheets and images share.
 // What a value may be in its field is not asked here, nor whether a padded number is allowed, nor which refusal number a caller reports.
+#![tactic(auto)]
+
 ghost use Rattle.std.specs.Prelude.{◌≡◌, ◌++◌, ◌+◌, ◌*◌, ◌≤◌, ◌<◌, length, drop};
 ghost use Rattle.number.specs.Number.{fewest, judged, decode, encode, written, used, written_at, used_at};
 
