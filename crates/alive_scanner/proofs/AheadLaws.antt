@@ -10,7 +10,7 @@ use Rattle.lexer.specs.Positions.{Position}
 use Rattle.lexer.specs.Match.{no_match, matched}
 use Rattle.lexer.specs.Walk.{longest_match}
 use Rattle.alive_scanner.specs.Ahead.{word_match, Ahead}
-use Rattle.alive_scanner.specs.laws.WordLaws.{word_none}
+use Rattle.alive_scanner.proofs.laws.WordLaws.{word_none}
 
 -- So many words from a place on lead to place p: with the matches from there on, they are matches from the first place on.
 abbrev pub FoundTo : List Position → ℕ → List ℕ → ℕ → ℕ → ℕ → List ℕ → Type 0

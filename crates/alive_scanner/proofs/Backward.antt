@@ -9,13 +9,13 @@ use native.Mathlib.Omega.{arith}
 use lib.Bits.{bit_or, bit_and}
 use lib.ListN.{get_or, drop}
 use Rattle.basics.specs.Bits.{bit, ◌∈◌}
-use Rattle.basics.specs.laws.BitLaws.{∈_cases, ∈_left, ∈_right, ∈_zero, ∈_cond, ∈_when, ∈_one, ∈_self}
-use Rattle.basics.specs.laws.Order.{compare_cases}
+use Rattle.basics.proofs.laws.BitLaws.{∈_cases, ∈_left, ∈_right, ∈_zero, ∈_cond, ∈_when, ∈_one, ∈_self}
+use Rattle.basics.proofs.laws.Order.{compare_cases}
 use Rattle.lexer.specs.Positions.{Position}
 use Rattle.lexer.specs.Walk.{has_byte}
 use Rattle.lexer.specs.Alive.{meets, alive_before}
-use Rattle.lexer.specs.laws.PositionList.{PositionFrom, first_place, later_place, place_within}
-use Rattle.lexer.specs.laws.AliveLaws.{in_both, both_in, same_members, meets-some, last-alive, leading-alive, in_alive}
+use Rattle.lexer.proofs.laws.PositionList.{PositionFrom, first_place, later_place, place_within}
+use Rattle.lexer.proofs.laws.AliveLaws.{in_both, both_in, same_members, meets-some, last-alive, leading-alive, in_alive}
 use Rattle.scanner.specs.ClassTable.{having}
 use Rattle.scanner.specs.Meaning.{HeldAt}
 use Rattle.leading_sets.specs.Leading.{over_positions, leading_part, leading}

@@ -17,11 +17,11 @@ use Rattle.lexer.specs.Match.{Match, no_match, matched, longer}
 use Rattle.lexer.specs.Walk.{keep, follows, ended_rule, longest_match}
 use Rattle.lexer.specs.Alive.{match_bytes, last_set, leads_to, alive_before, alive, cut_walk, cut_bytes}
 use Rattle.lexer.specs.SetWalk.{members, members_from}
-use Rattle.lexer.specs.laws.AliveLaws.{cut_match, cut_ends}
-use Rattle.lexer.specs.laws.SetWalkLaws.{members-zero}
+use Rattle.lexer.proofs.laws.AliveLaws.{cut_match, cut_ends}
+use Rattle.lexer.proofs.laws.SetWalkLaws.{members-zero}
 use Rattle.scanner.specs.Meaning.{Prepared}
 use Rattle.scanner.specs.Sets.{joined, first_entry, match_by}
-use Rattle.scanner.specs.laws.ByteLaws.{and-keep, follows-kept, ended-kept}
+use Rattle.scanner.proofs.laws.ByteLaws.{and-keep, follows-kept, ended-kept}
 use Rattle.leading_sets.specs.Leading.{over_positions, following_part, following}
 
 -- The positions that a byte keeps of those held, alive ones alone, are positions that it keeps of some.

@@ -5,3 +5,4 @@ pub mod Remembered
 pub mod Passes
 pub mod CutWalk
 pub mod AheadLaws
+pub mod laws

@@ -8,7 +8,7 @@ use native.Mathlib.Numerals.{add-one}
 use lib.Bits.{bit_or, bit_and}
 use lib.ListN.{length, get_or, set, drop, drop_of_length-le}
 use lib.Seq.{drop-cons, get_or-set_same, get_or-set_other}
-use Rattle.basics.specs.laws.Order.{lt-or-le}
+use Rattle.basics.proofs.laws.Order.{lt-or-le}
 use Rattle.lexer.specs.Positions.{Position}
 use Rattle.lexer.specs.Alive.{alive_before, alive}
 use Rattle.leading_sets.specs.Leading.{leading}

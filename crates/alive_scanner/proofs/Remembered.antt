@@ -8,7 +8,7 @@ use lib.Bits.{bit_or, or_zero_r}
 use lib.ListN.{length, get_or, set, replicate, length-set, length-replicate, get_or-replicate}
 use lib.Seq.{get_or-set_same, get_or-set_other}
 use Rattle.leading_sets.specs.Leading.{leading, Unions}
-use Rattle.leading_sets.specs.laws.LeadingLaws.{leading_joins}
+use Rattle.leading_sets.proofs.laws.LeadingLaws.{leading_joins}
 
 -- Entry b of `held-sets` is held before entry b of `sets`, whatever positions the unions are of.
 pub record Remembered (last : ℕ) (unions sets held_sets : List ℕ) : Type 0 where

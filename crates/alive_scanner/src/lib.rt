@@ -1,5 +1,7 @@
 // The longest match by alive positions: a walk that keeps these alone ends with its match, so that each byte is walked once. They are found
 // from the right, a block of 1,024 places at a time. When a text is read so, and what a match leads to, is not asked here.
+#![tactic(auto)]
+
 ghost use Rattle.std.specs.Prelude.{◌≡◌, List, ℕ, ◌+◌, ◌*◌, ◌≤◌, ◌<◌, min, length, drop, take};
 ghost use Rattle.std.specs.Int.Bits.{bit_or};
 ghost use Rattle.lexer.specs.Positions.{Position};

@@ -7,7 +7,7 @@ use native.Mathlib.Decide.{dec_lt}
 use lib.ListN.{length, set}
 use borrow.Author.Fill.{fill_more}
 use Rattle.buffers.specs.Cleared.{cleared}
-use Rattle.buffers.specs.laws.ClearedLaws.{cleared-front, cleared-all}
+use Rattle.buffers.proofs.laws.ClearedLaws.{cleared-front, cleared-all}
 
 pub cleared-none : (d : List ℕ) → d ≡ cleared 0 d
 cleared-none d = sym (cleared-front 0 d (omega arith))

@@ -1,3 +1,2 @@
 -- Buffers with their front cleared.
 pub mod Cleared
-pub mod laws

@@ -1,4 +1,6 @@
 // Filling the front of a lent buffer with zeros. How much of a buffer is to be cleared, and when, is the callers' business.
+#![tactic(auto)]
+
 ghost use Rattle.std.specs.Prelude.{◌≡◌, min, length};
 ghost use Rattle.buffers.specs.Cleared.{cleared};
 

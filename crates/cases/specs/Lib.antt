@@ -9,4 +9,3 @@ pub mod WordCases
 pub mod TableCases
 pub mod RecogniserCases
 pub mod UnfinishedCases
-pub mod laws

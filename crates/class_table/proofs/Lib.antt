@@ -1,3 +1,4 @@
 -- The laws that the functions' proofs cite.
 pub mod Toggling
 pub mod Sweeping
+pub mod laws

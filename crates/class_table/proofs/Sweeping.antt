@@ -9,7 +9,7 @@ use native.Mathlib.Numerals.{add-one}
 use lib.Bits.{bit_xor, xor_zero_l}
 use lib.ListN.{length, get_or, set, length-set}
 use lib.Seq.{get_or-set_same, get_or-set_other}
-use Rattle.basics.specs.laws.Order.{lt-or-le}
+use Rattle.basics.proofs.laws.Order.{lt-or-le}
 use Rattle.class_table.specs.Filling.{swept}
 
 -- The set that is carried to a byte.

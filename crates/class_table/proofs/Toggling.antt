@@ -14,10 +14,10 @@ use Rattle.lexer.specs.Positions.{Position}
 use lib.Seq.{get_or-set_same, get_or-set_other}
 use borrow.Author.Tests.{ne_eqb, eqb-true, eqb-false}
 use Rattle.basics.specs.Bits.{bit}
-use Rattle.basics.specs.laws.BitLaws.{bit-xor, bit_ext_all}
+use Rattle.basics.proofs.laws.BitLaws.{bit-xor, bit_ext_all}
 use Rattle.class_table.specs.Filling.{edge}
 use Rattle.class_table.specs.Holding.{Toggled, Joined}
-use Rattle.class_table.specs.laws.JoiningLaws.{false-xor, xor-false}
+use Rattle.class_table.proofs.laws.JoiningLaws.{false-xor, xor-false}
 
 -- A set toggled in one entry.
 abbrev pub toggle : List ℕ → ℕ → ℕ → List ℕ

@@ -1,5 +1,7 @@
 // The lexer's part of the machine's tables, filled while an image is read: the class table in words 0 to 255, the positions' follow sets
 // from word 256 on, their rules from word 320 on. What a scanner makes of them is not asked here.
+#![tactic(auto)]
+
 ghost use Rattle.std.specs.Prelude.{◌≡◌, ◌<◌, length};
 ghost use Rattle.class_table.specs.Holding.{Toggled, Joined, SweptOver};
 

@@ -1,7 +1,3 @@
--- The laws of what columns hold, proved.
-pub mod ColumnLaws
+-- Definitions that the laws speak of, and that definitions or contracts cite too.
 pub mod Joining
-pub mod HeldAt
-pub mod HeldOnce
 pub mod Within
-pub mod TabulateLaws

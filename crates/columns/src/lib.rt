@@ -1,6 +1,8 @@
 // The columns in which code holds a sheet that was read, its nodes with their links and types, and its positions: one entry an item,
 // a node or a position, by value. They are small enough to be passed on by value, and so no lent buffer has to be described.
 // And what a regex node's tag tells of the nodes after it. How columns are filled is other crates' business.
+#![tactic(auto)]
+
 ghost use Rattle.std.specs.Prelude.{◌≡◌};
 ghost use Rattle.columns.specs.Tags.{parts_of};
 

@@ -3,4 +3,3 @@
 pub mod Demands
 pub mod ImageD
 pub mod Before
-pub mod laws

@@ -2,3 +2,4 @@
 pub mod After
 pub mod NodeKinds
 pub mod Visits
+pub mod laws

@@ -12,11 +12,11 @@ use Rattle.types.specs.NodeLanguages.{language_of}
 use Rattle.types.specs.Nodes.{Node, nodes, node_at}
 use Rattle.types.specs.Types.{HasType}
 use Rattle.recogniser.specs.Descends.{Descent, left, stuck, DescendsAt, Descends, token_taken, sequence_through, sequence_stuck, into_first, into_second, into_body, into_fixed_point, repetition_through, repetition_stuck}
-use Rattle.recogniser.specs.laws.DescentRuns.{repeats_itself}
+use Rattle.recogniser.proofs.laws.DescentRuns.{repeats_itself}
 use Rattle.recogniser.specs.Ranks.{PartsEnd, EndsIn}
 use Rattle.descent_table.specs.TableOf.{tag_at, link_at, up_at, PartsUp, TableOf}
 use Rattle.descent.specs.Steps.{last, begins_with, AnswerFor, comes_to, fails_at, reads, fails, Pending, none_pending, next_pending, Entering, Leaving, Entered, EnterGives, LeaveGives}
-use Rattle.descent.specs.laws.Parts.{parts_within, word_inside, token_at, sequence_at, alternative_at, fixed_point_at, variable_at, repetition_at, bare_never, token_begins, sequence_begins, alternative_begins, body_begins, variable_begins, part_begins, last-front, begun_some, not_begun}
+use Rattle.descent.proofs.laws.Parts.{parts_within, word_inside, token_at, sequence_at, alternative_at, fixed_point_at, variable_at, repetition_at, bare_never, token_begins, sequence_begins, alternative_begins, body_begins, variable_begins, part_begins, last-front, begun_some, not_begun}
 use Rattle.descent.proofs.After.{pending_same, through_part, through_left, own_call}
 
 module _ (e : Expression) (table tokens : List ℕ) where

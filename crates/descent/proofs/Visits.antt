@@ -6,25 +6,25 @@ use mathlib.Core.Logic.{◌⊎◌, ⊎_elim}
 use Prim.Native.Nat.{ℕ, suc, ◌+◌, ◌-◌, ◌*◌, ◌/◌, ◌%◌, ◌≤◌, ◌<◌}
 use native.Mathlib.Omega.{arith}
 use lib.ListN.{length, get_or}
-use Rattle.basics.specs.laws.Order.{lt-or-le}
+use Rattle.basics.proofs.laws.Order.{lt-or-le}
 use Rattle.sheet.specs.Expression.{Expression, size}
 use Rattle.types.specs.Languages.{HasWord}
 use Rattle.types.specs.NodeLanguages.{language_of}
 use Rattle.types.specs.Nodes.{nodes, node_at}
 use Rattle.types.specs.Denotation.{Denotes}
 use Rattle.types.specs.Types.{HasType}
-use Rattle.types.specs.laws.NodeRanges.{size_positive}
+use Rattle.types.proofs.laws.NodeRanges.{size_positive}
 use Rattle.normal_form.specs.Derives.{derives}
 use Rattle.normal_form.specs.RowNames.{derives_at}
-use Rattle.normal_form.specs.laws.DerivesExact.{derives_exact}
-use Rattle.normal_form.specs.laws.NodeLanguages.{start_language}
+use Rattle.normal_form.proofs.laws.DerivesExact.{derives_exact}
+use Rattle.normal_form.proofs.laws.NodeLanguages.{start_language}
 use Rattle.recogniser.specs.Descends.{Descent, left, stuck, DescendsFromStart, entered, not_entered}
 use Rattle.recogniser.specs.Ranks.{EndsIn, most_rank}
-use Rattle.recogniser.specs.laws.Ends.{all_end}
-use Rattle.recogniser.specs.laws.Shortcuts.{NotBegun, leaves_all, stuck_all}
+use Rattle.recogniser.proofs.laws.Ends.{all_end}
+use Rattle.recogniser.proofs.laws.Shortcuts.{NotBegun, leaves_all, stuck_all}
 use Rattle.descent_table.specs.TableOf.{link_at, up_at, null_at, TableOf}
 use Rattle.descent.specs.Steps.{last, begins_with, stuck_at, AnswerFor, comes_to, fails_at, After, nothing_more, goes_on, fails_on, Through, reads, fails, Pending, none_pending, next_pending, Held, Leaving, Visiting, Entered, Left, EnterGives, VisitGives, LeaveGives, FromStart}
-use Rattle.descent.specs.laws.Parts.{word_inside, last-front, last-none, begun_some, not_begun}
+use Rattle.descent.proofs.laws.Parts.{word_inside, last-front, last-none, begun_some, not_begun}
 use Rattle.descent.proofs.After.{after_same, pending_same, own_call}
 
 module _ (e : Expression) (table tokens : List ℕ) where

@@ -9,6 +9,8 @@
 // `falling` is tokens left times 256 plus rank. Each call lowers it, or passes it on: `visit` to `enter` and `leave`, `enter` to the
 // node kinds. The tests of `falling` for 0, and for fewer than one token, are for a table that is no expression's: by one that is, they
 // never hold. An answer is tokens left times 2, and 1 more if the descent is stuck there.
+#![tactic(auto)]
+
 ghost use Rattle.std.specs.Prelude.{◌≡◌, ◌+◌, ◌/◌, ◌≤◌, ◌<◌, length};
 ghost use Rattle.sheet.specs.Expression.{Expression};
 ghost use Rattle.types.specs.Types.{HasType};

@@ -8,14 +8,14 @@ use native.Mathlib.Omega.{arith}
 use lib.ListN.{get_or, length, set, replicate, length-set, length-replicate}
 use lib.Seq.{get_or-set_same, get_or-set_other}
 use Rattle.basics.specs.Bits.{bit}
-use Rattle.basics.specs.laws.Order.{lt-or-le}
+use Rattle.basics.proofs.laws.Order.{lt-or-le}
 use Rattle.sheet.specs.Expression.{Expression}
 use Rattle.columns.specs.declared.NodeLinks.{NodeLinks}
 use Rattle.columns.specs.declared.TypeColumns.{TypeColumns}
 use Rattle.descent_table.specs.TableOf.{TableOf, tag_at, link_at, up_at, null_at, first_at}
 use Rattle.descent_table.specs.HoldsTyped.{HoldsTyped}
 use Rattle.descent_table.specs.Filling.{UpColumn, with_row, RowOf}
-use Rattle.descent_table.specs.laws.TableLaws.{counted, table_of}
+use Rattle.descent_table.proofs.laws.TableLaws.{counted, table_of}
 
 module _ (table : List ℕ) (n tag link up null first : ℕ) (l : n < 64) where
   abbrev by_tag : List ℕ

@@ -12,19 +12,20 @@ use lib.ListN.{get_or, length, set, replicate, length-set, length-replicate}
 use lib.Seq.{get_or-set_same, get_or-set_other}
 use borrow.Author.Tests.{eqb-true, eqb-false, ne_eqb}
 use Rattle.basics.specs.Bits.{bit}
-use Rattle.basics.specs.laws.Order.{lt-or-le}
+use Rattle.basics.proofs.laws.Order.{lt-or-le}
 use Rattle.sheet.specs.Expression.{Expression, size}
 use Rattle.sheet.specs.Limits.{most_tokens}
 use Rattle.types.specs.Nodes.{Node, epsilon_node, bottom_node, token_node, sequence_node, alternative_node, fixed_point_node, variable_node, repetition_node, nodes, node_at}
-use Rattle.types.specs.laws.NodeRanges.{NodeInRange, in_range-more}
+use Rattle.types.specs.laws.NodeRanges.{NodeInRange}
+use Rattle.types.proofs.laws.NodeRanges.{in_range-more}
 use Rattle.columns.specs.HeldNodes.{node_of, held_node, held_nodes}
 use Rattle.columns.specs.declared.NodeLinks.{NodeLinks}
-use Rattle.columns.specs.laws.HeldAt.{node_held, nodes-counted}
+use Rattle.columns.proofs.laws.HeldAt.{node_held, nodes-counted}
 use Rattle.columns.specs.laws.Within.{LinksFit}
-use Rattle.normal_form.specs.laws.Places.{nodes-count}
+use Rattle.normal_form.proofs.laws.Places.{nodes-count}
 use Rattle.descent_table.specs.TableOf.{PartsUp}
 use Rattle.descent_table.specs.Filling.{with_parts, UpColumn}
-use Rattle.descent_table.specs.laws.Above.{PartOf, Reached, up_of, above_at, none_above_first, parts_same}
+use Rattle.descent_table.proofs.laws.Above.{PartOf, Reached, up_of, above_at, none_above_first, parts_same}
 
 -- ---- the parts of one node, by its tag
 

@@ -3,4 +3,3 @@
 pub mod TableOf
 pub mod HoldsTyped
 pub mod Filling
-pub mod laws

@@ -1,5 +1,7 @@
 // The table by which the recogniser descends: an expression's nodes, with what a descent asks of them, in one array.
 // How a descent goes by it is not asked here.
+#![tactic(auto)]
+
 ghost use Rattle.std.specs.Prelude.{◌≡◌, Bool, cond, ◌<◌};
 ghost use Rattle.basics.specs.Bits.{bit};
 ghost use Rattle.sheet.specs.Expression.{Expression};

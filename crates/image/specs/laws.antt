@@ -1,20 +1,5 @@
--- The laws of this crate's definitions, proved; and what only their proofs use.
+-- Definitions that the laws speak of, and that definitions or contracts cite too.
 pub mod Computing
 pub mod FusionLaws
 pub mod NumberingLaws
 pub mod Simulation
-pub mod UnfoldingLaws
-pub mod ImageExamples
-pub mod FormatParts
-pub mod ImageParts
-pub mod ReadableImages
-pub mod UnreadableImages
-pub mod RowRanges
-pub mod ImageLaws
-pub mod ImageLength
-pub mod BufferLaws
-pub mod CheckQuestions
-pub mod CheckNumbers
-pub mod WriteLaws
-pub mod TwinAnswers
-pub mod WriteQuestions

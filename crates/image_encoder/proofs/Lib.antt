@@ -3,3 +3,4 @@
 pub mod Writing
 pub mod Rows
 pub mod Whole
+pub mod laws

@@ -11,11 +11,11 @@ use Rattle.basics.specs.Bits.{bit}
 use Rattle.number.specs.Number.{encode}
 use Rattle.sheet.specs.Expression.{Expression, size}
 use Rattle.sheet.specs.Sheet.{Rule}
-use Rattle.types.specs.laws.LeastTypeLaws.{least_solves}
-use Rattle.types.specs.laws.Typing.{no_fault_typed}
+use Rattle.types.proofs.laws.LeastTypeLaws.{least_solves}
+use Rattle.types.proofs.laws.Typing.{no_fault_typed}
 use Rattle.normal_form.specs.Productions.{Production, row_of}
 use Rattle.normal_form.specs.NormalForm.{normal_form}
-use Rattle.normal_form.specs.laws.ExactRows.{null_is_epsilon}
+use Rattle.normal_form.proofs.laws.ExactRows.{null_is_epsilon}
 use Rattle.production_finder.specs.Columns.{tail_held}
 use Rattle.production_finder.specs.declared.Tail.{Tail}
 use Rattle.image.specs.Fusion.{fused_from, fused}
@@ -23,9 +23,11 @@ use Rattle.image.specs.Image.{flag, all_numbers, production_numbers}
 use Rattle.image.specs.Numbering.{reached, renumbered}
 use Rattle.node_numbering.specs.laws.Below.{concat_below}
 use Rattle.node_numbering.specs.Grammar.{GrammarOf}
-use Rattle.node_numbering.specs.laws.RuleTails.{rule_tail, rule_part, fused-parts}
+use Rattle.node_numbering.specs.laws.RuleTails.{rule_part}
+use Rattle.node_numbering.proofs.laws.RuleTails.{rule_tail, fused-parts}
 use Rattle.node_numbering.specs.declared.Grammar.{Grammar}
-use Rattle.image_encoder.specs.laws.Emitted.{Emitted, emitted_append, emitted_same, emitted_over, one_byte}
+use Rattle.image_encoder.specs.laws.Emitted.{Emitted}
+use Rattle.image_encoder.proofs.laws.Emitted.{emitted_append, emitted_same, emitted_over, one_byte}
 use Rattle.image_encoder.specs.Parts.{mapped_row, production_part, productions_part, row_part, numbered_row_part, rows_part}
 use Rattle.image_encoder.proofs.Writing.{one_more}
 

@@ -16,20 +16,22 @@ use Rattle.normal_form.specs.Productions.{Row, no_productions, row_of}
 use Rattle.normal_form.specs.NormalForm.{normal_form}
 use Rattle.lexer.specs.Positions.{Position, positions}
 use Rattle.columns.specs.HeldPositions.{held_positions}
-use Rattle.columns.specs.laws.HeldAt.{positions-counted, position-held}
+use Rattle.columns.proofs.laws.HeldAt.{positions-counted, position-held}
 use Rattle.columns.specs.declared.PositionColumns.{PositionColumns}
 use Rattle.image.specs.Fusion.{fused}
 use Rattle.image.specs.laws.FusionLaws.{fused_row}
 use Rattle.image.specs.Image.{Image, plain_image, image_bytes, flag, all_numbers, flag_number, position_numbers, row_numbers, image_numbers}
-use Rattle.image.specs.laws.RowRanges.{skips_rule}
+use Rattle.image.proofs.laws.RowRanges.{skips_rule}
 use Rattle.image.specs.Numbering.{reached, numbered}
-use Rattle.basics.specs.laws.Members.{get_or-map-inside}
-use Rattle.image.specs.laws.NumberingLaws.{renumbered_row, numbered-count, numbered-row}
-use Rattle.image.specs.laws.Simulation.{fused_row_of}
-use Rattle.node_numbering.specs.laws.Below.{concat_below, concat_below_list}
+use Rattle.basics.proofs.laws.Members.{get_or-map-inside}
+use Rattle.image.proofs.laws.NumberingLaws.{renumbered_row, numbered-count, numbered-row}
+use Rattle.image.proofs.laws.Simulation.{fused_row_of}
+use Rattle.node_numbering.specs.laws.Below.{concat_below}
+use Rattle.node_numbering.proofs.laws.Below.{concat_below_list}
 use Rattle.node_numbering.specs.Grammar.{GrammarOf}
 use Rattle.node_numbering.specs.declared.Grammar.{Grammar}
-use Rattle.image_encoder.specs.laws.Emitted.{Emitted, emitted_append, emitted_same, emitted_all}
+use Rattle.image_encoder.specs.laws.Emitted.{Emitted}
+use Rattle.image_encoder.proofs.laws.Emitted.{emitted_append, emitted_same, emitted_all}
 use Rattle.image_encoder.specs.Parts.{skip_number, rules_part, position_part, positions_part, mapped_row, row_part, numbered_row_part, rows_part, PartsOf}
 
 -- ---- the rules

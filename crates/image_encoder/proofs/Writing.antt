@@ -11,19 +11,21 @@ use lib.Seq.{length-take-le, get_or-take}
 use Rattle.basics.specs.Bits.{bit}
 use Rattle.basics.specs.Meeting.{number_of}
 use Rattle.number.specs.Number.{encode, used_at}
-use Rattle.number.specs.laws.Splice.{used_at-some, used_at_fits}
+use Rattle.number.proofs.laws.Splice.{used_at-some, used_at_fits}
 use Rattle.production_finder.specs.Columns.{tail_held}
 use Rattle.production_finder.specs.declared.Tail.{Tail}
 use Rattle.columns.specs.HeldPositions.{held_position}
 use Rattle.columns.specs.declared.PositionColumns.{PositionColumns}
 use Rattle.image.specs.Image.{flag, just}
-use Rattle.image.specs.laws.FormatParts.{tail_is}
+use Rattle.image.proofs.laws.FormatParts.{tail_is}
 use Rattle.image.specs.Numbering.{renumbered}
-use Rattle.basics.specs.laws.Members.{get_or-map-inside}
-use Rattle.node_numbering.specs.laws.Below.{concat_below, concat_below_list}
+use Rattle.basics.proofs.laws.Members.{get_or-map-inside}
+use Rattle.node_numbering.specs.laws.Below.{concat_below}
+use Rattle.node_numbering.proofs.laws.Below.{concat_below_list}
 use Rattle.node_numbering.specs.laws.RuleTails.{rule_part}
 use Rattle.node_numbering.specs.declared.Grammar.{Grammar}
-use Rattle.image_encoder.specs.laws.Emitted.{Emitted, emitted_none, emitted_append, emitted_same}
+use Rattle.image_encoder.specs.laws.Emitted.{Emitted}
+use Rattle.image_encoder.proofs.laws.Emitted.{emitted_none, emitted_append, emitted_same}
 use Rattle.image_encoder.specs.Parts.{skip_number, rules_part, position_part, positions_part, production_part}
 
 -- ---- one number

@@ -1,6 +1,8 @@
 // The encoder: the numbers of an image, one after the other, from the columns that checking made. Nodes get their numbers
 // as they are written. The same code measures an image and writes it. Whether there is room (question 11) is the caller's to ask, before
 // the first byte is written.
+#![tactic(auto)]
+
 ghost use Rattle.std.specs.Prelude.{◌≡◌, true, List, [], ◌∷◌, ◌++◌, ℕ, ◌+◌, ◌≤◌, ◌<◌, length, drop};
 ghost use Rattle.basics.specs.Lists.{All};
 ghost use Rattle.basics.specs.Meeting.{meet_all};

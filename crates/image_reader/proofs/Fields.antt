@@ -9,11 +9,11 @@ use lib.Seq.{get_or-take, get_or-drop}
 use lib.Dec.{leb, ltb}
 use lib.Pow.{pow_pos}
 use borrow.Author.Tests.{lt-ltb, le-ltb, le-leb, lt-leb, leb-true}
-use Rattle.basics.specs.laws.Truth.{and-true-first, and-true-second}
-use Rattle.basics.specs.laws.Order.{lt-or-le}
+use Rattle.basics.proofs.laws.Truth.{and-true-first, and-true-second}
+use Rattle.basics.proofs.laws.Order.{lt-or-le}
 use mathlib.Core.Logic.{⊎_elim}
 use Rattle.number.specs.Number.{decode_fewest, encode, encode_in}
-use Rattle.number.specs.laws.Laws.{fewest_within, fewest_bytes, fewest-width}
+use Rattle.number.proofs.laws.Laws.{fewest_within, fewest_bytes, fewest-width}
 use Rattle.number.specs.declared.Number.{Number}
 use Rattle.number.specs.declared.Number.TheVariants as number
 use Rattle.sheet.specs.Field.{Reading, stop, got, and_then, between}

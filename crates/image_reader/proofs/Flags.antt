@@ -11,8 +11,8 @@ use lib.ListN.{length, get_or, length-append, get_or-eq_default, get_or-append}
 use lib.Seq.{get_or_at, ext_get_or}
 use borrow.Author.Tests.{eq-eqb, ne_eqb}
 use Rattle.basics.specs.Bits.{bit}
-use Rattle.basics.specs.laws.BitLaws.{bit-or, bit_one, bit-zero}
-use Rattle.basics.specs.laws.Order.{compare_cases}
+use Rattle.basics.proofs.laws.BitLaws.{bit-or, bit_one, bit-zero}
+use Rattle.basics.proofs.laws.Order.{compare_cases}
 use Rattle.image_reader.specs.Answers.{with_flag}
 use Rattle.image_reader.specs.Tables.{listed, held_flags, FlagsOf}
 

@@ -11,3 +11,4 @@ pub mod Productions
 pub mod Entries
 pub mod Rows
 pub mod Whole
+pub mod laws

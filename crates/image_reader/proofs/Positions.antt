@@ -7,12 +7,12 @@ use native.Mathlib.Omega.{arith}
 use lib.ListN.{length, get_or, length-append}
 use lib.Dec.{eqb}
 use Rattle.basics.specs.Lists.{All}
-use Rattle.basics.specs.laws.Members.{all-append}
+use Rattle.basics.proofs.laws.Members.{all-append}
 use Rattle.basics.specs.Bits.{bit}
 use Rattle.sheet.specs.Field.{got}
 use Rattle.lexer.specs.Positions.{Position}
 use Rattle.class_table.specs.Holding.{no_position, Holding, SweptOver}
-use Rattle.class_table.specs.laws.HoldingLaws.{swept_prepared}
+use Rattle.class_table.proofs.laws.HoldingLaws.{swept_prepared}
 use Rattle.image.specs.ImageReading.{read_position}
 use Rattle.image_reader.specs.Answers.{after, StepAnswers, with_flag}
 use Rattle.image_reader.specs.Decoded.{LexerHeld}

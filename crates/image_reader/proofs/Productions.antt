@@ -12,8 +12,8 @@ use lib.Seq.{get_or-set_same, get_or-set_other}
 use lib.Dec.{eqb, leb, ltb}
 use borrow.Author.Tests.{eq-eqb, ne_eqb, le-ltb}
 use Rattle.basics.specs.Bits.{bit}
-use Rattle.basics.specs.laws.Order.{compare_cases, lt-or-le}
-use Rattle.basics.specs.laws.Truth.{and-true-first}
+use Rattle.basics.proofs.laws.Order.{compare_cases, lt-or-le}
+use Rattle.basics.proofs.laws.Truth.{and-true-first}
 use Rattle.sheet.specs.Field.{Reading, stop, got, and_then, between}
 use Rattle.normal_form.specs.Productions.{Production, production_of, most_tail}
 use Rattle.image.specs.ImageReading.{image_field, read_list, read_production}

@@ -8,7 +8,7 @@ use native.Mathlib.Omega.{arith}
 use lib.ListN.{length, get_or, set, length-append}
 use lib.Seq.{get_or-set_same, get_or-set_other}
 use lib.Dec.{eqb}
-use Rattle.basics.specs.laws.Order.{lt-or-le}
+use Rattle.basics.proofs.laws.Order.{lt-or-le}
 use Rattle.sheet.specs.Field.{got, read_many}
 use Rattle.normal_form.specs.Productions.{Production, Row, row_of, no_productions, production_of}
 use Rattle.image.specs.ImageReading.{read_production, read_row}

@@ -6,7 +6,7 @@ use native.Mathlib.Omega.{arith}
 use native.Mathlib.Numerals.{add-one}
 use lib.ListN.{length, get_or, take, drop, length-append, length-drop}
 use lib.Seq.{take-suc, get_or-drop}
-use Rattle.basics.specs.laws.Members.{all-append}
+use Rattle.basics.proofs.laws.Members.{all-append}
 use Rattle.sheet.specs.Field.{got, between}
 use Rattle.image.specs.ImageReading.{image_field}
 use Rattle.image_reader.proofs.Fields.{field_range, field_one_byte}

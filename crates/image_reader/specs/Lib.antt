@@ -3,4 +3,3 @@
 pub mod Tables
 pub mod Answers
 pub mod Decoded
-pub mod laws

@@ -1,6 +1,8 @@
 // The image reader: an image's bytes are read once, before the text, into tables for the machine. Question 13 is answered here,
 // and no other: the text is not looked at. A number is read only where none was refused before, so that the numbers of a part are read one
 // after the other, and whether all were taken is asked once, at the end of the part. Loops alone do not start after a refusal and stop at one.
+#![tactic(auto)]
+
 ghost use Rattle.std.specs.Prelude.{◌≡◌, true, false, not, ◌&&◌, List, [], ℕ, ◌+◌, ◌-◌, ◌≤◌, ◌<◌, eqb, ltb, length, drop};
 ghost use Rattle.basics.specs.Bits.{bit};
 ghost use Rattle.sheet.specs.Field.{got, between};

@@ -10,7 +10,7 @@ use native.Mathlib.Omega.{arith}
 use lib.Dec.{leb, ltb}
 use lib.ListN.{length, replicate}
 use borrow.Author.Tests.{lt-ltb, le-ltb, lt-leb, le-leb, ltb-false}
-use Rattle.basics.specs.laws.Order.{lt-or-le}
+use Rattle.basics.proofs.laws.Order.{lt-or-le}
 use Rattle.lexer.specs.Positions.{Position}
 use Rattle.lexer.specs.Table.{most_rows, table_rows, table_entries, table_winners}
 use Rattle.basics.specs.Lists.{written_over}

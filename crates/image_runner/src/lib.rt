@@ -1,5 +1,7 @@
 // Running an image over a text with all that a run is lent: a stack, and a table with its winners if the run is to build one. Questions 18,
 // 12 and 19 are answered here, question 13 by the image reader, the others by the turns. One function does it for both ways of lending.
+#![tactic(auto)]
+
 ghost use Rattle.std.specs.Prelude.{◌≡◌, List, ℕ, ◌≤◌, length, replicate};
 ghost use Rattle.image.specs.Image.{Image};
 ghost use Rattle.image.specs.ImageRanges.{InRange};

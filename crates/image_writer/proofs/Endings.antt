@@ -6,27 +6,28 @@ use native.Mathlib.Omega.{arith}
 use lib.ListN.{length, drop}
 use borrow.Author.Tests.{le-leb, lt-leb}
 use Rattle.sheet.specs.Sheet.{Sheet}
-use Rattle.types.specs.laws.Typing.{sheet_typed_iff}
+use Rattle.types.proofs.laws.Typing.{sheet_typed_iff}
 use Rattle.lexer.specs.RuleOrder.{image_sheet}
-use Rattle.lexer.specs.laws.PositionBounds.{positions_in_range}
+use Rattle.lexer.proofs.laws.PositionBounds.{positions_in_range}
 use Rattle.columns.specs.declared.PositionColumns.{PositionColumns}
 use Rattle.position_finder.specs.Answer.{PositionsOf}
 use Rattle.image.specs.Check as check
 use Rattle.image.specs.Write as page
 use Rattle.image.specs.Write.{fitted, after_checking, write_answer, image_after}
 use Rattle.image.specs.Image.{plain_image, image_of, image_bytes}
-use Rattle.image.specs.laws.ImageLength.{plain_fits}
+use Rattle.image.proofs.laws.ImageLength.{plain_fits}
 use Rattle.sheet_checker.specs.Answer as checker
-use Rattle.sheet_checker.specs.laws.AnswerLaws as checker_laws
+use Rattle.sheet_checker.proofs.laws.AnswerLaws as checker_laws
 use Rattle.sheet_checker.specs.Steps.{PassedParts}
 use Rattle.sheet_checker.specs.declared.CheckedSheet.{CheckedSheet}
 use Rattle.sheet_checker.specs.declared.Verdict.TheVariants as verdict_case
 use Rattle.node_numbering.specs.Grammar.{GrammarOf}
-use Rattle.node_numbering.specs.laws.GrammarLaws.{grammar_from, grammar_of}
+use Rattle.node_numbering.specs.laws.GrammarLaws.{grammar_from}
+use Rattle.node_numbering.proofs.laws.GrammarLaws.{grammar_of}
 use Rattle.node_numbering.specs.declared.Grammar.{Grammar}
 use Rattle.image_encoder.specs.Parts.{PartsOf}
 use Rattle.image_writer.specs.Answer.{answer_of, case_of, Ends}
-use Rattle.image_writer.specs.laws.AnswerLaws.{case_answer}
+use Rattle.image_writer.proofs.laws.AnswerLaws.{case_answer}
 use Rattle.image_writer.specs.declared.Written.{Written}
 use Rattle.image_writer.specs.declared.Written.TheVariants.{Done, TooLong, Refused}
 

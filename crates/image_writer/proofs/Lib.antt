@@ -1,3 +1,4 @@
 -- The laws that the proofs of the functions cite.
 pub mod Endings
 pub mod Parts
+pub mod laws

@@ -9,7 +9,7 @@ use Rattle.image.specs.Write as page
 use Rattle.image.specs.Answer.{numbers_of}
 use Rattle.image.specs.Write.{write_answer, image_after, written_part}
 use Rattle.image_writer.specs.Answer.{case_of}
-use Rattle.image_writer.specs.laws.AnswerLaws.{case_done, case_too_long, case_refused}
+use Rattle.image_writer.proofs.laws.AnswerLaws.{case_done, case_too_long, case_refused}
 use Rattle.image_writer.specs.declared.Written.TheVariants.{Done, TooLong, Refused}
 
 module _ (m : page.Written) where

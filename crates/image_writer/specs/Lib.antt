@@ -1,3 +1,2 @@
 -- What writing answers.
 pub mod Answer
-pub mod laws

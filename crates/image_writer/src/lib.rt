@@ -1,5 +1,7 @@
 // Writing a sheet's image: the sheet is checked, its rules are put into the image's order, then question 11 is put, and then the image is
 // written into its buffer. Questions 1 to 10 are the checker's, and no earlier verdict is trusted.
+#![tactic(auto)]
+
 ghost use Rattle.std.specs.Prelude.{◌≡◌, length};
 ghost use Rattle.sheet.specs.Sheet.{Sheet};
 ghost use Rattle.image.specs.Image.{plain_image, image_bytes};

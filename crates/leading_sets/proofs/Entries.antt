@@ -6,7 +6,7 @@ use Prim.Native.Nat.{ℕ, ◌+◌, ◌<◌}
 use native.Mathlib.Omega.{arith}
 use lib.ListN.{length, get_or, set, length-set}
 use lib.Seq.{get_or-set_same, get_or-set_other}
-use Rattle.basics.specs.laws.Order.{lt-or-le}
+use Rattle.basics.proofs.laws.Order.{lt-or-le}
 
 -- Entry z is right if it is f z; the first y of them are.
 pub record FirstEntries (f : ℕ → ℕ) (size y : ℕ) (entries : List ℕ) : Type 0 where

@@ -1,5 +1,7 @@
 // What leads to a set of positions, and what follows one, by a table of unions: one word of each for every choice of eight neighbouring
 // positions, so that a set is answered byte by byte. Which set is asked for, and what becomes of the answer, is not here.
+#![tactic(auto)]
+
 ghost use Rattle.std.specs.Prelude.{◌≡◌, cond, List, ℕ, ◌*◌, ◌/◌, ◌%◌, ◌^◌, ◌≤◌, ◌<◌, drop};
 ghost use Rattle.lexer.specs.Alive.{meets};
 ghost use Rattle.leading_sets.specs.Leading.{leading, following, leading_and_following, set_of_word, UnionsBelow, Unions, Singles};

@@ -1,22 +1,3 @@
--- The laws of this crate's definitions, proved; and what only their proofs use.
-pub mod RuleOrderLaws
+-- Definitions that the laws speak of, and that definitions or contracts cite too.
 pub mod Computing
-pub mod Least
-pub mod SetBounds
-pub mod EmptyWord
-pub mod PositionSets
-pub mod Chains
-pub mod PositionList
-pub mod WalkLaws
-pub mod SetWalkLaws
-pub mod LongestMatchLaws
-pub mod OrderedMatches
 pub mod PositionBounds
-pub mod LowestPosition
-pub mod ToldLaws
-pub mod AliveLaws
-pub mod TableLaws
-pub mod SetWalkExamples
-pub mod TableExamples
-pub mod MatchExamples
-pub mod OrderExamples

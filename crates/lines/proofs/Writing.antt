@@ -10,12 +10,12 @@ use native.Mathlib.Numerals.{add-one}
 use lib.ListN.{length, get_or, drop, set, length-append}
 use lib.Seq.{paste, paste-suc, length-paste, set_split, take-length}
 use Rattle.number.specs.Number.{splice}
-use Rattle.number.specs.laws.Splice.{length-splice, splice-splice}
+use Rattle.number.proofs.laws.Splice.{length-splice, splice-splice}
 use Rattle.lines.specs.declared.Line.{Line}
 use Rattle.lines.specs.declared.Line.TheVariants.{Sheet, Text, Accepted}
 use Rattle.lines.specs.Decimal.{digit, decimal}
 use Rattle.lines.specs.Lines.{sheet_word, text_word, accepted_word, numbers_bytes, line_bytes}
-use Rattle.lines.specs.laws.DecimalLaws.{decimal_one, decimal-more}
+use Rattle.lines.proofs.laws.DecimalLaws.{decimal_one, decimal-more}
 
 -- ---- a byte, and a word byte by byte
 

@@ -3,4 +3,3 @@
 pub mod Decimal
 pub mod Lines
 pub mod Numeral
-pub mod laws

@@ -1,5 +1,7 @@
 // The line that the program prints, as bytes at the front of a lent buffer. Which line it is and
 // where it is printed is the callers' business.
+#![tactic(auto)]
+
 ghost use Rattle.std.specs.Prelude.{◌≡◌, [], ◌∷◌, ◌++◌, ◌+◌, ◌≤◌, ◌<◌, length, drop};
 ghost use Rattle.number.specs.Number.{splice};
 ghost use Rattle.lines.specs.Decimal.{decimal};

@@ -6,13 +6,13 @@ use Prim.Native.Nat.{ℕ, suc, ◌≤◌, ◌<◌}
 use native.Mathlib.Omega.{arith}
 use lib.ListN.{get_or, length}
 use Rattle.basics.specs.Lists.{All}
-use Rattle.basics.specs.laws.Members.{all_of, all_member}
+use Rattle.basics.proofs.laws.Members.{all_of, all_member}
 use Rattle.lexer.specs.Table.{row_entries, no_winner, match_by_rows}
 use Rattle.lexer.specs.Alive.{Told, told, told_by_rows}
-use Rattle.lexer.specs.laws.TableLaws.{by_rows, told-rows}
+use Rattle.lexer.proofs.laws.TableLaws.{by_rows, told-rows}
 use Rattle.lexer.specs.Walk.{longest_match}
 use Rattle.table_scanner.specs.Rows.{RowsIn}
-use Rattle.table_scanner.specs.laws.BuiltRows.{built-rows}
+use Rattle.table_scanner.proofs.laws.BuiltRows.{built-rows}
 use Rattle.scanner.specs.Meaning.{match_of}
 use Rattle.scanner.specs.declared.Found.{Found}
 use Rattle.image.specs.Image.{Image}

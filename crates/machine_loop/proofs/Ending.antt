@@ -7,7 +7,7 @@ use Rattle.image.specs.Image.{Image}
 use Rattle.image.specs.Answer.{Answer, answer}
 use Rattle.machine.specs.Trace.{start_state, answer_of}
 use Rattle.machine.specs.Run.{trace_from, trace}
-use Rattle.machine.specs.laws.RunLaws.{trace_no_entry, trace-some_entry}
+use Rattle.machine.proofs.laws.RunLaws.{trace_no_entry, trace-some_entry}
 
 module _ (i : Image) (entries : ℕ) (text : List ℕ) where
   pub run_no_entry : entries < 1 → answer 17 0 0 ≡ answer_of (trace i entries text)

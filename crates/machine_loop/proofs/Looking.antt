@@ -9,7 +9,7 @@ use borrow.Author.Tests.{eq-eqb}
 use Rattle.lexer.specs.Match.{Match}
 use Rattle.lexer.specs.Walk.{longest_match}
 use Rattle.lexer.specs.Alive.{walk_bytes, vain, vain_bytes, Told, ends_with, in_vain, told_by, told}
-use Rattle.lexer.specs.laws.AliveLaws.{not_both, told_match, told-vain}
+use Rattle.lexer.proofs.laws.AliveLaws.{not_both, told_match, told-vain}
 use Rattle.scanner.specs.Meaning.{match_of}
 use Rattle.image.specs.Image.{Image}
 use Rattle.alive_scanner.specs.Ahead.{word_match, Ahead}

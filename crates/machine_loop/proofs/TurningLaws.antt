@@ -7,7 +7,7 @@ use native.Mathlib.Omega.{arith}
 use native.Mathlib.Numerals.{add-one}
 use lib.ListN.{length, get_or, drop, drop_of_length-le}
 use lib.Seq.{drop-cons}
-use Rattle.basics.specs.laws.Order.{lt-or-le}
+use Rattle.basics.proofs.laws.Order.{lt-or-le}
 use Rattle.lexer.specs.Match.{matched}
 use Rattle.lexer.specs.Alive.{walk_bytes, vain_bytes, cut_bytes}
 use Rattle.image.specs.Image.{Image}

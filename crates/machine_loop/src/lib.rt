@@ -1,6 +1,8 @@
 // The machine: runs a readable image over a text, turn by turn. Question 17 of a stack without an entry is answered here, the others by the
 // turns. Walks are made once, and again where one is in vain; once these cost too much, the rest is read with alive positions. What is asked
 // before the text is read is not here.
+#![tactic(auto)]
+
 ghost use Rattle.std.specs.Prelude.{◌≡◌, true, List, ℕ, ◌+◌, ◌≤◌, ◌<◌, max, length, replicate, drop};
 ghost use Rattle.lexer.specs.Walk.{longest_match};
 ghost use Rattle.lexer.specs.Alive.{vain_bytes, told};

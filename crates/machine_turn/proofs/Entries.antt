@@ -8,7 +8,7 @@ use lib.ListN.{get_or}
 use borrow.Author.Tests.{eq-eqb, ne_eqb}
 use Rattle.basics.specs.Bits.{bit}
 use Rattle.machine_turn.specs.Stack.{pending}
-use Rattle.machine_turn.specs.laws.StackLaws.{pending-stacked}
+use Rattle.machine_turn.proofs.laws.StackLaws.{pending-stacked}
 use Rattle.machine_turn.specs.Steps.{taker, all_members}
 use Rattle.machine_turn.specs.declared.Taker.{Taker}
 use Rattle.machine_turn.specs.declared.Taker.TheVariants.{Nothing, At}

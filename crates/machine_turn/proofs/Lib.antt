@@ -4,3 +4,4 @@ pub mod Entries
 pub mod Pushing
 pub mod Replacing
 pub mod Answers
+pub mod laws

@@ -1,6 +1,2 @@
--- The laws of this crate's definitions, proved; and what only their proofs use.
-pub mod StackLaws
-pub mod TakingLaws
-pub mod TurnLaws
+-- Definitions that the laws speak of, and that definitions or contracts cite too.
 pub mod Going
-pub mod Places

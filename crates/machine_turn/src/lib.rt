@@ -1,6 +1,8 @@
 // One turn of the machine: a rule that matched is skipped, taken by a pending nonterminal, or refused; and the end of the text.
 // How a match is found, and the turns of a whole run, are not here. The first pending nonterminal is held in the state; the others are
 // entries of the lent stack, one byte each, from entry 1 on, the second of all on top.
+#![tactic(auto)]
+
 ghost use Rattle.std.specs.Prelude.{◌≡◌, List, ℕ, ◌+◌, ◌≤◌, ◌<◌, length, get_or, drop};
 ghost use Rattle.basics.specs.Lists.{All};
 ghost use Rattle.normal_form.specs.Productions.{Row};

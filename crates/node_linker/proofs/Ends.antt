@@ -9,17 +9,18 @@ use lib.ListN.{get_or, take, length, drop_of_length-le, get_or-map}
 use lib.Seq.{get_or-take, ext_get_or}
 use Rattle.sheet.specs.Expression.{Expression, size}
 use Rattle.sheet.specs.Items.{ExpressionItem, epsilon_item}
-use Rattle.sheet.specs.laws.ExpressionItems.{expression_items_of, expression_tag, expression_items_length}
+use Rattle.sheet.specs.laws.ExpressionItems.{expression_items_of, expression_tag}
+use Rattle.sheet.proofs.laws.ExpressionItems.{expression_items_length}
 use Rattle.columns.specs.Holds.{number_after, NodesOf}
 use Rattle.columns.specs.declared.NodeColumns.{NodeColumns}
 use Rattle.types.specs.Nodes.{bottom_node, nodes_from, nodes}
-use Rattle.types.specs.laws.NodeLaws.{nodes-length}
-use Rattle.columns.specs.laws.TabulateLaws.{tabulate-length, tabulate-at}
+use Rattle.types.proofs.laws.NodeLaws.{nodes-length}
+use Rattle.columns.proofs.laws.TabulateLaws.{tabulate-length, tabulate-at}
 use Rattle.columns.specs.HeldNodes.{held_node, held_nodes}
 use Rattle.columns.specs.declared.NodeLinks.{NodeLinks}
 use Rattle.node_linker.specs.declared.Due.{Due}
 use Rattle.columns.specs.Linked.{SheetExpression, LinksOf}
-use Rattle.columns.specs.laws.HeldOnce.{held_once}
+use Rattle.columns.proofs.laws.HeldOnce.{held_once}
 use Rattle.node_linker.proofs.Turn.{Walk, first_walk, whole, walk_step, CanStep}
 use Rattle.node_linker.proofs.Parts.{pending}
 use Rattle.node_linker.proofs.Completed.{completed}

@@ -17,7 +17,8 @@ use Rattle.sheet.specs.laws.ExpressionItems.{expression_items_of}
 use Rattle.sheet.specs.WellFormed.{Closed}
 use Rattle.types.specs.Nodes.{Node, epsilon_node, bottom_node, token_node, sequence_node, alternative_node, fixed_point_node, repetition_node, Binder, no_binder, guard, nodes_from}
 use Rattle.types.specs.NodeNames.{variable_of}
-use Rattle.columns.specs.laws.Joining.{joined, joined_here, joined-below, joined_low}
+use Rattle.columns.specs.laws.Joining.{joined}
+use Rattle.columns.proofs.laws.Joining.{joined_here, joined-below, joined_low}
 use Rattle.columns.specs.HeldNodes.{node_of}
 use Rattle.node_linker.specs.declared.Due.{Due}
 use Rattle.node_linker.specs.Walking.{due, linked}

@@ -9,7 +9,7 @@ use native.Mathlib.Nat.{pow-suc}
 use lib.ListN.{get_or, set, drop, length, length-set}
 use lib.Seq.{get_or-set_same, get_or-set_other}
 use Rattle.basics.specs.Bits.{bit}
-use Rattle.basics.specs.laws.Order.{compare_cases}
+use Rattle.basics.proofs.laws.Order.{compare_cases}
 use Rattle.sheet.specs.Expression.{Expression, size}
 use Rattle.sheet.specs.Items.{ExpressionItem}
 use Rattle.types.specs.Nodes.{Node, bottom_node}

@@ -1,5 +1,7 @@
 // Links: the nodes of an expression with the nodes that each goes by, in one pass over the columns that hold the expression.
 // Types are not computed here.
+#![tactic(auto)]
+
 ghost use Rattle.std.specs.Prelude.{◌≡◌, ◌<◌};
 ghost use Rattle.node_linker.specs.Walking.{due, linked, links_after, owners_after, guarded_after};
 ghost use Rattle.node_linker.specs.Walking.{parts_due, CanLink};

@@ -2,3 +2,4 @@
 pub mod Tails
 pub mod Meeting
 pub mod Reaching
+pub mod laws

@@ -11,17 +11,18 @@ use native.Mathlib.Numerals.{add-one}
 use lib.ListN.{get_or, length, take, drop, length-append, take-append-drop}
 use lib.Seq.{get_or-take, take-suc, take-take, length-take-le}
 use Rattle.basics.specs.Lists.{All}
-use Rattle.basics.specs.laws.Truth.{holds_true}
+use Rattle.basics.proofs.laws.Truth.{holds_true}
 use Rattle.production_finder.specs.Columns.{tail_held}
 use Rattle.production_finder.specs.declared.Tail.{Tail}
-use Rattle.basics.specs.laws.Members.{all-at, member_at}
+use Rattle.basics.proofs.laws.Members.{all-at, member_at}
 use Rattle.basics.specs.Meeting.{is_met, meet, meet_all, number_of}
-use Rattle.basics.specs.laws.MeetingLaws.{Met, first_met, meet_all_order, meet_all_has, number_left}
-use Rattle.basics.specs.laws.Reaching.{meet_all-append}
+use Rattle.basics.specs.laws.MeetingLaws.{Met}
+use Rattle.basics.proofs.laws.MeetingLaws.{first_met, meet_all_order, meet_all_has, number_left}
+use Rattle.basics.proofs.laws.Reaching.{meet_all-append}
 use Rattle.node_numbering.specs.laws.Below.{concat_below}
 use Rattle.node_numbering.specs.Grammar.{Numbers, members_of, numbering_after}
 use Rattle.node_numbering.specs.Leads.{Leads}
-use Rattle.node_numbering.specs.laws.JoinLaws.{node_met}
+use Rattle.node_numbering.proofs.laws.JoinLaws.{node_met}
 use Rattle.node_numbering.specs.laws.RuleTails.{rule_part}
 use Rattle.node_numbering.specs.declared.Numbering.{Numbering}
 

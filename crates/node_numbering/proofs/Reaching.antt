@@ -15,17 +15,19 @@ use Rattle.production_finder.specs.declared.Tail.{Tail}
 use Rattle.image.specs.Fusion.{fused_from, fused}
 use Rattle.image.specs.laws.FusionLaws.{fused_row}
 use Rattle.basics.specs.Lists.{All}
-use Rattle.basics.specs.laws.MeetingLaws.{first_met, meet_all_order}
-use Rattle.basics.specs.laws.Reaching.{rows-more, row_done, rows_done}
+use Rattle.basics.proofs.laws.MeetingLaws.{first_met, meet_all_order}
+use Rattle.basics.proofs.laws.Reaching.{rows-more, row_done, rows_done}
 use Rattle.basics.specs.Meeting.{meet_all, meet_rows}
 use Rattle.image.specs.Numbering.{reached}
-use Rattle.image.specs.laws.NumberingLaws.{tail_members, tails_of}
-use Rattle.image.specs.laws.Simulation.{fused_row_of}
+use Rattle.image.specs.laws.NumberingLaws.{tail_members}
+use Rattle.image.proofs.laws.NumberingLaws.{tails_of}
+use Rattle.image.proofs.laws.Simulation.{fused_row_of}
 use Rattle.node_numbering.specs.laws.Below.{concat_below}
 use Rattle.node_numbering.specs.Grammar.{GrammarOf, Numbers, members_of}
 use Rattle.node_numbering.specs.Leads.{Leads}
-use Rattle.node_numbering.specs.laws.ReachedNodes.{rows-size, reached-here, reached-inside}
-use Rattle.node_numbering.specs.laws.RuleTails.{rule_tail, rule_part, fused-parts, members_are}
+use Rattle.node_numbering.proofs.laws.ReachedNodes.{rows-size, reached-here, reached-inside}
+use Rattle.node_numbering.specs.laws.RuleTails.{rule_part}
+use Rattle.node_numbering.proofs.laws.RuleTails.{rule_tail, fused-parts, members_are}
 use Rattle.node_numbering.specs.declared.Grammar.{Grammar}
 use Rattle.node_numbering.specs.declared.Numbering.{Numbering}
 use Rattle.node_numbering.proofs.Tails.{members-nodes}

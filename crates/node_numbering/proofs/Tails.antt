@@ -12,14 +12,15 @@ use Rattle.sheet.specs.Sheet.{Rule}
 use Rattle.normal_form.specs.Productions.{Production, row_of, production_of}
 use Rattle.normal_form.specs.NormalForm.{normal_form}
 use Rattle.normal_form.specs.ProductionWalk.{with_head}
-use Rattle.normal_form.specs.laws.Tails.{normal_form-in_range}
+use Rattle.normal_form.proofs.laws.Tails.{normal_form-in_range}
 use Rattle.production_finder.specs.Columns.{tail_held, production_held}
 use Rattle.production_finder.specs.declared.Tail.{Tail}
-use Rattle.normal_form.specs.laws.ProductionLaws.{Found, production_found}
-use Rattle.basics.specs.laws.Members.{all_of, all_member}
+use Rattle.normal_form.proofs.laws.ProductionLaws.{Found, production_found}
+use Rattle.basics.proofs.laws.Members.{all_of, all_member}
 use Rattle.image.specs.laws.Simulation.{tail_of}
 use Rattle.node_numbering.specs.Grammar.{GrammarOf, members_of}
-use Rattle.node_numbering.specs.laws.RuleTails.{action_tail, rule_tail}
+use Rattle.node_numbering.specs.laws.RuleTails.{action_tail}
+use Rattle.node_numbering.proofs.laws.RuleTails.{rule_tail}
 use Rattle.node_numbering.specs.declared.Grammar.{Grammar}
 
 with_head-tail : (t : ℕ) (o : Option (List ℕ)) → tail_of (with_head t o) ≡ o

@@ -1,6 +1,4 @@
--- The laws of this crate's definitions, proved; and what only their proofs use.
+-- Definitions that the laws speak of, and that definitions or contracts cite too.
 pub mod Below
 pub mod RuleTails
-pub mod ReachedNodes
 pub mod GrammarLaws
-pub mod JoinLaws

@@ -1,5 +1,7 @@
 // The numbering of nonterminals, node by node: a node gets its number when it is first met. A rule's production is found by a walk and
 // kept in no table. In which order the nodes are met, and how an image is written, is not said here.
+#![tactic(auto)]
+
 ghost use Rattle.std.specs.Prelude.{◌≡◌, ◌<◌, get_or, length};
 ghost use Rattle.sheet.specs.Expression.{Expression, size};
 ghost use Rattle.normal_form.specs.Productions.{row_of};

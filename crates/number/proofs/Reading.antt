@@ -15,7 +15,7 @@ use lib.Seq.{drop-cons}
 use borrow.Author.Tests.{lt-ltb, le-ltb, lt-leb}
 use Rattle.number.specs.Number.{count, value, highest}
 use Rattle.number.specs.Number.{Front, cut, whole, followed, front, fewest, judged, number_from, decode}
-use Rattle.number.specs.laws.Groups.{count_positive, judged-read}
+use Rattle.number.proofs.laws.Groups.{count_positive, judged-read}
 use Rattle.number.specs.declared.Number.{Number}
 use Rattle.number.specs.declared.Number.TheVariants.{Read, Refused}
 

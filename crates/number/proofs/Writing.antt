@@ -12,7 +12,7 @@ use lib.ListN.{length, get_or, take, drop, set, length-append, length-take, leng
 use lib.Seq.{take_all, take-length, take-suc, drop-cons, set_at, append_snoc, length-take-le}
 use borrow.Author.Tests.{lt-ltb, le-ltb}
 use Rattle.number.specs.Number.{encode_in, encode, used, written, used_at, written_at}
-use Rattle.number.specs.laws.Splice.{written_fits, used_fits, written_short, used_short, written_at_short, used_at_short}
+use Rattle.number.proofs.laws.Splice.{written_fits, used_fits, written_short, used_short, written_at_short, used_at_short}
 
 -- ---- a list from its i-th element on, which is x
 

@@ -1,5 +1,2 @@
--- The laws of this crate's definitions, proved; and what only their proofs use.
-pub mod Groups
-pub mod Laws
-pub mod Splice
+-- Definitions that the laws speak of, and that definitions or contracts cite too.
 pub mod Computing

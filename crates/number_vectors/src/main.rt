@@ -1,6 +1,8 @@
 // Reads the file `numbers`, a vector a line as hexadecimal bytes, and prints what the reader makes of each: value, bytes used and whether
 // they are the same as are written or padded; or `refused`. Nothing is promised here: what reading and writing do is in the contracts of
 // `number`.
+#![tactic(auto)]
+
 ghost use Rattle.std.specs.Prelude.{◌+◌, ◌≤◌, ◌<◌, length};
 ghost use Rattle.io.specs.Counts.{IsPrefixLen};
 

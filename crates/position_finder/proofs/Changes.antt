@@ -13,9 +13,9 @@ use lib.ListN.{length, get_or, set, length-set}
 use lib.Seq.{ext_get_or, get_or-set_same, get_or-set_other}
 use borrow.Author.Tests.{lt-ltb, le-ltb, le-leb, lt-leb, eq-eqb, ne_eqb}
 use Rattle.basics.specs.Bits.{bit, ◌∈◌}
-use Rattle.basics.specs.laws.BitLaws.{bit-zero}
-use Rattle.basics.specs.laws.LowestMember.{Lowest, lowest, lowest_in, bit-cleared}
-use Rattle.basics.specs.laws.Order.{compare_cases, lt-or-le}
+use Rattle.basics.proofs.laws.BitLaws.{bit-zero}
+use Rattle.basics.proofs.laws.LowestMember.{Lowest, lowest, lowest_in, bit-cleared}
+use Rattle.basics.proofs.laws.Order.{compare_cases, lt-or-le}
 use Rattle.position_finder.specs.Forests.{changed, joined}
 
 pub changed-length : (a e : ℕ) (f : ℕ → ℕ → ℕ) (i : ℕ) (l : List ℕ) → length (changed a e f i l) ≡ length l

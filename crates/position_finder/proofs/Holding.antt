@@ -10,12 +10,13 @@ use Rattle.basics.specs.Bits.{bit}
 use Rattle.sheet.specs.Regex.{Regex, empty, class, concat, union, star, class_count}
 use Rattle.sheet.specs.Sheet.{Rule}
 use Rattle.sheet.specs.Items.{RegexItem, class_item, item_classes}
-use Rattle.sheet.specs.laws.ListLaws.{flat_map-append}
-use Rattle.sheet.specs.laws.RegexItems.{regex_items_of, items_classes}
+use Rattle.sheet.proofs.laws.ListLaws.{flat_map-append}
+use Rattle.sheet.specs.laws.RegexItems.{regex_items_of}
+use Rattle.sheet.proofs.laws.RegexItems.{items_classes}
 use Rattle.columns.specs.Holds.{low_of, high_of, items_of_rules}
-use Rattle.columns.specs.laws.ColumnLaws.{Starts, low_one, high_one, entries, entry}
+use Rattle.columns.proofs.laws.ColumnLaws.{Starts, low_one, high_one, entries, entry}
 use Rattle.lexer.specs.Positions.{Position, last, follow, part_positions, positions_from}
-use Rattle.lexer.specs.laws.PositionBounds.{class_total}
+use Rattle.lexer.proofs.laws.PositionBounds.{class_total}
 use Rattle.columns.specs.HeldPositions.{held_position, held_from}
 use Rattle.position_finder.specs.Forests.{all_last, all_follow, owner}
 use Rattle.position_finder.proofs.Ranges.{last-here, last_later, follow-here, follow_later, owner-here, owner_later}

@@ -7,13 +7,14 @@ use native.Mathlib.Omega.{arith}
 use lib.ListN.{length, take, drop, get_or, length-drop}
 use lib.Seq.{drop-cons, get_or-take}
 use Rattle.basics.specs.Lists.{sum}
-use Rattle.basics.specs.laws.Members.{sum-append}
+use Rattle.basics.proofs.laws.Members.{sum-append}
 use Rattle.sheet.specs.Regex.{Regex, empty, class, concat, union, star, class_count}
 use Rattle.sheet.specs.Items.{RegexItem, empty_item, class_item, concat_item, union_item, star_item, regex_parts, item_classes}
 use Rattle.sheet.specs.Items.{regex_before, regexes}
-use Rattle.sheet.specs.laws.RegexItems.{regex_items_of, regex_tag, items_classes, regexes_items}
+use Rattle.sheet.specs.laws.RegexItems.{regex_items_of, regex_tag}
+use Rattle.sheet.proofs.laws.RegexItems.{items_classes, regexes_items}
 use Rattle.columns.specs.Tags.{parts_of}
-use Rattle.columns.specs.laws.ColumnLaws.{tag_parts}
+use Rattle.columns.proofs.laws.ColumnLaws.{tag_parts}
 use Rattle.position_finder.specs.Stacks.{TagsHeld}
 
 pub regexes-all : (rs : List Regex) → regexes (flat_map regex_items_of rs) ≡ rs

@@ -16,7 +16,7 @@ use Rattle.sheet.specs.laws.RegexItems.{regex_items_of, regex_tag}
 use Rattle.columns.specs.declared.RuleColumns.{RuleColumns}
 use Rattle.columns.specs.Holds.{low_of, high_of, items_of_rules, RulesOf}
 use Rattle.lexer.specs.Positions.{nullable, first, first_from, first_positions, empty_match, positions}
-use Rattle.lexer.specs.laws.PositionBounds.{class_total, positions-length}
+use Rattle.lexer.proofs.laws.PositionBounds.{class_total, positions-length}
 use Rattle.columns.specs.declared.PositionColumns.{PositionColumns}
 use Rattle.columns.specs.HeldPositions.{held_from, held_positions}
 use Rattle.position_finder.specs.declared.Forest.{Forest}
@@ -25,7 +25,7 @@ use Rattle.position_finder.specs.Stacks.{TagsHeld, Stacked, first_up}
 use Rattle.position_finder.specs.Forests.{all_first, RegexesHeld, ForestOf}
 use Rattle.position_finder.specs.Answer.{empty_rule, PositionsOf}
 use Rattle.position_finder.proofs.Items.{classes-all}
-use Rattle.columns.specs.laws.ColumnLaws.{Starts, low_one, entries}
+use Rattle.columns.proofs.laws.ColumnLaws.{Starts, low_one, entries}
 use Rattle.position_finder.proofs.Holding.{rules_held}
 
 -- The rules' regexes, and what the definitions over rules say of them.

@@ -9,3 +9,4 @@ pub mod RuleLoops
 pub mod Ranges
 pub mod Holding
 pub mod Joined
+pub mod laws

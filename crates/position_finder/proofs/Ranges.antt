@@ -10,10 +10,10 @@ use native.Mathlib.Omega.{arith}
 use lib.Bits.{bit_or, or_zero_r}
 use borrow.Author.Tests.{lt-ltb, le-ltb}
 use Rattle.basics.specs.Bits.{bit, ◌∈◌}
-use Rattle.basics.specs.laws.BitLaws.{bit-or, bit-zero, bit_ext_all, ∈_cases, ∈_zero}
+use Rattle.basics.proofs.laws.BitLaws.{bit-or, bit-zero, bit_ext_all, ∈_cases, ∈_zero}
 use Rattle.sheet.specs.Regex.{Regex, class_count}
 use Rattle.lexer.specs.Positions.{last, follow}
-use Rattle.lexer.specs.laws.PositionSets.{last_within, follow_within}
+use Rattle.lexer.proofs.laws.PositionSets.{last_within, follow_within}
 use Rattle.position_finder.specs.Forests.{all_last, all_follow, owner}
 
 no_member : (s i : ℕ) → (i ∈ s → ⊥) → bit s i ≡ false

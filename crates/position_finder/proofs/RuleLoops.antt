@@ -11,9 +11,9 @@ use lib.Bits.{bit_or, or_zero_r}
 use lib.ListN.{length, drop, get_or, replicate, length-replicate, length-drop, drop_of_length-le}
 use lib.Seq.{drop-cons}
 use borrow.Author.Tests.{lt-ltb, le-ltb}
-use Rattle.basics.specs.laws.BitLaws.{or_assoc}
+use Rattle.basics.proofs.laws.BitLaws.{or_assoc}
 use Rattle.basics.specs.Lists.{sum}
-use Rattle.basics.specs.laws.Order.{lt-or-le}
+use Rattle.basics.proofs.laws.Order.{lt-or-le}
 use Rattle.sheet.specs.Regex.{Regex, empty, class_count}
 use Rattle.lexer.specs.Positions.{first, last}
 use Rattle.position_finder.specs.declared.Sets.{Sets}

@@ -8,7 +8,7 @@ use native.Mathlib.Nat.{add-zero, add_assoc}
 use lib.Bits.{bit_or, or_zero_r, or_comm}
 use lib.ListN.{length, get_or, set}
 use Rattle.basics.specs.Bits.{bit}
-use Rattle.basics.specs.laws.BitLaws.{or_assoc, bit-zero}
+use Rattle.basics.proofs.laws.BitLaws.{or_assoc, bit-zero}
 use Rattle.sheet.specs.Regex.{Regex, empty, class, concat, union, star, class_count}
 use Rattle.sheet.specs.Items.{RegexItem, empty_item, class_item, concat_item, union_item, star_item}
 use Rattle.sheet.specs.Items.{regex_parts, item_classes, regex_before}

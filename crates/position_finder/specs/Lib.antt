@@ -3,4 +3,3 @@ pub mod Stacks
 pub mod Nodes
 pub mod Forests
 pub mod Answer
-pub mod laws

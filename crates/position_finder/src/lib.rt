@@ -1,5 +1,7 @@
 // From the rules of a sheet that was read: question 7 by `empty_rule`, and apart from it, by `positions_of`, the positions with their
 // first, last and follow sets. A set of positions is one number. Which texts match is not asked here.
+#![tactic(auto)]
+
 ghost use Rattle.std.specs.Prelude.{◌≡◌, Bool, false, cond, List, map, ℕ, ◌+◌, ◌≤◌, ◌<◌, length};
 ghost use Rattle.sheet.specs.Regex.{Regex};
 ghost use Rattle.sheet.specs.Sheet.{Rule};

@@ -11,19 +11,20 @@ use borrow.Author.Tests.{lt-ltb}
 use Rattle.basics.specs.Bits.{bit, ◌∈◌}
 use Rattle.sheet.specs.Expression.{Expression, size}
 use Rattle.types.specs.Types.{◌⊢◌∶◌}
-use Rattle.types.specs.laws.NodeRanges.{NodeInRange, node_in_range, nodes-in_range}
+use Rattle.types.specs.laws.NodeRanges.{NodeInRange}
+use Rattle.types.proofs.laws.NodeRanges.{node_in_range, nodes-in_range}
 use Rattle.types.specs.Nodes.{Node, epsilon_node, bottom_node, token_node, sequence_node, alternative_node, fixed_point_node, variable_node, repetition_node, nodes, node_at}
 use Rattle.types.specs.LeastTypes.{type_of, least_types}
 use Rattle.types.specs.Solutions.{next_types}
-use Rattle.types.specs.laws.LeastTypeLaws.{least_solves}
-use Rattle.types.specs.laws.Typing.{no_fault_typed}
+use Rattle.types.proofs.laws.LeastTypeLaws.{least_solves}
+use Rattle.types.proofs.laws.Typing.{no_fault_typed}
 use Rattle.columns.specs.HeldNodes.{held_node}
 use Rattle.normal_form.specs.Productions.{Production, row_of, production_of, most_tail}
 use Rattle.normal_form.specs.NormalForm.{normal_form}
 use Rattle.normal_form.specs.ProductionWalk.{walk_step, walk, walk_of, with_head}
-use Rattle.normal_form.specs.laws.ProductionLaws.{Found, production_found}
-use Rattle.normal_form.specs.laws.ExactRows.{first_has_production}
-use Rattle.normal_form.specs.laws.ProductionWalkLaws.{walk_finds, walk_short, first_has_not}
+use Rattle.normal_form.proofs.laws.ProductionLaws.{Found, production_found}
+use Rattle.normal_form.proofs.laws.ExactRows.{first_has_production}
+use Rattle.normal_form.proofs.laws.ProductionWalkLaws.{walk_finds, walk_short, first_has_not}
 use Rattle.production_finder.specs.Columns.{ColumnsOf, tail_held, production_held}
 use Rattle.production_finder.specs.ColumnWalk.{column_node, column_first, column_walk}
 use Rattle.production_finder.specs.declared.Tail.{Tail}

@@ -13,8 +13,8 @@ use lib.ListN.{get_or, length, set, take, drop, length-set, length-drop, drop_of
 use lib.Seq.{drop-cons, get_or-set_same, drop-set-lt, take_all, take-suc-set, get_or-drop, take-suc}
 use borrow.Author.Tests.{ne_eqb, eq-eqb, eqb-true, lt-ltb, le-ltb}
 use Rattle.basics.specs.Bits.{bit}
-use Rattle.basics.specs.laws.BitLaws.{bit-zero}
-use Rattle.basics.specs.laws.Order.{lt-or-le}
+use Rattle.basics.proofs.laws.BitLaws.{bit-zero}
+use Rattle.basics.proofs.laws.Order.{lt-or-le}
 use Rattle.types.specs.Nodes.{bottom_node}
 use Rattle.columns.specs.HeldNodes.{node_of, held_node}
 use Rattle.normal_form.specs.ProductionWalk.{walk_step, walk}

@@ -1,5 +1,7 @@
 // The normal form without a table: a node's production for a token, found by a walk over the nodes that FIRST guides. Rules and the
 // numbers that nodes get in an image are not spoken of here.
+#![tactic(auto)]
+
 ghost use Rattle.std.specs.Prelude.{◌≡◌, false, List, [], ℕ, ◌≤◌, ◌<◌, drop};
 ghost use Rattle.std.proofs.Math.Option.{some};
 ghost use Rattle.basics.specs.Bits.{bit};

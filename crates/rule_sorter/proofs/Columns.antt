@@ -11,7 +11,7 @@ use lib.Seq.{split_at, take-suc, take_all, take_at, drop_at}
 use Rattle.basics.specs.Lists.{filter}
 use Rattle.sheet.specs.Regex.{empty}
 use Rattle.sheet.specs.Sheet.{Rule}
-use Rattle.sheet.specs.laws.ListLaws.{flat_map-append}
+use Rattle.sheet.proofs.laws.ListLaws.{flat_map-append}
 use Rattle.rule_sorter.specs.Kinds.{of_kind, kind_of, kind_before, part}
 use Rattle.rule_sorter.proofs.Lists.{flat_one, flat_append, flat_partition}
 

@@ -11,10 +11,10 @@ use lib.ListN.{length, get_or, length-append}
 use Rattle.basics.specs.Lists.{sum}
 use Rattle.sheet.specs.Regex.{Regex, empty, class, concat, union, star}
 use Rattle.sheet.specs.Items.{RegexItem, empty_item, class_item, concat_item, union_item, star_item, item_classes, regex_parts}
-use Rattle.sheet.specs.laws.ListLaws.{flat_map-append}
+use Rattle.sheet.proofs.laws.ListLaws.{flat_map-append}
 use Rattle.sheet.specs.laws.RegexItems.{regex_items_of, regex_tag}
 use Rattle.columns.specs.Tags.{parts_of}
-use Rattle.columns.specs.laws.ColumnLaws.{tag_parts}
+use Rattle.columns.proofs.laws.ColumnLaws.{tag_parts}
 use Rattle.lexer.specs.RuleOrder.{is_word}
 use Rattle.rule_sorter.specs.Ends.{classes_of, word_item, BytesAt, ItemsAt, rule_end}
 

@@ -6,8 +6,8 @@ use Prim.Native.Nat.{◌+◌}
 use native.Mathlib.Omega.{arith}
 use lib.ListN.{length, length-append}
 use Rattle.basics.specs.Lists.{filter, sum}
-use Rattle.basics.specs.laws.Partitions.{sum-parts}
-use Rattle.sheet.specs.laws.ListLaws.{flat_map-append}
+use Rattle.basics.proofs.laws.Partitions.{sum-parts}
+use Rattle.sheet.proofs.laws.ListLaws.{flat_map-append}
 
 pub filter-append : {A : Type 0} (p : A → Bool) (k l : List A) → filter p (k ++ l) ≡ filter p k ++ filter p l
 unfolding filter

@@ -14,7 +14,7 @@ use Rattle.sheet.specs.Items.{RegexItem, empty_item, class_item, concat_item, un
 use Rattle.sheet.specs.laws.RegexItems.{regex_items_of, regex_tag}
 use Rattle.columns.specs.declared.RuleColumns.{RuleColumns}
 use Rattle.columns.specs.Holds.{low_of, high_of, items_of_rules, RulesOf}
-use Rattle.columns.specs.laws.ColumnLaws.{Starts, low_one, high_one, entries, entry}
+use Rattle.columns.proofs.laws.ColumnLaws.{Starts, low_one, high_one, entries, entry}
 use Rattle.lexer.specs.RuleOrder.{word_rule}
 use Rattle.rule_sorter.specs.declared.RuleEnd.{RuleEnd}
 use Rattle.rule_sorter.specs.Ends.{BytesAt, ItemsAt, rule_end}

@@ -1,5 +1,7 @@
 // The rules of a sheet in the order in which its image numbers them: the word rules, then the others, each kind in sheet order.
 // Only the columns are put in that order; positions and numbers are made of them by other crates.
+#![tactic(auto)]
+
 ghost use Rattle.std.specs.Prelude.{◌≡◌, not, cond, List, ◌++◌, ℕ, ◌+◌, ◌≤◌, ◌<◌, length, take, get_or};
 ghost use Rattle.sheet.specs.Regex.{Regex};
 ghost use Rattle.sheet.specs.laws.RegexItems.{regex_items_of};

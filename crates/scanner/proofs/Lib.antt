@@ -2,3 +2,4 @@
 pub mod Walked
 pub mod Text
 pub mod Once
+pub mod laws

@@ -13,7 +13,7 @@ use Rattle.lexer.specs.Positions.{Position}
 use Rattle.lexer.specs.Match.{Match, no_match, matched, longer}
 use Rattle.lexer.specs.Walk.{keep, follows, ended_rule, walk, longest_match}
 use Rattle.lexer.specs.Alive.{walk_bytes, match_bytes, ends_with, in_vain, told_by, told}
-use Rattle.lexer.specs.laws.ToldLaws.{told-none, told-whole, told_past, longer_bytes}
+use Rattle.lexer.proofs.laws.ToldLaws.{told-none, told-whole, told_past, longer_bytes}
 use Rattle.scanner.proofs.Text.{walk-start, walk-turn, walk_stops, walk_end}
 
 module _ (ps : List Position) (text : List ℕ) where

@@ -15,8 +15,8 @@ use Rattle.lexer.specs.Positions.{Position}
 use Rattle.lexer.specs.Match.{Match, no_match, longer}
 use Rattle.lexer.specs.Walk.{keep, follows, ended_rule, walk, longest_match}
 use Rattle.lexer.specs.SetWalk.{members}
-use Rattle.lexer.specs.laws.SetWalkLaws.{members-zero, members-step}
-use Rattle.lexer.specs.laws.LowestPosition.{follows_nothing, ended_nothing, walk_nothing}
+use Rattle.lexer.proofs.laws.SetWalkLaws.{members-zero, members-step}
+use Rattle.lexer.proofs.laws.LowestPosition.{follows_nothing, ended_nothing, walk_nothing}
 use Rattle.scanner.specs.declared.EndedBy.{EndedBy}
 use Rattle.scanner.specs.Sets.{first_entry, match_by, latest_ended}
 

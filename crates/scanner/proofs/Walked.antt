@@ -5,9 +5,9 @@ use mathlib.Core.List.{List, [], ◌∷◌, ◌++◌, append-nil, append_assoc}
 use Prim.Native.Nat.{ℕ, ◌<◌, ◌^◌}
 use lib.Bits.{bit_or, or_zero_l, or_zero_r}
 use lib.ListN.{get_or}
-use Rattle.basics.specs.laws.BitLaws.{or_assoc}
+use Rattle.basics.proofs.laws.BitLaws.{or_assoc}
 use Rattle.lexer.specs.SetWalk.{set_walk, members}
-use Rattle.lexer.specs.laws.SetWalkLaws.{members-zero, walk-meets-members}
+use Rattle.lexer.proofs.laws.SetWalkLaws.{members-zero, walk-meets-members}
 use Rattle.scanner.specs.Sets.{joined}
 
 pub record Walked (sets : List ℕ) (set left so_far : ℕ) : Type 0 where

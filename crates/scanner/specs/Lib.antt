@@ -2,4 +2,3 @@
 pub mod ClassTable
 pub mod Meaning
 pub mod Sets
-pub mod laws

@@ -1,5 +1,7 @@
 // The scanner: the longest match at the front of a text, by a walk over positions that the machine's tables hold. Sets of positions are words.
 // Which place of a text the front starts at, and what a match leads to, is not asked here.
+#![tactic(auto)]
+
 ghost use Rattle.std.specs.Prelude.{◌≡◌, ◌∷◌, ◌≤◌, ◌<◌, List, length, drop};
 ghost use Rattle.lexer.specs.Walk.{longest_match};
 ghost use Rattle.lexer.specs.Alive.{told};

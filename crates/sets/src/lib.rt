@@ -1,6 +1,8 @@
 // Sets of numbers below 64, each held as one word: n is a member where the bit of 2^n is set. What the
 // numbers are, nodes, positions, rules or nonterminals, is the callers' to know; a walk over a set's
 // members is not here.
+#![tactic(auto)]
+
 ghost use Rattle.std.specs.Prelude.{◌≡◌, cond, ◌-◌, ◌^◌, ◌≤◌, ◌<◌};
 ghost use Rattle.std.specs.Int.Bits.{bit_or};
 ghost use Rattle.basics.specs.Bits.{bit};

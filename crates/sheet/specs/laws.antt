@@ -1,14 +1,4 @@
--- The laws of this crate's definitions, proved; and what only their proofs use.
+-- Definitions that the laws speak of, and that definitions or contracts cite too.
 pub mod Computing
-pub mod ListLaws
-pub mod FieldLaws
-pub mod NumberLaws
-pub mod FormatLaws
-pub mod SheetAgreement
-pub mod SheetRanges
-pub mod ReadingLaws
-pub mod TwinLaws
 pub mod RegexItems
 pub mod ExpressionItems
-pub mod ItemsRead
-pub mod Examples

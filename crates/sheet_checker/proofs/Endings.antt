@@ -9,30 +9,30 @@ use lib.ListN.{length, get_or, take, length-map}
 use lib.Seq.{get_or-take}
 use borrow.Author.Tests.{lt-ltb, le-ltb}
 use Rattle.buffers.specs.Cleared.{cleared}
-use Rattle.buffers.specs.laws.ClearedLaws.{cleared-front}
+use Rattle.buffers.proofs.laws.ClearedLaws.{cleared-front}
 use Rattle.sheet.specs.Limits.{most_sheet_bytes}
 use Rattle.sheet.specs.Field.{got}
 use Rattle.sheet.specs.Spelling.{Bytes}
 use Rattle.sheet.specs.Reading.{Contents, read_sheet}
-use Rattle.sheet.specs.laws.ReadingLaws.{contents_limits, read_accepted}
+use Rattle.sheet.proofs.laws.ReadingLaws.{contents_limits, read_accepted}
 use Rattle.columns.specs.declared.RuleColumns.{RuleColumns}
 use Rattle.columns.specs.declared.NodeColumns.{NodeColumns}
 use Rattle.sheet_reader.specs.Reads.{Reads}
-use Rattle.sheet_reader.specs.laws.ReadsLaws.{outcome_done, outcome_refused}
+use Rattle.sheet_reader.proofs.laws.ReadsLaws.{outcome_done, outcome_refused}
 use Rattle.sheet_reader.specs.declared.SheetColumns.{SheetColumns}
 use Rattle.sheet_reader.specs.declared.Outcome.TheVariants as read
 use Rattle.types.specs.Questions.{type_fault}
-use Rattle.types.specs.laws.QuestionLaws.{type_fault-first}
+use Rattle.types.proofs.laws.QuestionLaws.{type_fault-first}
 use Rattle.columns.specs.Linked.{SheetExpression}
 use Rattle.type_checker.specs.Checking.{CheckedOf}
 use Rattle.type_checker.specs.Found.{fault_of}
 use Rattle.type_checker.specs.declared.Checked.{Checked}
 use Rattle.type_checker.specs.declared.Fault.TheVariants.{Nothing}
 use Rattle.type_checker.specs.declared.Fault.TheVariants as fault_case
-use Rattle.normal_form.specs.laws.Places.{nodes-count}
+use Rattle.normal_form.proofs.laws.Places.{nodes-count}
 use Rattle.lexer.specs.Positions.{empty_match}
 use Rattle.position_finder.specs.Answer.{empty_rule}
-use Rattle.position_finder.specs.laws.Laws.{found_below, nothing_found}
+use Rattle.position_finder.proofs.laws.Laws.{found_below, nothing_found}
 use Rattle.position_finder.specs.declared.EmptyRule.{EmptyRule}
 use Rattle.position_finder.specs.declared.EmptyRule.TheVariants as sets
 use Rattle.image.specs.Check as page

@@ -4,7 +4,7 @@ use Rattle.sheet.specs.Sheet.{Sheet}
 use Rattle.columns.specs.Holds.{RulesOf}
 use Rattle.columns.specs.declared.RuleColumns.{RuleColumns}
 use Rattle.lexer.specs.RuleOrder.{words_first, image_sheet}
-use Rattle.lexer.specs.laws.OrderedMatches.{ordered_empty_match, ordered_limits}
+use Rattle.lexer.proofs.laws.OrderedMatches.{ordered_empty_match, ordered_limits}
 use Rattle.sheet_checker.specs.Steps.{PassedParts}
 use Rattle.sheet_checker.specs.declared.CheckedSheet.{CheckedSheet}
 use Rattle.sheet_checker.specs.declared.Verdict.TheVariants.{Passed}

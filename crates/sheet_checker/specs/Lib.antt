@@ -1,4 +1,3 @@
 -- What checking answers, and what its steps hold of a sheet that was read.
 pub mod Steps
 pub mod Answer
-pub mod laws

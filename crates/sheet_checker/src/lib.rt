@@ -1,5 +1,7 @@
 // Checking a sheet: questions 1 to 10 in order. Each question is another crate's; here is their order, their places, and what is left
 // in the lent work area. Nothing is done that only writing an image needs: no position is made, no row, and no node is numbered.
+#![tactic(auto)]
+
 ghost use Rattle.std.specs.Prelude.{◌≡◌, length};
 ghost use Rattle.std.proofs.Math.Option.{none};
 ghost use Rattle.sheet.specs.Reading.{Contents};

@@ -10,9 +10,9 @@ use lib.Dec.{eqb, ltb, eqb-suc-zero}
 use lib.ListN.{length, get_or, set, length-set, replicate}
 use lib.Seq.{get_or-set_same, get_or-set_other, set_out}
 use borrow.Author.Tests.{eq-eqb, ne_eqb}
-use Rattle.basics.specs.laws.Order.{compare_cases, lt-or-le}
+use Rattle.basics.proofs.laws.Order.{compare_cases, lt-or-le}
 use Rattle.sheet.specs.Field.{Reading, stop, got, and_then, between}
-use Rattle.sheet.specs.laws.FieldLaws.{Outcome, refused, accepted, then_outcome, outcome_got, true-between}
+use Rattle.sheet.proofs.laws.FieldLaws.{Outcome, refused, accepted, then_outcome, outcome_got, true-between}
 use Rattle.sheet.specs.Items.{ExpressionItem, epsilon_item, bottom_item, token_item, sequence_item, alternative_item, fixed_point_item, variable_item, repetition_item, part_depths}
 use Rattle.sheet.specs.Reading.{sheet_field, ReadNode, expression_item, expression_nodes}
 use Rattle.sheet.specs.laws.ExpressionItems.{expression_tag}

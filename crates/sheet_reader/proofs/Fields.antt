@@ -9,11 +9,11 @@ use lib.Dec.{ltb, leb, leb-zero, leb-suc-suc}
 use lib.ListN.{length}
 use borrow.Author.Tests.{lt-ltb, le-ltb, le-leb, lt-leb}
 use Rattle.number.specs.Number.{decode}
-use Rattle.number.specs.laws.Laws.{decode_within}
+use Rattle.number.proofs.laws.Laws.{decode_within}
 use Rattle.number.specs.declared.Number.{Number}
 use Rattle.number.specs.declared.Number.TheVariants.{Read, Refused}
 use Rattle.sheet.specs.Field.{Reading, stop, got, between, field_of, read_field}
-use Rattle.sheet.specs.laws.FieldLaws.{Outcome, refused, accepted}
+use Rattle.sheet.proofs.laws.FieldLaws.{Outcome, refused, accepted}
 use Rattle.sheet.specs.Reading.{sheet_field}
 use Rattle.sheet_reader.specs.Turns.{in_range, field_answer}
 use Rattle.sheet_reader.specs.declared.Field.{Field}

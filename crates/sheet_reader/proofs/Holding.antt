@@ -7,7 +7,7 @@ use native.Mathlib.Omega.{arith}
 use lib.ListN.{length, take, set, length-append, length-set}
 use lib.Seq.{take-suc-set}
 use Rattle.basics.specs.Lists.{sum}
-use Rattle.sheet.specs.laws.ListLaws.{flat_map-append}
+use Rattle.sheet.proofs.laws.ListLaws.{flat_map-append}
 use Rattle.sheet.specs.Items.{RegexItem, empty_item, class_item, concat_item, union_item, star_item, item_classes, ExpressionItem}
 use Rattle.sheet.specs.Reading.{ReadRule, ReadNode}
 use Rattle.sheet.specs.laws.RegexItems.{regex_tag}

@@ -7,3 +7,4 @@ pub mod RulesLoop
 pub mod ExpressionTurns
 pub mod Holding
 pub mod Whole
+pub mod laws

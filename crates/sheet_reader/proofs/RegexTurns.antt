@@ -8,7 +8,7 @@ use lib.Dec.{eqb, eqb-suc-zero}
 use lib.ListN.{length}
 use borrow.Author.Tests.{eq-eqb, ne_eqb}
 use Rattle.sheet.specs.Field.{Reading, stop, got, and_then, between}
-use Rattle.sheet.specs.laws.FieldLaws.{Outcome, refused, accepted, then_outcome, outcome_got, true-between}
+use Rattle.sheet.proofs.laws.FieldLaws.{Outcome, refused, accepted, then_outcome, outcome_got, true-between}
 use Rattle.sheet.specs.Items.{RegexItem, empty_item, class_item, concat_item, union_item, star_item, regex_parts, item_classes}
 use Rattle.sheet.specs.Reading.{sheet_field, class_after, regex_item, regex_items}
 use Rattle.columns.specs.declared.RuleColumns.{RuleColumns}

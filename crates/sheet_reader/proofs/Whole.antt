@@ -12,12 +12,13 @@ use Rattle.sheet.specs.Regex.{empty}
 use Rattle.sheet.specs.Expression.{bottom}
 use Rattle.sheet.specs.Sheet.{Rule}
 use Rattle.sheet.specs.Field.{Reading, stop, got, and_then, between, read_many}
-use Rattle.sheet.specs.laws.FieldLaws.{Outcome, refused, accepted, then_outcome, outcome_got, true-between, OneAfterOther, many_outcome}
+use Rattle.sheet.proofs.laws.FieldLaws.{Outcome, refused, accepted, then_outcome, outcome_got, true-between, OneAfterOther, many_outcome}
 use Rattle.sheet.specs.Items.{RegexItem, regexes, ExpressionItem, expressions}
-use Rattle.sheet.specs.laws.RegexItems.{regex_items_of, one_regex}
-use Rattle.sheet.specs.laws.ExpressionItems.{one_expression}
+use Rattle.sheet.specs.laws.RegexItems.{regex_items_of}
+use Rattle.sheet.proofs.laws.RegexItems.{one_regex}
+use Rattle.sheet.proofs.laws.ExpressionItems.{one_expression}
 use Rattle.sheet.specs.Reading.{sheet_field, regex_items, ReadRule, ReadNode, Allowance, less_rule, read_rule, expression_nodes, Contents, contents, at_end, read_sheet}
-use Rattle.sheet.specs.laws.ItemsRead.{regexes-read, nodes-read}
+use Rattle.sheet.proofs.laws.ItemsRead.{regexes-read, nodes-read}
 use Rattle.columns.specs.Holds.{items_of_rules, RulesOf, NodesOf}
 use Rattle.columns.specs.declared.RuleColumns.{RuleColumns}
 use Rattle.sheet_reader.specs.Put.{with_all, with_rule, with_read_node, no_rules, no_nodes}

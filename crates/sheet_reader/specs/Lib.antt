@@ -3,4 +3,3 @@ pub mod Put
 pub mod Reads
 pub mod Turns
 pub mod Answers
-pub mod laws

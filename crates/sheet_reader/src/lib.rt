@@ -1,5 +1,7 @@
 // Reading a sheet's bytes into columns, from the left: questions 3 to 6 with their places. Question 2, whether the sheet is
 // short enough, comes before, and the later questions are put to the columns by other crates.
+#![tactic(auto)]
+
 ghost use Rattle.std.specs.Prelude.{◌≡◌, ◌-◌, ◌≤◌, ◌<◌, length, get_or};
 ghost use Rattle.sheet.specs.Reading.{sheet_field, class_after, read_sheet};
 ghost use Rattle.sheet_reader.specs.Put.{pending, with_parts, no_rules, no_nodes};

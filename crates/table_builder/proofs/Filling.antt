@@ -8,18 +8,18 @@ use lib.Bits.{bit_and}
 use lib.ListN.{get_or, length, take, drop, set, length-map}
 use lib.Seq.{paste, paste-suc, take_at, take_all, take-length, take-suc, drop-append-add, drop-drop, get_or-take, length-take-le}
 use borrow.Author.Tests.{ne_eqb}
-use Rattle.basics.specs.laws.BitLaws.{bit_high}
-use Rattle.basics.specs.laws.Members.{all-at}
-use Rattle.basics.specs.laws.Buffers.{written_one}
+use Rattle.basics.proofs.laws.BitLaws.{bit_high}
+use Rattle.basics.proofs.laws.Members.{all-at}
+use Rattle.basics.proofs.laws.Buffers.{written_one}
 use Rattle.basics.specs.Meeting.{number_of}
-use Rattle.basics.specs.laws.Reaching.{flat_map-last}
+use Rattle.basics.proofs.laws.Reaching.{flat_map-last}
 use Rattle.lexer.specs.Positions.{Position}
 use Rattle.lexer.specs.SetWalk.{set_walk, members}
 use Rattle.lexer.specs.Table.{row_entries, no_winner, bytes_from, start_row, held_in, next_sets, table_rows, table_entries}
 use Rattle.lexer.specs.Table.{rule_or_none, winner_in, table_winners}
 use Rattle.basics.specs.Lists.{written_over}
-use Rattle.lexer.specs.laws.TableLaws.{power_some, bytes_count, mapped_byte, rows-length, row-length, rows-front, start-held, start_winner, set_winner, empty_second, entries-length}
-use Rattle.scanner.specs.laws.ByteLaws.{ended_of}
+use Rattle.lexer.proofs.laws.TableLaws.{power_some, bytes_count, mapped_byte, rows-length, row-length, rows-front, start-held, start_winner, set_winner, empty_second, entries-length}
+use Rattle.scanner.proofs.laws.ByteLaws.{ended_of}
 use Rattle.scanner.specs.Meaning.{Prepared}
 use Rattle.scanner.specs.Sets.{joined, first_entry}
 use Rattle.table_builder.specs.Rows.{AllHeld, numbers_by, sets_by}

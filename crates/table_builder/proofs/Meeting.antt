@@ -13,12 +13,13 @@ use lib.Dec.{eqb}
 use lib.ListN.{get_or, length, take, drop, set, length-append, length-take}
 use lib.Seq.{get_or-take, take-suc-set, length-take-le}
 use borrow.Author.Tests.{eq-eqb, ne_eqb}
-use Rattle.basics.specs.laws.Members.{all-append}
-use Rattle.basics.specs.laws.Order.{lt-or-le}
-use Rattle.basics.specs.laws.Truth.{holds_true, true_holds}
+use Rattle.basics.proofs.laws.Members.{all-append}
+use Rattle.basics.proofs.laws.Order.{lt-or-le}
+use Rattle.basics.proofs.laws.Truth.{holds_true, true_holds}
 use Rattle.basics.specs.Meeting.{is_met, meet, meet_all, number_of}
-use Rattle.basics.specs.laws.MeetingLaws.{Met, meet_all_has, number_below}
-use Rattle.basics.specs.laws.Reaching.{meet_all-append}
+use Rattle.basics.specs.laws.MeetingLaws.{Met}
+use Rattle.basics.proofs.laws.MeetingLaws.{meet_all_has, number_below}
+use Rattle.basics.proofs.laws.Reaching.{meet_all-append}
 use Rattle.lexer.specs.Table.{most_rows, bytes_from}
 use Rattle.table_builder.specs.Rows.{AllHeld, RowsHeld, all_held, too_many, sets_by}
 

@@ -11,22 +11,23 @@ use lib.Dec.{eqb}
 use lib.ListN.{get_or, length, take, drop, length-append}
 use lib.Seq.{get_or-take, take-suc, length-take-le}
 use borrow.Author.Tests.{ne_eqb}
-use Rattle.basics.specs.laws.BitLaws.{bit_high}
+use Rattle.basics.proofs.laws.BitLaws.{bit_high}
 use Rattle.basics.specs.Lists.{All}
-use Rattle.basics.specs.laws.Members.{all-at}
-use Rattle.basics.specs.laws.Truth.{or_right}
+use Rattle.basics.proofs.laws.Members.{all-at}
+use Rattle.basics.proofs.laws.Truth.{or_right}
 use Rattle.basics.specs.Meeting.{is_met, meet_all, meet_rows}
-use Rattle.basics.specs.laws.MeetingLaws.{Met, meet_all_keeps}
-use Rattle.basics.specs.laws.Reaching.{row_done, rows_done, rows-more}
+use Rattle.basics.specs.laws.MeetingLaws.{Met}
+use Rattle.basics.proofs.laws.MeetingLaws.{meet_all_keeps}
+use Rattle.basics.proofs.laws.Reaching.{row_done, rows_done, rows-more}
 use Rattle.lexer.specs.Positions.{Position}
-use Rattle.lexer.specs.laws.PositionBounds.{keep-below}
-use Rattle.lexer.specs.laws.SetBounds.{below_power, members_below}
+use Rattle.lexer.proofs.laws.PositionBounds.{keep-below}
+use Rattle.lexer.proofs.laws.SetBounds.{below_power, members_below}
 use Rattle.lexer.specs.SetWalk.{set_walk}
-use Rattle.lexer.specs.laws.SetWalkLaws.{walk-meets-members}
+use Rattle.lexer.proofs.laws.SetWalkLaws.{walk-meets-members}
 use Rattle.lexer.specs.Table.{most_rows, row_entries, bytes_from, start_row, held_in, next_sets, table_rows}
-use Rattle.lexer.specs.laws.TableLaws.{power_some, start-held}
+use Rattle.lexer.proofs.laws.TableLaws.{power_some, start-held}
 use Rattle.lexer.specs.Walk.{keep}
-use Rattle.scanner.specs.laws.ByteLaws.{kept_is, follows_of}
+use Rattle.scanner.proofs.laws.ByteLaws.{kept_is, follows_of}
 use Rattle.scanner.specs.Meaning.{Prepared}
 use Rattle.scanner.specs.Sets.{joined}
 use Rattle.table_builder.specs.Rows.{RowsHeld, all_held, too_many, sets_by, SetsBelow}

@@ -1,5 +1,7 @@
 // The scanner's table of an image: its rows are reached and counted, and only then written. What a run makes of the table is not asked
 // here.
+#![tactic(auto)]
+
 ghost use Rattle.std.specs.Prelude.{◌≡◌, cond, List, ℕ, ◌+◌, ◌^◌, ◌≤◌, ◌<◌, leb, length, take, drop};
 ghost use Rattle.std.proofs.Math.Seq.{paste};
 ghost use Rattle.basics.specs.Meeting.{meet, meet_all, number_of};

@@ -12,7 +12,7 @@ use borrow.Author.Tests.{ne_eqb}
 use Rattle.lexer.specs.Match.{Match, no_match, matched, longer}
 use Rattle.lexer.specs.Table.{row_entries, no_winner, winning, row_walk, match_by_rows}
 use Rattle.lexer.specs.Alive.{match_bytes}
-use Rattle.lexer.specs.laws.ToldLaws.{longer_bytes}
+use Rattle.lexer.proofs.laws.ToldLaws.{longer_bytes}
 use Rattle.table_scanner.specs.Rows.{RowsIn}
 
 -- ---- the table as the code reads it

@@ -10,7 +10,7 @@ use borrow.Author.Tests.{ne_eqb}
 use Rattle.lexer.specs.Match.{no_match, matched}
 use Rattle.lexer.specs.Table.{row_entries, no_winner, match_by_rows}
 use Rattle.lexer.specs.Alive.{ends_with, in_vain, told_by, row_bytes, told_by_rows}
-use Rattle.lexer.specs.laws.ToldLaws.{told-none, told-whole, told_past}
+use Rattle.lexer.proofs.laws.ToldLaws.{told-none, told-whole, told_past}
 use Rattle.table_scanner.proofs.Front.{at_start, front_row, front_match, match_won, match_shorter}
 
 -- ---- how far it goes

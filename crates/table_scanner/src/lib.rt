@@ -1,5 +1,7 @@
 // The walk over the front of a text by the rows of a table, and the longest match that it finds: one entry for each byte walked. How the
 // table is made from an image, and which place of a text the front starts at, is not asked here.
+#![tactic(auto)]
+
 ghost use Rattle.std.specs.Prelude.{◌≡◌, ◌≤◌, length};
 ghost use Rattle.lexer.specs.Table.{match_by_rows};
 ghost use Rattle.lexer.specs.Alive.{told_by_rows};

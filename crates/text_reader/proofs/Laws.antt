@@ -9,25 +9,25 @@ use lib.ListN.{length, take, replicate, length-replicate}
 use borrow.Author.Tests.{lt-ltb, le-ltb, eq-eqb, ne_eqb}
 use Rattle.lines.specs.declared.Line.TheVariants as printed
 use Rattle.sheet.specs.Sheet.{Sheet}
-use Rattle.sheet.specs.laws.FieldLaws.{Bytes}
-use Rattle.sheet.specs.laws.ReadingLaws.{spelled_limits}
+use Rattle.sheet.proofs.laws.FieldLaws.{Bytes}
+use Rattle.sheet.proofs.laws.ReadingLaws.{spelled_limits}
 use Rattle.image.specs.Check.{work_bytes}
 use Rattle.image.specs.Write.{refused, too_long, written, write, image_after}
 use Rattle.image.specs.Write as page
 use Rattle.image.specs.Writes.{Acceptable}
-use Rattle.image.specs.laws.WriteQuestions.{acceptable_written}
-use Rattle.image.specs.laws.BufferLaws.{image-written}
+use Rattle.image.proofs.laws.WriteQuestions.{acceptable_written}
+use Rattle.image.proofs.laws.BufferLaws.{image-written}
 use Rattle.image.specs.Image.{image_of}
-use Rattle.image.specs.laws.ReadableImages.{readable_written}
-use Rattle.image.specs.laws.ImageLength.{image_fits}
-use Rattle.lexer.specs.laws.EmptyWord.{none_empty}
+use Rattle.image.proofs.laws.ReadableImages.{readable_written}
+use Rattle.image.proofs.laws.ImageLength.{image_fits}
+use Rattle.lexer.proofs.laws.EmptyWord.{none_empty}
 use Rattle.image_writer.specs.declared.Written.{Written}
 use Rattle.image_writer.specs.declared.Written.TheVariants.{Done, TooLong, Refused}
 use Rattle.image.specs.Answer.{Answer, answer}
 use Rattle.machine.specs.Lent.{stack_alone, Ran}
 use Rattle.machine.specs.Run.{run}
-use Rattle.machine.specs.laws.RunsLaws.{same_entries}
-use Rattle.demands.specs.laws.Proofs.{own-answer_without}
+use Rattle.machine.proofs.laws.RunsLaws.{same_entries}
+use Rattle.demands.proofs.laws.Proofs.{own-answer_without}
 use Rattle.machine_turn.specs.Steps.{answer_held}
 use Rattle.machine_turn.specs.declared.RunAnswer.{RunAnswer}
 use Rattle.text_reader.specs.declared.TextRead.{TextRead}

@@ -1,5 +1,7 @@
 // Reading a text by a sheet in one call: writes a sheet's image, which checks the sheet, and runs it over a text. Its promise is the sheet's own answer;
 // how an image is written and run is other crates' business.
+#![tactic(auto)]
+
 ghost use Rattle.std.specs.Prelude.{◌≡◌, length};
 ghost use Rattle.image.specs.Check.{work_after};
 ghost use Rattle.image.specs.Write.{write, image_after};

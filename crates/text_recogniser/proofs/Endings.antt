@@ -13,9 +13,9 @@ use Rattle.sheet.specs.Sheet.{Sheet}
 use Rattle.sheet.specs.Expression.{Expression}
 use Rattle.sheet.specs.WellFormed.{WithinLimits}
 use Rattle.types.specs.Types.{HasType}
-use Rattle.types.specs.laws.LeastTypeLaws.{least_solves}
+use Rattle.types.proofs.laws.LeastTypeLaws.{least_solves}
 use Rattle.lexer.specs.RuleOrder.{image_sheet}
-use Rattle.lexer.specs.laws.EmptyWord.{none_empty}
+use Rattle.lexer.proofs.laws.EmptyWord.{none_empty}
 use Rattle.image.specs.Answer.{Answer, answer}
 use Rattle.image.specs.Check.{Verdict, failed, passed}
 use Rattle.machine.specs.Lexes.{Lexeme}
@@ -24,17 +24,17 @@ use Rattle.recogniser.specs.Descending.{descend_whole}
 use Rattle.recogniser.specs.Listing.{Listed, list_tokens}
 use Rattle.recogniser.specs.Recognise.{ending, descent_answer, after_listing, after_checking}
 use Rattle.recogniser.specs.Recognises.{most_recognised_bytes}
-use Rattle.recogniser.specs.laws.DescendingLaws.{descend_whole_descends}
-use Rattle.recogniser.specs.laws.Ends.{shrinks}
-use Rattle.recogniser.specs.laws.ListingLaws.{list_tokens_reads}
-use Rattle.recogniser.specs.laws.OneDescent.{start_one}
-use Rattle.recogniser.specs.laws.Reading.{lexemes_within}
+use Rattle.recogniser.proofs.laws.DescendingLaws.{descend_whole_descends}
+use Rattle.recogniser.proofs.laws.Ends.{shrinks}
+use Rattle.recogniser.proofs.laws.ListingLaws.{list_tokens_reads}
+use Rattle.recogniser.proofs.laws.OneDescent.{start_one}
+use Rattle.recogniser.proofs.laws.Reading.{lexemes_within}
 use Rattle.descent.specs.Steps.{last, AnswerFor, comes_to, fails_at, FromStart}
-use Rattle.descent.specs.laws.Parts.{last-count}
+use Rattle.descent.proofs.laws.Parts.{last-count}
 use Rattle.sheet_checker.specs.Steps.{PassedParts}
 use Rattle.sheet_checker.specs.declared.CheckedSheet.{CheckedSheet}
 use Rattle.descent_table.specs.HoldsTyped.{HoldsTyped}
-use Rattle.descent_table.specs.laws.TableLaws.{holds_typed, has_type}
+use Rattle.descent_table.proofs.laws.TableLaws.{holds_typed, has_type}
 use Rattle.token_lister.specs.Listing.{Written, RulesPassed}
 use Rattle.text_recogniser.specs.Ends.{answer_held, Told, leaves, sticks, EndsAs}
 use Rattle.text_recogniser.specs.declared.Recognition.{Recognition}

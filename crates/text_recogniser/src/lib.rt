@@ -1,5 +1,7 @@
 // Recognising a text by a sheet, as document 001's recogniser does: the sheet is checked, the text's tokens are listed, and the expression
 // itself is descended over them. No image is made or read. Each part is another crate's; here is their order, and what the answer is.
+#![tactic(auto)]
+
 ghost use Rattle.std.specs.Prelude.{◌≡◌, ◌-◌, ◌≤◌, length, take, drop};
 ghost use Rattle.sheet.specs.Sheet.{Sheet};
 ghost use Rattle.lexer.specs.RuleOrder.{image_sheet};

@@ -7,13 +7,13 @@ use lib.ListN.{length, drop, take, get_or, length-drop}
 use lib.Seq.{get_or-take}
 use borrow.Author.Tests.{lt-ltb, le-ltb}
 use Rattle.basics.specs.Lists.{written_over}
-use Rattle.basics.specs.laws.Buffers.{rest_from}
+use Rattle.basics.proofs.laws.Buffers.{rest_from}
 use Rattle.sheet.specs.Sheet.{Rule}
 use Rattle.lexer.specs.Positions.{positions, first_positions}
 use Rattle.lexer.specs.Match.{Match, no_match, matched}
 use Rattle.lexer.specs.Walk.{longest_match}
-use Rattle.lexer.specs.laws.PositionBounds.{rules-below}
-use Rattle.lexer.specs.laws.LongestMatchLaws.{match_within, match_rule-below}
+use Rattle.lexer.proofs.laws.PositionBounds.{rules-below}
+use Rattle.lexer.proofs.laws.LongestMatchLaws.{match_within, match_rule-below}
 use Rattle.scanner.specs.Meaning.{match_of}
 use Rattle.scanner.specs.declared.Found.{Found}
 use Rattle.scanner.specs.declared.Found.TheVariants as found

@@ -5,7 +5,8 @@ use Prim.Native.Nat.{ℕ, ◌≤◌}
 use lib.ListN.{length, take, length-map}
 use Rattle.sheet.specs.Sheet.{Rule, Sheet}
 use Rattle.lexer.specs.Positions.{Position}
-use Rattle.lexer.specs.laws.PositionBounds.{PositionsInRange, positions_in_range}
+use Rattle.lexer.specs.laws.PositionBounds.{PositionsInRange}
+use Rattle.lexer.proofs.laws.PositionBounds.{positions_in_range}
 use Rattle.columns.specs.Holds.{RulesOf}
 use Rattle.columns.specs.HeldPositions.{held_positions}
 use Rattle.columns.specs.declared.RuleColumns.{RuleColumns}

@@ -7,16 +7,16 @@ use native.Mathlib.Numerals.{add-one}
 use lib.ListN.{length, get_or, take}
 use lib.Seq.{take-suc, take_all, length-take-le}
 use Rattle.basics.specs.Bits.{bit}
-use Rattle.basics.specs.laws.Members.{all-at}
+use Rattle.basics.proofs.laws.Members.{all-at}
 use Rattle.lexer.specs.Positions.{Position}
 use Rattle.lexer.specs.laws.PositionBounds.{ByteClass, PositionsInRange}
 use Rattle.columns.specs.HeldPositions.{held_position, held_positions}
-use Rattle.columns.specs.laws.HeldAt.{positions-counted, position-held}
+use Rattle.columns.proofs.laws.HeldAt.{positions-counted, position-held}
 use Rattle.columns.specs.declared.PositionColumns.{PositionColumns}
 use Rattle.scanner.specs.Meaning.{Prepared}
 use Rattle.class_table.specs.Holding.{position, no_position, Joined, Holding, SweptOver}
-use Rattle.class_table.specs.laws.JoiningLaws.{holds_more}
-use Rattle.class_table.specs.laws.HoldingLaws.{swept_prepared}
+use Rattle.class_table.proofs.laws.JoiningLaws.{holds_more}
+use Rattle.class_table.proofs.laws.HoldingLaws.{swept_prepared}
 
 module _ (p : PositionColumns) (rules : ℕ) (most : rules ≤ 32) (range : PositionsInRange rules (held_positions p) p.first) where
   abbrev all : List Position

@@ -5,7 +5,7 @@ use Prim.Native.Nat.{ℕ, zero, suc, ◌+◌, ◌-◌, ◌<◌}
 use native.Mathlib.Omega.{arith}
 use lib.ListN.{length, drop, set, length-append, length-drop}
 use Rattle.basics.specs.Lists.{written_over}
-use Rattle.basics.specs.laws.Buffers.{written_one}
+use Rattle.basics.proofs.laws.Buffers.{written_one}
 use Rattle.recogniser.specs.Listing.{Listed, listed, with_action}
 use Rattle.token_lister.specs.Listing.{joined, Written}
 

@@ -1,5 +1,7 @@
 // A text's tokens by longest match over a sheet's rules: each token into a lent list, where it starts into a lent array. The scanner's
 // tables are made from the rules themselves; no image is made or read, and no expression is asked.
+#![tactic(auto)]
+
 ghost use Rattle.std.specs.Prelude.{◌≡◌, List, [], ℕ, ◌+◌, ◌≤◌, ◌<◌, length};
 ghost use Rattle.sheet.specs.Sheet.{Rule, Sheet};
 ghost use Rattle.lexer.specs.laws.PositionBounds.{PositionsInRange};

@@ -4,3 +4,4 @@ pub mod Question
 pub mod Sets
 pub mod Loops
 pub mod All
+pub mod laws

@@ -16,28 +16,30 @@ use lib.Pow.{pow_pos, pow_mono}
 use lib.Seq.{get_or-set_same, get_or-set_other, ext_get_or}
 use borrow.Author.Tests.{eq-eqb, ne_eqb}
 use Rattle.basics.specs.Bits.{bit, ◌∈◌}
-use Rattle.basics.specs.laws.BitLaws.{bit-or, bit_one, bit-zero, bit-below, lt-pow_self, ∈_cases, ∈_left, ∈_right, ∈_zero, ∈_cond, ∈_when}
+use Rattle.basics.proofs.laws.BitLaws.{bit-or, bit_one, bit-zero, bit-below, lt-pow_self, ∈_cases, ∈_left, ∈_right, ∈_zero, ∈_cond, ∈_when}
 use Rattle.basics.specs.Lists.{or_else}
-use Rattle.basics.specs.laws.Order.{compare_cases, lt-or-le}
+use Rattle.basics.proofs.laws.Order.{compare_cases, lt-or-le}
 use Rattle.types.specs.Types.{LanguageType, bottom_type, alternative_type}
 use Rattle.types.specs.Nodes.{Node, epsilon_node, bottom_node, token_node, sequence_node, alternative_node, fixed_point_node, variable_node, repetition_node, node_at}
 use Rattle.types.specs.LeastTypes.{type_of, node_type, same_type, types_of}
 use Rattle.types.specs.Questions as questions
 use Rattle.types.specs.Questions.{first_fault}
 use Rattle.columns.specs.Tabulate.{tabulate}
-use Rattle.columns.specs.laws.TabulateLaws.{tabulate-length, tabulate-next, tabulate_end}
+use Rattle.columns.proofs.laws.TabulateLaws.{tabulate-length, tabulate-next, tabulate_end}
 use Rattle.columns.specs.laws.Joining.{joined}
 use Rattle.columns.specs.HeldNodes.{node_of, held_node, held_nodes, held_type, held_types}
-use Rattle.columns.specs.laws.HeldAt.{nodes-counted, node_held}
+use Rattle.columns.proofs.laws.HeldAt.{nodes-counted, node_held}
 use Rattle.sheet.specs.Limits.{most_tokens}
-use Rattle.types.specs.laws.NodeRanges.{NodeInRange, in_range-more}
+use Rattle.types.specs.laws.NodeRanges.{NodeInRange}
+use Rattle.types.proofs.laws.NodeRanges.{in_range-more}
 use Rattle.columns.specs.laws.Within.{LinksFit}
 use Rattle.columns.specs.declared.NodeLinks.{NodeLinks}
 use Rattle.columns.specs.declared.TypeColumns.{TypeColumns}
-use Rattle.type_checker.specs.laws.TypeBy.{type_by, fault_by, type_of-listed, node_type_by, node_fault_by}
+use Rattle.type_checker.specs.laws.TypeBy.{type_by, fault_by}
+use Rattle.type_checker.proofs.laws.TypeBy.{type_of-listed, node_type_by, node_fault_by}
 use Rattle.type_checker.specs.Dependents.{GoesBy, DependentsBelow}
 use Rattle.type_checker.specs.Raised.{grown, raised_at}
-use Rattle.type_checker.specs.laws.RaisedLaws.{Settling, steps_left, settling_first, settling_next, settling_falls, settling_done}
+use Rattle.type_checker.proofs.laws.RaisedLaws.{Settling, steps_left, settling_first, settling_next, settling_falls, settling_done}
 use Rattle.type_checker.specs.Found.{language_type, fault_of, asked}
 use Rattle.type_checker.specs.declared.NodeType.{NodeType}
 use Rattle.type_checker.specs.declared.Fault.TheVariants.{Nothing}

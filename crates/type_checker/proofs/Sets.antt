@@ -14,9 +14,9 @@ use lib.Pow.{pow_pos, pow_mono}
 use lib.Seq.{get_or-set_same}
 use borrow.Author.Tests.{eq-eqb, eqb-true}
 use Rattle.basics.specs.Bits.{bit, ◌∈◌}
-use Rattle.basics.specs.laws.BitLaws.{bit-and, bit-or, bit_one, bit_high, ∈_cases, ∈_left, ∈_right, ∈_zero, ∈_cond, ∈_when, ∈_one, ∈_self}
-use Rattle.basics.specs.laws.Order.{lt-or-le}
-use Rattle.basics.specs.laws.Truth.{and-true-second, or-true_left}
+use Rattle.basics.proofs.laws.BitLaws.{bit-and, bit-or, bit_one, bit_high, ∈_cases, ∈_left, ∈_right, ∈_zero, ∈_cond, ∈_when, ∈_one, ∈_self}
+use Rattle.basics.proofs.laws.Order.{lt-or-le}
+use Rattle.basics.proofs.laws.Truth.{and-true-second, or-true_left}
 use Rattle.sheet.specs.Limits.{most_tokens}
 use Rattle.types.specs.Nodes.{Node, epsilon_node, bottom_node, token_node, sequence_node, alternative_node, fixed_point_node, variable_node, repetition_node}
 use Rattle.types.specs.laws.NodeRanges.{NodeInRange}
@@ -24,7 +24,7 @@ use Rattle.columns.specs.HeldNodes.{node_of, held_node}
 use Rattle.columns.specs.laws.Within.{LinksFit}
 use Rattle.columns.specs.declared.NodeLinks.{NodeLinks}
 use Rattle.type_checker.specs.Dependents.{GoesBy, DependentsBelow}
-use Rattle.type_checker.specs.laws.RaisedLaws.{set_entry}
+use Rattle.type_checker.proofs.laws.RaisedLaws.{set_entry}
 
 -- ---- all nodes
 

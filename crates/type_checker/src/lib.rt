@@ -1,5 +1,7 @@
 // Least types of all nodes of an expression, and questions 8 to 10: Figure 2's equations over columns, each applied again once a
 // type has changed that it goes by, and then the first node whose question fails. What a type means is not the code's to know.
+#![tactic(auto)]
+
 ghost use Rattle.std.specs.Prelude.{◌≡◌, Bool, cond, not, suc, ◌^◌, ◌<◌, ◌≤◌};
 ghost use Rattle.types.specs.Types.{if_null, flap_sequence_type, is_bottom, sequence_type, alternative_type, repetition_type};
 ghost use Rattle.types.specs.LeastTypes.{same_type, types_of};

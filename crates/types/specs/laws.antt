@@ -1,30 +1,3 @@
--- The laws of this crate's definitions, proved; and what only their proofs use.
+-- Definitions that the laws speak of, and that definitions or contracts cite too.
 pub mod NodeRanges
 pub mod Computing
-pub mod DenotationLaws
-pub mod Soundness
-pub mod SetOrder
-pub mod BottomTypeLaws
-pub mod SequenceTypeLaws
-pub mod TypeLaws
-pub mod TypeWeight
-pub mod LeastTypeLaws
-pub mod EachFrom
-pub mod QuestionLaws
-pub mod NodeLaws
-pub mod Equations
-pub mod LaidOut
-pub mod TypedAt
-pub mod TypedNodes
-pub mod Typing
-pub mod Passed
-pub mod TypeFaultLaws
-pub mod PutIn
-pub mod SpelledOutPublished
-pub mod SpelledOutDenotation
-pub mod SpelledOutTyping
-pub mod SomeSolution
-pub mod SpelledOutLeast
-pub mod SpelledOutExamples
-pub mod Examples
-pub mod Unfinished

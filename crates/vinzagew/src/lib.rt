@@ -1,5 +1,7 @@
 // The library for other languages: checking, writing, running and recognising with plain parameters. A buffer passes as a pointer and
 // a length. Nothing is worked out here.
+#![tactic(auto)]
+
 ghost use Rattle.std.specs.Prelude.{◌≡◌, [], ◌∷◌, ◌≤◌, length};
 ghost use Rattle.image.specs.Answer.{numbers_of};
 ghost use Rattle.image.specs.Check.{checked};

@@ -1,6 +1,8 @@
 // The program: reads the files `sheet` and `text` of the folder that it runs in, and prints one
 // line. Its bytes are promised for what was loaded. That the files are loaded and the bytes printed
 // is not, for the contracts of reading and writing do not say it.
+#![tactic(auto)]
+
 ghost use Rattle.std.specs.Prelude.{◌≡◌, take};
 ghost use Rattle.io.specs.Counts.{IsPrefixLen};
 ghost use Rattle.lines.specs.Lines.{line_bytes};

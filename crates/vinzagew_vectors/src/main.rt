@@ -1,6 +1,8 @@
 // Outside vectors through the library: reads the files `sheets` (checked, and then written), `read`, `run`, `table`, `program` and
 // `recognise`, a case a line, and prints a line for each. Lent buffers are filled with a pattern first, and a line also says whether they
 // ended as they must. Nothing is promised here: what the library does is in the contracts of the crates that are called.
+#![tactic(auto)]
+
 ghost use Rattle.std.specs.Prelude.{◌≡◌, ◌+◌, ◌*◌, ◌%◌, ◌^◌, ◌<◌, ◌≤◌, length};
 ghost use Rattle.io.specs.Counts.{IsPrefixLen};
 

@@ -9,10 +9,10 @@ use Rattle.lexer.specs.Positions.{Position}
 use Rattle.lexer.specs.Match.{Match, matched}
 use Rattle.lexer.specs.Walk.{longest_match}
 use Rattle.lexer.specs.Alive.{match_bytes}
-use Rattle.lexer.specs.laws.LongestMatchLaws.{match_within}
+use Rattle.lexer.proofs.laws.LongestMatchLaws.{match_within}
 use Rattle.scanner.specs.Meaning.{match_of}
 use Rattle.alive_scanner.specs.Ahead.{word_match}
-use Rattle.alive_scanner.specs.laws.WordLaws.{word_some}
+use Rattle.alive_scanner.proofs.laws.WordLaws.{word_some}
 use Rattle.alive_scanner.specs.Blocks.{HeldBefore, AliveHeld}
 use Rattle.alive_scanner.proofs.AheadLaws.{FoundTo, found_start, found_all, found_more, found_none}
 use Rattle.alive_scanner.proofs.find_ahead.Statement.{statement}

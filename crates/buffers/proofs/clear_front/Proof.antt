@@ -4,7 +4,7 @@ use Prim.Native.Nat.{ℕ, ◌-◌, ◌≤◌}
 use native.Mathlib.Omega.{arith}
 use lib.ListN.{length}
 use Rattle.buffers.specs.Cleared.{cleared}
-use Rattle.buffers.specs.laws.ClearedLaws.{length-cleared}
+use Rattle.buffers.proofs.laws.ClearedLaws.{length-cleared}
 use Rattle.buffers.proofs.Filling.{cleared-none, cleared-more, cleared_stop}
 use Rattle.buffers.proofs.clear_front.Statement.{statement}
 use Rattle.buffers.proofs.clear_front.Tie as tie

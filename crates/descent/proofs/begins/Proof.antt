@@ -2,7 +2,7 @@
 use borrow.Author.Rules.{rules}
 use native.Mathlib.Omega.{arith}
 use mathlib.Core.Path.{◌∙◌}
-use Rattle.descent.specs.laws.Parts.{begins_none, begins_past, begins_has}
+use Rattle.descent.proofs.laws.Parts.{begins_none, begins_past, begins_has}
 use Rattle.descent.proofs.begins.Statement.{statement}
 use Rattle.descent.proofs.begins.Tie as tie
 

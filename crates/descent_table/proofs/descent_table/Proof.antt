@@ -2,7 +2,7 @@
 use Prim.Native.Nat.{◌-◌}
 use native.Mathlib.Omega.{arith}
 use borrow.Author.Rules.{rules}
-use Rattle.descent_table.specs.laws.TableLaws.{links_fit}
+use Rattle.descent_table.proofs.laws.TableLaws.{links_fit}
 use Rattle.descent_table.proofs.Rows.{Filled, filled_first, filled_next, all_filled}
 use Rattle.descent_table.proofs.descent_table.Statement.{statement}
 use Rattle.descent_table.proofs.descent_table.Tie as tie

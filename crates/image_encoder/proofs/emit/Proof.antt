@@ -4,8 +4,8 @@ use Prim.Native.Nat.{ℕ, ◌+◌}
 use native.Mathlib.Omega.{arith}
 use borrow.Author.Rules.{rules}
 use Rattle.image_encoder.proofs.Writing.{used-width}
-use Rattle.image_encoder.specs.laws.Emitted.{emitted_one}
-use Rattle.number.specs.laws.Laws.{encode_ten}
+use Rattle.image_encoder.proofs.laws.Emitted.{emitted_one}
+use Rattle.number.proofs.laws.Laws.{encode_ten}
 use Rattle.image_encoder.proofs.emit.Statement.{statement}
 use Rattle.image_encoder.proofs.emit.Tie as tie
 

@@ -1,7 +1,7 @@
 -- `image_encoder::emit_position` meets its contract: five numbers, one after the other.
 use native.Mathlib.Omega.{arith}
 use borrow.Author.Rules.{rules}
-use Rattle.image_encoder.specs.laws.Emitted.{emitted_append}
+use Rattle.image_encoder.proofs.laws.Emitted.{emitted_append}
 use Rattle.image_encoder.proofs.emit_position.Statement.{statement}
 use Rattle.image_encoder.proofs.emit_position.Tie as tie
 

@@ -12,7 +12,7 @@ use Rattle.basics.specs.Lists.{All}
 use Rattle.basics.specs.Meeting.{meet_all}
 use Rattle.node_numbering.proofs.Meeting.{found_members, member_met, member_number, nothing_met}
 use Rattle.node_numbering.specs.laws.Below.{concat_below}
-use Rattle.node_numbering.specs.laws.JoinLaws.{count_within, met-length, number-length}
+use Rattle.node_numbering.proofs.laws.JoinLaws.{count_within, met-length, number-length}
 use Rattle.node_numbering.specs.Grammar.{Numbers, numbering_of}
 use Rattle.node_numbering.specs.Leads.{Leads}
 use Rattle.image_encoder.proofs.Writing.{nothing_yet, one_more, all_done, member_numbers, same_number, production_emitted}

@@ -13,7 +13,7 @@ use Rattle.image.specs.Fusion.{fused}
 use Rattle.image.specs.Numbering.{reached}
 use Rattle.node_numbering.proofs.Reaching.{Walked, walked_start, node_reached, next_node, row_leads, walked_next, walked_end}
 use Rattle.node_numbering.specs.laws.Below.{concat_below}
-use Rattle.node_numbering.specs.laws.JoinLaws.{start-met}
+use Rattle.node_numbering.proofs.laws.JoinLaws.{start-met}
 use Rattle.node_numbering.specs.Grammar.{GrammarOf, Numbers}
 use Rattle.node_numbering.specs.declared.Numbering.{Numbering}
 use Rattle.image_encoder.proofs.Writing.{nothing_yet}

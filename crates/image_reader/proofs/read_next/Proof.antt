@@ -4,7 +4,7 @@ use borrow.Author.Tests.{not-true, not-false}
 use native.Mathlib.Omega.{arith}
 use mathlib.Core.Path.{◌≡◌, sym, ◌∙◌}
 use Rattle.number.specs.Number.{decode_fewest}
-use Rattle.number.specs.laws.Laws.{none-fewest, padded_refused, fewest-read, fewest_within}
+use Rattle.number.proofs.laws.Laws.{none-fewest, padded_refused, fewest-read, fewest_within}
 use Rattle.number.specs.declared.Number.TheVariants.{Read}
 use Rattle.image_reader.proofs.Fields.{field-allowed, field_forbidden, between_in, between_low, between_high}
 use Rattle.image_reader.proofs.Parts.{field_missing}

@@ -7,12 +7,12 @@ use mathlib.Core.List.{List, []}
 use Prim.Native.Nat.{ℕ, ◌-◌, ◌≤◌, ◌<◌}
 use lib.Dec.{eqb}
 use lib.ListN.{length}
-use Rattle.basics.specs.laws.BitLaws.{shl_one}
+use Rattle.basics.proofs.laws.BitLaws.{shl_one}
 use Rattle.lexer.specs.Positions.{Position}
 use Rattle.image.specs.ImageReading.{read_position}
 use Rattle.image_reader.specs.Answers.{after, positions_in}
 use Rattle.image_reader.specs.Tables.{PositionsHeld}
-use Rattle.class_table.specs.laws.JoiningLaws.{holds_more}
+use Rattle.class_table.proofs.laws.JoiningLaws.{holds_more}
 use Rattle.image_reader.proofs.Positions.{positions-none, positions-more}
 use Rattle.image_reader.proofs.Turns.{Turns, turns_start, turns_more, turns_refused, turns_end, answers_refused}
 use Rattle.image_reader.proofs.read_positions.Statement.{statement}

@@ -4,13 +4,13 @@ use mathlib.Core.Path.{sym, ap, subst, ◌∙◌}
 use mathlib.Core.List.{List, []}
 use Prim.Native.Nat.{ℕ}
 use lib.ListN.{length, length-replicate}
-use Rattle.sheet.specs.laws.FieldLaws.{Bytes}
-use Rattle.image.specs.laws.ReadableImages.{read-in_range}
+use Rattle.sheet.proofs.laws.FieldLaws.{Bytes}
+use Rattle.image.proofs.laws.ReadableImages.{read-in_range}
 use Rattle.class_table.specs.Holding.{Holding}
-use Rattle.class_table.specs.laws.HoldingLaws.{holding_none}
+use Rattle.class_table.proofs.laws.HoldingLaws.{holding_none}
 use Rattle.image_reader.specs.Tables.{Room}
 use Rattle.image_reader.proofs.Whole.{room-whole}
-use Rattle.machine.specs.laws.RunsLaws.{run_stop, run_got}
+use Rattle.machine.proofs.laws.RunsLaws.{run_stop, run_got}
 use Rattle.machine_turn.specs.Steps.{answer_held}
 use Rattle.image_runner.specs.Lending.{lent_by}
 use Rattle.image_runner.proofs.Laws.{left_alone, none_touched}

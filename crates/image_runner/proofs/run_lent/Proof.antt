@@ -7,7 +7,7 @@ use Prim.Native.Nat.{ℕ}
 use Rattle.machine.specs.Lent.{Lent}
 use Rattle.machine.specs.Runs.{Short}
 use Rattle.machine.specs.Run.{run}
-use Rattle.machine.specs.laws.RunsLaws.{short_told, long_told, run_short, run_long}
+use Rattle.machine.proofs.laws.RunsLaws.{short_told, long_told, run_short, run_long}
 use Rattle.machine_turn.specs.Steps.{answer_held}
 use Rattle.machine_turn.specs.declared.RunAnswer.{RunAnswer}
 use Rattle.image_runner.specs.Lending.{scanner_by, lent_by, ran, Untouched}

@@ -7,7 +7,7 @@ use Rattle.lexer.specs.RuleOrder.{image_sheet}
 use Rattle.image.specs.Check as check
 use Rattle.image.specs.Write.{write}
 use Rattle.sheet_checker.specs.Steps.{PassedParts}
-use Rattle.sheet_checker.specs.laws.AnswerLaws.{passed_parts}
+use Rattle.sheet_checker.proofs.laws.AnswerLaws.{passed_parts}
 use Rattle.image_writer.proofs.Endings.{ends_failed, ends_passed, promised}
 use Rattle.image_writer.proofs.write.Statement.{statement}
 use Rattle.image_writer.proofs.write.Tie as tie

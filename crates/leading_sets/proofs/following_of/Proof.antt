@@ -1,7 +1,7 @@
 -- `leading_sets::following_of` meets its contract.
 use mathlib.Core.Path.{◌∙◌}
 use native.Mathlib.Omega.{arith}
-use Rattle.leading_sets.specs.laws.LeadingLaws.{both_upper}
+use Rattle.leading_sets.proofs.laws.LeadingLaws.{both_upper}
 use Rattle.leading_sets.proofs.following_of.Statement.{statement}
 use Rattle.leading_sets.proofs.following_of.Tie as tie
 

@@ -3,7 +3,7 @@ use mathlib.Core.Path.{◌≡◌, ap, ◌∙◌}
 use Prim.Native.Nat.{◌*◌}
 use native.Mathlib.Omega.{arith}
 use Rattle.leading_sets.specs.Leading.{leading_and_following}
-use Rattle.leading_sets.specs.laws.LeadingLaws.{both_lower}
+use Rattle.leading_sets.proofs.laws.LeadingLaws.{both_lower}
 use Rattle.leading_sets.proofs.leading_of.Statement.{statement}
 use Rattle.leading_sets.proofs.leading_of.Tie as tie
 

@@ -8,7 +8,7 @@ use native.Mathlib.Numerals.{add-one}
 use lib.Bits.{bit_or, or_zero_l, or_zero_r}
 use lib.ListN.{get_or, drop}
 use lib.Seq.{get_or-drop}
-use Rattle.basics.specs.laws.BitLaws.{or_assoc}
+use Rattle.basics.proofs.laws.BitLaws.{or_assoc}
 use Rattle.lexer.specs.Alive.{meets}
 use Rattle.leading_sets.specs.Leading.{over_positions, leading_part, leading}
 use Rattle.leading_sets.proofs.leading_to.Statement.{statement}

@@ -1,6 +1,6 @@
 -- `leading_sets::one_if` meets its contract.
 use borrow.Author.Rules.{rules}
-use Rattle.basics.specs.laws.BitLaws.{shl_one}
+use Rattle.basics.proofs.laws.BitLaws.{shl_one}
 use Rattle.leading_sets.proofs.one_if.Statement.{statement}
 use Rattle.leading_sets.proofs.one_if.Tie as tie
 

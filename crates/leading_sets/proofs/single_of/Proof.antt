@@ -7,9 +7,9 @@ use native.Mathlib.Omega.{arith}
 use lib.ListN.{get_or, drop}
 use lib.Pow.{pow-add, pow-lt}
 use lib.Seq.{get_or-drop}
-use Rattle.basics.specs.laws.BitLaws.{shl_one}
+use Rattle.basics.proofs.laws.BitLaws.{shl_one}
 use Rattle.leading_sets.specs.Leading.{leading, leading_and_following}
-use Rattle.leading_sets.specs.laws.LeadingLaws.{both_lower, both_upper, following_one}
+use Rattle.leading_sets.proofs.laws.LeadingLaws.{both_lower, both_upper, following_one}
 use Rattle.leading_sets.proofs.single_of.Statement.{statement}
 use Rattle.leading_sets.proofs.single_of.Tie as tie
 

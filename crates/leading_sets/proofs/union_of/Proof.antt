@@ -6,9 +6,9 @@ use Prim.Native.Nat.{ℕ, suc, ◌+◌, ◌-◌, ◌*◌, ◌/◌, ◌%◌, ◌^
 use native.Mathlib.Omega.{arith}
 use lib.Bits.{bit_or, or_zero_l, or_zero_r}
 use lib.ListN.{get_or}
-use Rattle.basics.specs.laws.BitLaws.{or_assoc}
+use Rattle.basics.proofs.laws.BitLaws.{or_assoc}
 use Rattle.leading_sets.specs.Leading.{leading_and_following, Unions}
-use Rattle.leading_sets.specs.laws.LeadingLaws.{both_join, bytes_joined, bytes_few, bytes_fewer}
+use Rattle.leading_sets.proofs.laws.LeadingLaws.{both_join, bytes_joined, bytes_few, bytes_fewer}
 use Rattle.leading_sets.proofs.union_of.Statement.{statement}
 use Rattle.leading_sets.proofs.union_of.Tie as tie
 

@@ -8,9 +8,9 @@ use lib.Bits.{bit_or}
 use lib.Count.{count_trailing_zeros}
 use lib.ListN.{get_or}
 use lib.Pow.{pow_pos}
-use Rattle.basics.specs.laws.BitLaws.{shl_one}
+use Rattle.basics.proofs.laws.BitLaws.{shl_one}
 use Rattle.leading_sets.specs.Leading.{leading_and_following, set_of_word, UnionsBelow, Singles}
-use Rattle.leading_sets.specs.laws.LeadingLaws.{both_join, LowestOfByte, lowest_of_byte}
+use Rattle.leading_sets.proofs.laws.LeadingLaws.{both_join, LowestOfByte, lowest_of_byte}
 use Rattle.leading_sets.proofs.word_of.Statement.{statement}
 use Rattle.leading_sets.proofs.word_of.Tie as tie
 

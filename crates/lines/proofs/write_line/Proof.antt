@@ -1,7 +1,7 @@
 -- `lines::write_line` meets its contract: a call for each kind of line, which has room.
 use native.Mathlib.Omega.{arith}
 use borrow.Author.Rules.{rules}
-use Rattle.lines.specs.laws.LineLaws.{one_number, two_numbers}
+use Rattle.lines.proofs.laws.LineLaws.{one_number, two_numbers}
 use Rattle.lines.proofs.Writing.{line_put, sheet_line, text_line, accepted_line}
 use Rattle.lines.proofs.write_line.Statement.{statement}
 use Rattle.lines.proofs.write_line.Tie as tie

@@ -8,7 +8,7 @@ use Prim.Native.Nat.{ℕ, suc, ◌≤◌}
 use native.Mathlib.Omega.{arith}
 use lib.ListN.{length, get_or, drop, drop_of_length-le, length-drop}
 use lib.Seq.{drop-cons}
-use Rattle.basics.specs.laws.Buffers.{rest_from}
+use Rattle.basics.proofs.laws.Buffers.{rest_from}
 use Rattle.lexer.specs.Alive.{told}
 use Rattle.alive_scanner.specs.Ahead.{Ahead}
 use Rattle.machine_loop.specs.Turning.{SeenBy, SeenAt}

@@ -13,8 +13,9 @@ use Rattle.machine_turn.specs.Steps.{answer_held}
 use Rattle.machine_turn.specs.declared.State.{State}
 use Rattle.machine_turn.specs.declared.Turn.{Turn}
 use Rattle.machine_turn.specs.declared.Turn.TheVariants.{Next}
-use Rattle.machine_turn.specs.laws.StackLaws.{ready_entries}
-use Rattle.machine_turn.specs.laws.Going.{Going, going_ends}
+use Rattle.machine_turn.proofs.laws.StackLaws.{ready_entries}
+use Rattle.machine_turn.specs.laws.Going.{Going}
+use Rattle.machine_turn.proofs.laws.Going.{going_ends}
 use Rattle.alive_scanner.specs.Blocks.{AliveHeld}
 use Rattle.machine_loop.specs.Prepared.{WithTables}
 use Rattle.machine_loop.specs.Turning.{AheadLead}

@@ -5,7 +5,7 @@ use Prim.Native.Nat.{ℕ}
 use native.Mathlib.Omega.{arith}
 use lib.ListN.{length, replicate}
 use Rattle.machine.specs.Run.{trace}
-use Rattle.buffers.specs.laws.ClearedLaws.{cleared-all}
+use Rattle.buffers.proofs.laws.ClearedLaws.{cleared-all}
 use Rattle.machine_loop.proofs.run_image.Statement.{statement}
 use Rattle.machine_loop.proofs.run_image.Tie as tie
 

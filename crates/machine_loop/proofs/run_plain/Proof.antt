@@ -11,10 +11,11 @@ use Rattle.image_reader.specs.Decoded.{ImageTables, tables_of}
 use Rattle.machine.specs.Trace.{Ended}
 use Rattle.machine.specs.Run.{trace}
 use Rattle.machine.specs.Work.{budget}
-use Rattle.machine.specs.laws.RunLaws.{trace-some_entry}
+use Rattle.machine.proofs.laws.RunLaws.{trace-some_entry}
 use Rattle.machine_turn.specs.Steps.{answer_held}
-use Rattle.machine_turn.specs.laws.StackLaws.{ready_entries}
-use Rattle.machine_turn.specs.laws.Going.{Going, going_first, going_ends}
+use Rattle.machine_turn.proofs.laws.StackLaws.{ready_entries}
+use Rattle.machine_turn.specs.laws.Going.{Going}
+use Rattle.machine_turn.proofs.laws.Going.{going_first, going_ends}
 use Rattle.machine_turn.specs.declared.State.{State}
 use Rattle.machine_turn.specs.declared.RunAnswer.{RunAnswer}
 use Rattle.machine_loop.specs.declared.Turns.{Turns}

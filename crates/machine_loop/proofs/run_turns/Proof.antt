@@ -14,8 +14,9 @@ use Rattle.machine.specs.Trace.{match_at, Ended}
 use Rattle.machine_turn.specs.Steps.{turn_step, MatchFits}
 use Rattle.machine_turn.specs.declared.Turn.TheVariants.{Next, Done}
 use Rattle.machine_turn.specs.declared.State.{State}
-use Rattle.machine_turn.specs.laws.Going.{Going, going_fits, going_done, going_next}
-use Rattle.machine_turn.specs.laws.Places.{next_place, done_place}
+use Rattle.machine_turn.specs.laws.Going.{Going}
+use Rattle.machine_turn.proofs.laws.Going.{going_fits, going_done, going_next}
+use Rattle.machine_turn.proofs.laws.Places.{next_place, done_place}
 use Rattle.alive_scanner.specs.Ahead.{Ahead}
 use Rattle.machine_loop.specs.Prepared.{WithTables}
 use Rattle.machine_loop.specs.Turning.{SeenAt, ChargedAt, Charged}

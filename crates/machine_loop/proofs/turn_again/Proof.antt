@@ -5,7 +5,7 @@ use mathlib.Core.List.{List, [], ◌∷◌}
 use Prim.Native.Nat.{ℕ, zero, suc, ◌+◌, ◌-◌, ◌≤◌}
 use native.Mathlib.Omega.{arith}
 use lib.ListN.{length, drop, length-take, length-drop}
-use Rattle.lexer.specs.laws.LongestMatchLaws.{match_within}
+use Rattle.lexer.proofs.laws.LongestMatchLaws.{match_within}
 use Rattle.lexer.specs.Alive.{vain_bytes}
 use Rattle.image.specs.Image.{Image}
 use Rattle.image_reader.specs.Decoded.{ImageTables, tables_of}

@@ -4,7 +4,7 @@ use mathlib.Core.Path.{sym, ap, subst, ◌∙◌}
 use native.Mathlib.Omega.{arith}
 use Rattle.scanner.specs.Meaning.{match_of}
 use Rattle.alive_scanner.specs.Ahead.{word_match}
-use Rattle.alive_scanner.specs.laws.WordLaws.{word_none, word_some}
+use Rattle.alive_scanner.proofs.laws.WordLaws.{word_none, word_some}
 use Rattle.machine_loop.specs.Turning.{WordFits}
 use Rattle.machine_loop.proofs.word_of.Statement.{statement}
 use Rattle.machine_loop.proofs.word_of.Tie as tie

@@ -7,7 +7,7 @@ use borrow.Author.Tests.{not-true, not-false}
 use Rattle.basics.specs.Lists.{All}
 use Rattle.machine_turn.specs.Stack.{pending}
 use Rattle.machine_turn.specs.Steps.{all_members}
-use Rattle.machine_turn.specs.laws.StackLaws.{all-behind}
+use Rattle.machine_turn.proofs.laws.StackLaws.{all-behind}
 use Rattle.machine_turn.proofs.Entries.{members_stop, members_pass, members-none}
 use Rattle.machine_turn.proofs.all_nullable.Statement.{statement}
 use Rattle.machine_turn.proofs.all_nullable.Tie as tie

@@ -7,7 +7,7 @@ use borrow.Author.Tests.{not-true, not-false}
 use Rattle.basics.specs.Lists.{All}
 use Rattle.machine_turn.specs.Stack.{pending}
 use Rattle.machine_turn.specs.Steps.{taker}
-use Rattle.machine_turn.specs.laws.StackLaws.{all-behind}
+use Rattle.machine_turn.proofs.laws.StackLaws.{all-behind}
 use Rattle.machine_turn.proofs.Entries.{taker_found, taker_stops, taker_passes, taker-none}
 use Rattle.machine_turn.proofs.find_taker.Statement.{statement}
 use Rattle.machine_turn.proofs.find_taker.Tie as tie

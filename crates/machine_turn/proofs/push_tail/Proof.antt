@@ -6,7 +6,7 @@ use native.Mathlib.Omega.{arith}
 use lib.ListN.{length, set, get_or}
 use Rattle.image_reader.specs.Tables.{part}
 use Rattle.machine_turn.specs.Stack.{pushed}
-use Rattle.machine_turn.specs.laws.StackLaws.{length-pushed}
+use Rattle.machine_turn.proofs.laws.StackLaws.{length-pushed}
 use Rattle.machine_turn.proofs.Pushing.{push_start, push_more, push_end}
 use Rattle.machine_turn.proofs.push_tail.Statement.{statement}
 use Rattle.machine_turn.proofs.push_tail.Tie as tie

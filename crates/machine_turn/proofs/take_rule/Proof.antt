@@ -8,8 +8,8 @@ use lib.Seq.{get_or-drop}
 use Rattle.image_reader.specs.Tables.{EntryTail}
 use Rattle.machine_turn.specs.Steps.{taker}
 use Rattle.machine_turn.specs.declared.Taker.TheVariants.{At}
-use Rattle.machine_turn.specs.laws.StackLaws.{ready_entries}
-use Rattle.machine_turn.specs.laws.TakingLaws.{found_taker}
+use Rattle.machine_turn.proofs.laws.StackLaws.{ready_entries}
+use Rattle.machine_turn.proofs.laws.TakingLaws.{found_taker}
 use Rattle.machine_turn.proofs.Answers.{no_taker, took}
 use borrow.Author.Rules.{rules}
 use Rattle.machine_turn.proofs.take_rule.Statement.{statement}

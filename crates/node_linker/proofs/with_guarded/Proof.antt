@@ -3,7 +3,7 @@ use native.Mathlib.Omega.{arith}
 use lib.Bits.{or_zero_r}
 use borrow.Author.Rules.{rules}
 use borrow.Author.Tests.{ne_eqb, lt-ltb, le-ltb}
-use Rattle.basics.specs.laws.BitLaws.{shl_one}
+use Rattle.basics.proofs.laws.BitLaws.{shl_one}
 use Rattle.node_linker.specs.Walking.{place_of, guarded_after}
 use Rattle.node_linker.proofs.with_guarded.Statement.{statement}
 use Rattle.node_linker.proofs.with_guarded.Tie as tie

@@ -1,6 +1,6 @@
 -- `node_numbering::meet` meets its contract, case by case.
 use borrow.Author.Rules.{rules}
-use Rattle.node_numbering.specs.laws.JoinLaws.{no_node, already_numbered, all-numbered, newly_numbered}
+use Rattle.node_numbering.proofs.laws.JoinLaws.{no_node, already_numbered, all-numbered, newly_numbered}
 use Rattle.node_numbering.proofs.meet.Statement.{statement}
 use Rattle.node_numbering.proofs.meet.Tie as tie
 

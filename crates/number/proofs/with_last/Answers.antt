@@ -4,7 +4,7 @@ use mathlib.Core.Path.{sym, ap, ◌∙◌}
 use mathlib.Core.Bool.{Bool}
 use native.Mathlib.Omega.{arith}
 use Prim.Native.Nat.{◌+◌, ◌*◌, ◌^◌, ◌<◌}
-use Rattle.number.specs.laws.Groups.{judged-read}
+use Rattle.number.proofs.laws.Groups.{judged-read}
 use Rattle.number.specs.declared.Number.TheVariants.{Read}
 use Rattle.number.proofs.Reading.{judged_over, last_over, last_fits}
 use Rattle.number.proofs.with_last.Goals as goal

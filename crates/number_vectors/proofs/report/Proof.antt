@@ -3,7 +3,7 @@ use borrow.Author.Rules.{rules}
 use native.Mathlib.Omega.{arith}
 use mathlib.Core.Path.{sym, ◌∙◌}
 use lib.Seq.{length-take-le}
-use Rattle.number.specs.laws.Laws.{decode_within}
+use Rattle.number.proofs.laws.Laws.{decode_within}
 use Rattle.number_vectors.proofs.report.Statement.{statement}
 use Rattle.number_vectors.proofs.report.Tie as tie
 

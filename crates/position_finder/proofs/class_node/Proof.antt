@@ -2,7 +2,7 @@
 use borrow.Author.Rules.{rules}
 use native.Mathlib.Omega.{arith}
 use Prim.Native.Nat.{◌-◌}
-use Rattle.basics.specs.laws.BitLaws.{shl_one}
+use Rattle.basics.proofs.laws.BitLaws.{shl_one}
 use Rattle.position_finder.proofs.class_node.Statement.{statement}
 use Rattle.position_finder.proofs.class_node.Tie as tie
 

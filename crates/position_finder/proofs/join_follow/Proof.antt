@@ -6,7 +6,7 @@ use Prim.Native.Nat.{◌-◌, ◌<◌, ◌^◌}
 use lib.Bits.{and_le_l}
 use lib.Count.{ones, trailing_le}
 use lib.ListN.{length}
-use Rattle.basics.specs.laws.LowestMember.{lowest, ones_cleared}
+use Rattle.basics.proofs.laws.LowestMember.{lowest, ones_cleared}
 use Rattle.position_finder.proofs.Changes.{PartlyJoined, joined_start, joined_step, joined_end}
 use Rattle.position_finder.proofs.join_follow.Statement.{statement}
 use Rattle.position_finder.proofs.join_follow.Tie as tie

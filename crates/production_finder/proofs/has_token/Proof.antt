@@ -2,7 +2,7 @@
 use borrow.Author.Rules.{rules}
 use native.Mathlib.Omega.{arith}
 use mathlib.Core.Path.{sym}
-use Rattle.basics.specs.laws.BitLaws.{bit_high}
+use Rattle.basics.proofs.laws.BitLaws.{bit_high}
 use Rattle.production_finder.proofs.has_token.Statement.{statement}
 use Rattle.production_finder.proofs.has_token.Tie as tie
 

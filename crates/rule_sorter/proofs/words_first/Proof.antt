@@ -1,7 +1,7 @@
 -- `rule_sorter::words_first` meets its contract: the word rules are appended to no rules, and the others to them.
 use mathlib.Core.Path.{refl, ◌∙◌}
 use Rattle.basics.specs.Lists.{partition}
-use Rattle.basics.specs.laws.Partitions.{length-partition}
+use Rattle.basics.proofs.laws.Partitions.{length-partition}
 use Rattle.lexer.specs.RuleOrder.{word_rule, words_first}
 use Rattle.rule_sorter.proofs.Rules.{none-held, same_places}
 use Rattle.rule_sorter.proofs.words_first.Statement.{statement}

@@ -3,7 +3,7 @@ use borrow.Author.Rules.{rules}
 use native.Mathlib.Omega.{arith}
 use lib.Bits.{and_le_l}
 use lib.ListN.{get_or}
-use Rattle.scanner.specs.laws.ByteLaws.{leads_to}
+use Rattle.scanner.proofs.laws.ByteLaws.{leads_to}
 use Rattle.scanner.proofs.after_byte.Statement.{statement}
 use Rattle.scanner.proofs.after_byte.Tie as tie
 

@@ -7,7 +7,7 @@ use native.Mathlib.Omega.{arith}
 use lib.Count.{ones}
 use lib.ListN.{length, drop}
 use lib.Seq.{get_or-drop}
-use Rattle.lexer.specs.laws.SetWalkLaws.{ones_members, first_member-below}
+use Rattle.lexer.proofs.laws.SetWalkLaws.{ones_members, first_member-below}
 use Rattle.scanner.proofs.Walked.{Walked, walked_start, walked_step, walked_end}
 use Rattle.scanner.proofs.follow_sets.Statement.{statement}
 use Rattle.scanner.proofs.follow_sets.Tie as tie

@@ -14,7 +14,7 @@ use Rattle.lexer.specs.SetWalk.{members}
 use Rattle.lexer.specs.Walk.{keep, follows, walk, longest_match}
 use Rattle.scanner.specs.Meaning.{match_of, Prepared}
 use Rattle.scanner.specs.Sets.{first_entry, match_by}
-use Rattle.scanner.specs.laws.ByteLaws.{kept_is, ended-kept}
+use Rattle.scanner.proofs.laws.ByteLaws.{kept_is, ended-kept}
 use Rattle.scanner.proofs.Text.{match_new, match_old, match_latest, longer_again, so_far}
 use Rattle.scanner.proofs.Text.{walk-start, walk_begun, walk-turn, walk_stops, walk_end}
 use Rattle.scanner.proofs.longest_match.Statement.{statement}

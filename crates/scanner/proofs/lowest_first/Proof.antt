@@ -3,7 +3,7 @@
 use borrow.Author.Rules.{rules}
 use native.Mathlib.Omega.{arith}
 use lib.Count.{trailing_le}
-use Rattle.lexer.specs.laws.SetWalkLaws.{members-step}
+use Rattle.lexer.proofs.laws.SetWalkLaws.{members-step}
 use Rattle.scanner.proofs.lowest_first.Statement.{statement}
 use Rattle.scanner.proofs.lowest_first.Tie as tie
 

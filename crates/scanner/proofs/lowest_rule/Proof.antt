@@ -5,7 +5,7 @@ use Prim.Native.Nat.{ℕ, ◌%◌}
 use native.Mathlib.Omega.{arith}
 use lib.Seq.{get_or-drop}
 use borrow.Author.Rules.{rules}
-use Rattle.lexer.specs.laws.SetWalkLaws.{members-zero, first_member-below}
+use Rattle.lexer.proofs.laws.SetWalkLaws.{members-zero, first_member-below}
 use Rattle.scanner.specs.Meaning.{rule_of}
 use Rattle.scanner.specs.Sets.{first_entry}
 use Rattle.scanner.proofs.lowest_rule.Statement.{statement}

@@ -10,7 +10,7 @@ use lib.ListN.{length, get_or}
 use Rattle.lexer.specs.Positions.{Position}
 use Rattle.lexer.specs.Walk.{keep, follows, ended_rule}
 use Rattle.scanner.specs.Meaning.{told_of, rule_of, Prepared}
-use Rattle.scanner.specs.laws.ByteLaws.{kept_is, ended-kept}
+use Rattle.scanner.proofs.laws.ByteLaws.{kept_is, ended-kept}
 use Rattle.scanner.proofs.Once.{Stops, stops_inside, stops_at_end, OnWay, begins, goes_on, tells_nothing, tells_match, tells_vain}
 use Rattle.scanner.proofs.walk_once.Statement.{statement}
 use Rattle.scanner.proofs.walk_once.Tie as tie

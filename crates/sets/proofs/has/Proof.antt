@@ -1,6 +1,6 @@
 -- `sets::has` meets its contract: the bit that a shifted one picks.
 use borrow.Author.Rules.{rules}
-use Rattle.basics.specs.laws.BitLaws.{shl_one, and_test}
+use Rattle.basics.proofs.laws.BitLaws.{shl_one, and_test}
 use Rattle.sets.proofs.has.Statement.{statement}
 use Rattle.sets.proofs.has.Tie as tie
 

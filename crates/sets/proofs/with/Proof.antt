@@ -1,6 +1,6 @@
 -- `sets::with` meets its contract.
 use borrow.Author.Rules.{rules}
-use Rattle.basics.specs.laws.BitLaws.{shl_one}
+use Rattle.basics.proofs.laws.BitLaws.{shl_one}
 use Rattle.sets.proofs.with.Statement.{statement}
 use Rattle.sets.proofs.with.Tie as tie
 

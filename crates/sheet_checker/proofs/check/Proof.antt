@@ -4,7 +4,7 @@ use mathlib.Core.Path.{ap, ◌∙◌}
 use lib.ListN.{length}
 use Rattle.image.specs.Check as page
 use Rattle.sheet_checker.specs.Answer.{answer_of}
-use Rattle.sheet_checker.specs.laws.AnswerLaws.{case_answer, ends_case}
+use Rattle.sheet_checker.proofs.laws.AnswerLaws.{case_answer, ends_case}
 use Rattle.sheet_checker.proofs.check.Statement.{statement}
 use Rattle.sheet_checker.proofs.check.Tie as tie
 

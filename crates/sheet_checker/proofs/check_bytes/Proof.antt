@@ -1,6 +1,6 @@
 -- `sheet_checker::check_bytes` meets its contract.
 use borrow.Author.Rules.{rules}
-use Rattle.sheet.specs.laws.FieldLaws.{Bytes}
+use Rattle.sheet.proofs.laws.FieldLaws.{Bytes}
 use Rattle.sheet_checker.proofs.Endings.{SheetRead, ends_long, ends_unreadable, sheet_read, ends_read}
 use Rattle.sheet_checker.proofs.check_bytes.Statement.{statement}
 use Rattle.sheet_checker.proofs.check_bytes.Tie as tie

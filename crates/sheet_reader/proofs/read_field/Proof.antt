@@ -2,7 +2,7 @@
 use borrow.Author.Rules.{rules}
 use native.Mathlib.Omega.{arith}
 use mathlib.Core.Path.{sym, ◌∙◌}
-use Rattle.number.specs.laws.Laws.{decode_within}
+use Rattle.number.proofs.laws.Laws.{decode_within}
 use Rattle.sheet_reader.proofs.Fields.{field_unreadable, field_over, field_under, field_fits}
 use Rattle.sheet_reader.proofs.read_field.Statement.{statement}
 use Rattle.sheet_reader.proofs.read_field.Tie as tie

@@ -5,15 +5,15 @@ use Prim.Native.Nat.{ℕ}
 use native.Mathlib.Omega.{arith}
 use lib.ListN.{length, take}
 use lib.Seq.{length-take-le}
-use Rattle.sheet.specs.laws.FieldLaws.{Bytes}
+use Rattle.sheet.proofs.laws.FieldLaws.{Bytes}
 use Rattle.image.specs.Write.{write}
-use Rattle.image.specs.laws.WriteLaws.{written_passed}
+use Rattle.image.proofs.laws.WriteLaws.{written_passed}
 use Rattle.image.specs.Answer.{Answer}
 use Rattle.machine.specs.Lent.{stack_alone, Ran}
 use Rattle.machine.specs.Run.{run}
 use Rattle.machine_turn.specs.Steps.{answer_held}
-use Rattle.image_writer.specs.laws.AnswerLaws.{case_done, case_too_long, case_refused}
-use Rattle.demands.specs.laws.Proofs.{image-kept}
+use Rattle.image_writer.proofs.laws.AnswerLaws.{case_done, case_too_long, case_refused}
+use Rattle.demands.proofs.laws.Proofs.{image-kept}
 use Rattle.text_reader.specs.Reading.{text_answered, OwnReading}
 use Rattle.text_reader.proofs.Laws.{own_refused, own_long, own_over, own-run}
 use Rattle.text_reader.proofs.Laws.{told_refused, told_long, told_over, told-run, written-image}

@@ -6,7 +6,7 @@ use Rattle.sheet.specs.Sheet.{Sheet}
 use Rattle.image.specs.Check as check
 use Rattle.recogniser.specs.Recognise.{recognise}
 use Rattle.sheet_checker.specs.Steps.{PassedParts}
-use Rattle.sheet_checker.specs.laws.AnswerLaws.{failed_by, passed_parts}
+use Rattle.sheet_checker.proofs.laws.AnswerLaws.{failed_by, passed_parts}
 use Rattle.text_recogniser.proofs.Endings.{ends_refused, ends_12, ends_20, ends_read}
 use Rattle.text_recogniser.proofs.recognise.Statement.{statement}
 use Rattle.text_recogniser.proofs.recognise.Tie as tie

@@ -4,10 +4,10 @@ use native.Mathlib.Omega.{arith}
 use mathlib.Core.Path.{◌≡◌, refl}
 use Prim.Native.Nat.{◌-◌, ◌≤◌, ◌<◌}
 use lib.ListN.{length, take}
-use Rattle.basics.specs.laws.BitLaws.{shl_one}
+use Rattle.basics.proofs.laws.BitLaws.{shl_one}
 use Rattle.columns.specs.HeldPositions.{held_positions}
 use Rattle.class_table.specs.Holding.{Holding}
-use Rattle.class_table.specs.laws.HoldingLaws.{holding_none}
+use Rattle.class_table.proofs.laws.HoldingLaws.{holding_none}
 use Rattle.token_lister.proofs.Tables.{few, held-more, all-swept}
 use Rattle.token_lister.proofs.tables_of.Statement.{statement}
 use Rattle.token_lister.proofs.tables_of.Tie as tie

@@ -1,6 +1,6 @@
 -- `type_checker::check_types` meets its contract: the contracts of its three parts.
 use borrow.Author.Rules.{rules}
-use Rattle.columns.specs.laws.Within.{links_fit}
+use Rattle.columns.proofs.laws.Within.{links_fit}
 use Rattle.type_checker.proofs.All.{checked-all}
 use Rattle.type_checker.proofs.check_types.Statement.{statement}
 use Rattle.type_checker.proofs.check_types.Tie as tie

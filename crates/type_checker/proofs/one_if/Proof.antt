@@ -1,6 +1,6 @@
 -- `type_checker::one_if` meets its contract: a shifted one is the power.
 use borrow.Author.Rules.{rules}
-use Rattle.basics.specs.laws.BitLaws.{shl_one}
+use Rattle.basics.proofs.laws.BitLaws.{shl_one}
 use Rattle.type_checker.proofs.one_if.Statement.{statement}
 use Rattle.type_checker.proofs.one_if.Tie as tie
 

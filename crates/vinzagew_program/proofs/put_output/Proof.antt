@@ -2,7 +2,7 @@
 use mathlib.Core.Path.{ap, subst, ◌∙◌}
 use borrow.Author.Rules.{rules}
 use Rattle.lines.specs.Lines.{line_bytes}
-use Rattle.lines.specs.laws.LineLaws.{front_is, front-counts}
+use Rattle.lines.proofs.laws.LineLaws.{front_is, front-counts}
 use Rattle.text_reader.specs.Program.{OwnLine}
 use Rattle.vinzagew_program.proofs.put_output.Statement.{statement}
 use Rattle.vinzagew_program.proofs.put_output.Tie as tie

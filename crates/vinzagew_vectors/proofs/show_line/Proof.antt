@@ -1,6 +1,6 @@
 -- `vinzagew_vectors::show_line` meets its contract: the line lies within the buffer.
 use Rattle.std.proofs.Common.{replicate, rules}
-use Rattle.lines.specs.laws.LineLaws.{front-counts}
+use Rattle.lines.proofs.laws.LineLaws.{front-counts}
 use Rattle.vinzagew_vectors.proofs.show_line.Statement.{statement}
 use Rattle.vinzagew_vectors.proofs.show_line.Tie as tie
 

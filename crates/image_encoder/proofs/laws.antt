@@ -1,0 +1,2 @@
+-- The laws of this crate's definitions, proved; and what only their proofs use.
+pub mod Emitted

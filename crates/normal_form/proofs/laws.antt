@@ -1,0 +1,22 @@
+-- The laws of this crate's definitions, proved; and what only their proofs use.
+pub mod ProductionLaws
+pub mod Places
+pub mod Descent
+pub mod RowEquations
+pub mod NodeLanguages
+pub mod WordTypes
+pub mod TypesExact
+pub mod Unfolding
+pub mod Pending
+pub mod DerivesExact
+pub mod KeptRows
+pub mod RowTypes
+pub mod NormalFormLaws
+pub mod LeftParts
+pub mod ExactRows
+pub mod Tails
+pub mod Examples
+pub mod Expansion
+pub mod TailNodes
+pub mod ProductionWalkLaws
+pub mod WalkExamples

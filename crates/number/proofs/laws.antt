@@ -1,0 +1,4 @@
+-- The laws of this crate's definitions, proved; and what only their proofs use.
+pub mod Groups
+pub mod Laws
+pub mod Splice

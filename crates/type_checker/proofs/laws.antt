@@ -1,0 +1,3 @@
+-- The laws of this crate's definitions, proved; and what only their proofs use.
+pub mod TypeBy
+pub mod RaisedLaws
