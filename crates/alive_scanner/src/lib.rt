@@ -124,7 +124,7 @@ fn next_block<'a>(
 }
 
 // A match, the place after it, and where the block that is held ends.
-#[derive(Drop)]
+#[derive(Clone, Copy)]
 struct AliveMatch {
     found: Found,
     after: usize,
@@ -187,7 +187,7 @@ pub fn match_word(rule: u8, n: usize) -> u64
 }
 
 // How many matches were found, the place to which turns may go by them, and where the block that is held ends.
-#[derive(Drop)]
+#[derive(Clone, Copy)]
 pub struct FoundAhead {
     pub count: usize,
     pub stop: usize,

@@ -7,7 +7,7 @@ ghost use Rattle.std.specs.Prelude.{◌≡◌};
 ghost use Rattle.columns.specs.Tags.{parts_of};
 
 // The rules: an action and its place for each rule, a tag for each regex node over all rules, and the bytes of each class.
-#[derive(Drop)]
+#[derive(Clone, Copy)]
 pub struct RuleColumns {
     pub count: usize,
     pub action: [u8; 32],
@@ -20,7 +20,7 @@ pub struct RuleColumns {
 }
 
 // The expression: a node's tag, the number after its tag (a token's or a variable's, else 0), and the place of its tag.
-#[derive(Drop)]
+#[derive(Clone, Copy)]
 pub struct NodeColumns {
     pub count: usize,
     pub tag: [u8; 64],
@@ -31,7 +31,7 @@ pub struct NodeColumns {
 // A node's tag, as in a sheet, and its link: a token's number, the right part of a sequence or of an alternative, a variable's
 // own fixed point, or a repetition itself. The left part, a fixed point's body and a repetition's part is the next node. A
 // variable is in the set if it is guarded.
-#[derive(Drop)]
+#[derive(Clone, Copy)]
 pub struct NodeLinks {
     pub count: usize,
     pub tag: [u8; 64],
@@ -40,7 +40,7 @@ pub struct NodeLinks {
 }
 
 // The nullable nodes as a set, and each node's first set and follow-last set.
-#[derive(Drop)]
+#[derive(Clone, Copy)]
 pub struct TypeColumns {
     pub null: u64,
     pub first: [u32; 64],
@@ -48,7 +48,7 @@ pub struct TypeColumns {
 }
 
 // The class's bytes, the rule and the follow set of each position; `last` and `first` are sets of positions.
-#[derive(Drop)]
+#[derive(Clone, Copy)]
 pub struct PositionColumns {
     pub count: usize,
     pub low: [u8; 64],

@@ -108,7 +108,7 @@ fn emit_positions(image: &mut [u8], at: usize, positions: PositionColumns) -> us
 }
 
 // Where a production ends, and how many nodes have been met by then.
-#[derive(Drop)]
+#[derive(Clone, Copy)]
 struct ProductionEnd {
     next: usize,
     known: usize,
@@ -150,7 +150,7 @@ fn emit_production(
 }
 
 // Where the productions of a row end, how many there are, and the nodes met by then.
-#[derive(Drop)]
+#[derive(Clone, Copy)]
 struct ProductionsEnd {
     next: usize,
     count: usize,
@@ -213,7 +213,7 @@ fn emit_productions(
 }
 
 // Where a row ends, and the nodes met by then.
-#[derive(Drop)]
+#[derive(Clone, Copy)]
 struct RowEnd {
     next: usize,
     numbering: Numbering,

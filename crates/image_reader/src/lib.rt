@@ -18,7 +18,7 @@ ghost use Rattle.image_reader.specs.Answers.{ProductionHeld, ProductionsEntered,
 use class_table::{hold_position, sweep};
 
 // A number that was read and the place after it; or, from a refused number on, its place, which is that of question 13.
-#[derive(Drop)]
+#[derive(Clone, Copy)]
 struct Step {
     value: u64,
     at: usize,
@@ -26,7 +26,7 @@ struct Step {
 }
 
 // A position's values; its last number, the follow set, ends it.
-#[derive(Drop)]
+#[derive(Clone, Copy)]
 struct PositionRead {
     low: u8,
     high: u8,
@@ -36,14 +36,14 @@ struct PositionRead {
 }
 
 // Where positions end, and the set of those that are last. The columns hold the rest.
-#[derive(Drop)]
+#[derive(Clone, Copy)]
 struct PositionsRead {
     end: Step,
     last: u64,
 }
 
 // A production's rule, the place of its tail's length, and where it ends.
-#[derive(Drop)]
+#[derive(Clone, Copy)]
 struct ProductionRead {
     rule: u64,
     tail: usize,
@@ -51,14 +51,14 @@ struct ProductionRead {
 }
 
 // What bounds the values of productions: the number of rules, those that skip, and the number of nonterminals.
-#[derive(Drop)]
+#[derive(Clone, Copy)]
 struct Bounds {
     rules: u64,
     skips: u64,
     nonterminals: u64,
 }
 
-#[derive(Drop)]
+#[derive(Clone, Copy)]
 pub enum Outcome {
     Readable,
     Refused(usize),
@@ -67,7 +67,7 @@ pub enum Outcome {
 // The answer to question 13, and what stands in no array of a readable image's tables: the number of rules, those that skip, the number of
 // positions, the last and the first ones, the number of nonterminals, and those with ε. No code reads the two numbers of rules and of
 // nonterminals: the promise speaks of them.
-#[derive(Drop)]
+#[derive(Clone, Copy)]
 pub struct ImageRead {
     pub outcome: Outcome,
     pub rules: usize,

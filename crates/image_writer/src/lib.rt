@@ -20,7 +20,7 @@ const ROOM_FOR_ANY: usize = 65536;
 
 // How writing ends: the bytes written; the bytes needed, where the image does not fit (11); the question that fails, 1 to 10, and its
 // place.
-#[derive(Drop)]
+#[derive(Clone, Copy)]
 pub enum Written {
     Done(usize),
     TooLong(usize),

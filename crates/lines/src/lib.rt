@@ -9,7 +9,7 @@ ghost use Rattle.lines.specs.Lines.{numbers_bytes, line_bytes};
 
 // A line: a refused sheet or a refused text with number and place, or an accepted text with its
 // count of tokens.
-#[derive(Drop)]
+#[derive(Clone, Copy)]
 pub enum Line {
     Sheet(u8, usize),
     Text(u8, usize),

@@ -27,14 +27,14 @@ use scanner::{Found, WalkEnd};
 const LEAST_BUDGET: usize = 4096;
 
 // What is seen at a place: the match, or how many bytes a walk went over in vain, and 0 where it is not in vain.
-#[derive(Drop)]
+#[derive(Clone, Copy)]
 struct Seen {
     found: Found,
     vain: usize,
 }
 
 // What turns from a state on leave: the answer; a state, once a place is reached; or a state where a walk went over so many bytes in vain.
-#[derive(Drop)]
+#[derive(Clone, Copy)]
 enum Turns {
     Done(RunAnswer),
     Reached(State),
@@ -42,14 +42,14 @@ enum Turns {
 }
 
 // What turns by walks leave, and how much of the budget is left.
-#[derive(Drop)]
+#[derive(Clone, Copy)]
 struct Round {
     turned: Turns,
     left: usize,
 }
 
 // What turns by matches found ahead leave: the answer, or a state, and where the block that is held ends.
-#[derive(Drop)]
+#[derive(Clone, Copy)]
 struct AheadTurns {
     turned: Turn,
     end: usize,

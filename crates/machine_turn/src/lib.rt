@@ -14,7 +14,7 @@ ghost use Rattle.machine_turn.specs.Steps.{taker, replaced, all_members, end_ans
 use scanner::Found;
 
 // What a run returns.
-#[derive(Drop)]
+#[derive(Clone, Copy)]
 pub struct RunAnswer {
     pub number: u8,
     pub place: usize,
@@ -22,7 +22,7 @@ pub struct RunAnswer {
 }
 
 // The pending nonterminal that takes a rule: how many are pending behind it, itself, and its entry in the table of productions.
-#[derive(Drop)]
+#[derive(Clone, Copy)]
 enum Taker {
     Nothing,
     At(usize, u8, u16),
@@ -30,7 +30,7 @@ enum Taker {
 
 // What a take leaves: so many pending nonterminals, and the first; or no pending nonterminal takes the rule; or the stack does not hold
 // the tail.
-#[derive(Drop)]
+#[derive(Clone, Copy)]
 enum Taken {
     Pending(usize, u8),
     NoTaker,
@@ -39,7 +39,7 @@ enum Taken {
 
 // The state of a run: the place in the text, how many nonterminals are pending, the first of them (any byte where there is none), and how
 // many tokens were taken.
-#[derive(Drop)]
+#[derive(Clone, Copy)]
 pub struct State {
     pub place: usize,
     pub depth: usize,
@@ -48,7 +48,7 @@ pub struct State {
 }
 
 // What a turn leaves: the state from which to go on, or the answer.
-#[derive(Drop)]
+#[derive(Clone, Copy)]
 pub enum Turn {
     Next(State),
     Done(RunAnswer),

@@ -11,7 +11,7 @@ use columns::{NodeColumns, NodeLinks};
 
 // An expression that is still to come: how many fixed points are open there, how many of these are guarded, counted from the
 // outermost, and the node whose right part it is, or 64.
-#[derive(Drop)]
+#[derive(Clone, Copy)]
 struct Due {
     depth: u8,
     guarded: u8,
@@ -19,7 +19,7 @@ struct Due {
 }
 
 // The parts of a node, which are then still to come: none, one, or the left and the right.
-#[derive(Drop)]
+#[derive(Clone, Copy)]
 enum NodeParts {
     Leaf,
     One(Due),

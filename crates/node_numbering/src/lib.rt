@@ -15,7 +15,7 @@ use columns::{NodeLinks, RuleColumns, TypeColumns};
 use production_finder::Tail;
 
 // The rules' actions; the expression's tags, links and FIRST sets by node; the nullable nodes as a set.
-#[derive(Drop)]
+#[derive(Clone, Copy)]
 pub struct Grammar {
     pub rules: usize,
     pub action: [u8; 32],
@@ -26,7 +26,7 @@ pub struct Grammar {
 }
 
 // The nodes met, in order, and each node's number, which is 64 for a node that was not met.
-#[derive(Drop)]
+#[derive(Clone, Copy)]
 pub struct Numbering {
     pub count: usize,
     pub met: [u8; 64],

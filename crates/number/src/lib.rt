@@ -9,7 +9,7 @@ ghost use Rattle.number.specs.Number.{fewest, judged, decode, encode, written, u
 const LARGEST: u64 = 18446744073709551615;
 
 // What stands at a place: a value, how many bytes were read and whether they were the fewest; or no number.
-#[derive(Drop)]
+#[derive(Clone, Copy)]
 pub enum Number {
     Read(u64, usize, bool),
     Refused,

@@ -15,7 +15,7 @@ ghost use Rattle.position_finder.specs.Answer.{empty_rule, PositionsOf};
 use columns::{PositionColumns, RuleColumns};
 
 // The sets of a regex, and where its positions end.
-#[derive(Drop)]
+#[derive(Clone, Copy)]
 struct Sets {
     nullable: bool,
     first: u64,
@@ -25,7 +25,7 @@ struct Sets {
 
 // What a node makes of the regexes after it: its own sets, which positions (`from`) it lets others (`next`) follow, and where its
 // positions start.
-#[derive(Drop)]
+#[derive(Clone, Copy)]
 struct Node {
     sets: Sets,
     from: u64,
@@ -34,7 +34,7 @@ struct Node {
 }
 
 // The rule of each position, and where a match of any rule begins and ends.
-#[derive(Drop)]
+#[derive(Clone, Copy)]
 struct RuleSets {
     rule: [u8; 64],
     first: u64,
@@ -42,14 +42,14 @@ struct RuleSets {
 }
 
 // The sets of the rules together, and the follow sets of their positions.
-#[derive(Drop)]
+#[derive(Clone, Copy)]
 struct Forest {
     sets: RuleSets,
     follow: [u64; 64],
 }
 
 // Question 7: the first rule that matches the empty word, if there is one.
-#[derive(Drop)]
+#[derive(Clone, Copy)]
 pub enum EmptyRule {
     Nothing,
     Rule(u8),

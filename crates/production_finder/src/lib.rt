@@ -22,14 +22,14 @@ fn has_token(set: u32, token: u8) -> bool
 }
 
 // The end of a walk: the right nodes remembered, the last one first, from `start` on.
-#[derive(Drop)]
+#[derive(Clone, Copy)]
 struct Walked {
     start: usize,
     rights: [u8; 64],
 }
 
 // A node's production for a token, if it has one: the first `count` members are its tail.
-#[derive(Drop)]
+#[derive(Clone, Copy)]
 pub struct Tail {
     pub found: bool,
     pub count: usize,

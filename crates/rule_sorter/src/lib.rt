@@ -14,7 +14,7 @@ ghost use Rattle.rule_sorter.specs.Kinds.{kind_of, kind_before, part};
 use columns::RuleColumns;
 
 // Where a rule's items and classes end, and whether it is a word rule.
-#[derive(Drop)]
+#[derive(Clone, Copy)]
 struct RuleEnd {
     word: bool,
     item: usize,

@@ -11,7 +11,7 @@ ghost use Rattle.scanner.specs.Meaning.{match_of, told_of, rule_of, LeadsTo, Pre
 ghost use Rattle.scanner.specs.Sets.{joined, first_entry, match_by, latest_ended};
 
 // The longest match: the lowest rule that has it, and its length.
-#[derive(Drop)]
+#[derive(Clone, Copy)]
 pub enum Found {
     Nothing,
     Rule(u8, usize),
@@ -19,7 +19,7 @@ pub enum Found {
 
 // What one walk tells: that there is no match; the longest one, if the walk ends with it; or that it went over so many bytes in vain, past the
 // end of its match.
-#[derive(Drop)]
+#[derive(Clone, Copy)]
 pub enum WalkEnd {
     Nothing,
     Rule(u8, usize),
@@ -27,21 +27,21 @@ pub enum WalkEnd {
 }
 
 // The lowest rule of which a match ends with a byte.
-#[derive(Drop)]
+#[derive(Clone, Copy)]
 pub enum EndedRule {
     NoRule,
     Lowest(u8),
 }
 
 // What a byte leads to: the positions that are held after it, and the rule that ended with it.
-#[derive(Drop)]
+#[derive(Clone, Copy)]
 struct AfterByte {
     held: u64,
     ended: EndedRule,
 }
 
 // A step of the walk over a set as a word: its lowest position, and the set without it.
-#[derive(Drop)]
+#[derive(Clone, Copy)]
 struct Step {
     position: usize,
     others: u64,
@@ -99,7 +99,7 @@ fn after_byte(byte: u8, held: u64, last: u64, tables: &[u64; 448]) -> AfterByte
 }
 
 // A match, by the last positions that end it, none where there is no match, and its length.
-#[derive(Drop)]
+#[derive(Clone, Copy)]
 struct EndedBy {
     ending: u64,
     length: usize,

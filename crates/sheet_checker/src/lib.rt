@@ -24,7 +24,7 @@ const WORK_BYTES: usize = 65536;
 pub const MOST_SHEET_BYTES: usize = 4096;
 
 // How checking ends: the sheet passes; or the question that fails, 1 to 10, and its place.
-#[derive(Drop)]
+#[derive(Clone, Copy)]
 pub enum Verdict {
     Passed,
     Refused(u8, usize),
@@ -35,7 +35,7 @@ pub enum Verdict {
 // `failed_sheet`. Where the sheet passes, `PassedParts` says what they hold. These stay free then, as
 // no later step asks for them: entries from a count on, `rules.place`, the link of a node that has
 // none, members of `guarded` that are no variables, and members of `null` that are no nodes.
-#[derive(Drop)]
+#[derive(Clone, Copy)]
 pub struct CheckedSheet {
     pub verdict: Verdict,
     pub rules: RuleColumns,

@@ -31,14 +31,14 @@ const REGEX_TAGS: u64 = 5;
 const EXPRESSION_TAGS: u64 = 8;
 
 // Whether all was read, or the question that fails and its place.
-#[derive(Drop)]
+#[derive(Clone, Copy)]
 pub enum Outcome {
     Done,
     Refused(u8, usize),
 }
 
 // A sheet as read. After a refusal there are no tokens, and the columns are empty.
-#[derive(Drop)]
+#[derive(Clone, Copy)]
 pub struct SheetColumns {
     pub outcome: Outcome,
     pub tokens: u8,
@@ -47,21 +47,21 @@ pub struct SheetColumns {
 }
 
 // A number of a field with the place after it, or the question that it fails and its place.
-#[derive(Drop)]
+#[derive(Clone, Copy)]
 enum Field {
     Value(u8, usize),
     Refused(u8, usize),
 }
 
 // The place where reading goes on, or the question that fails and its place.
-#[derive(Drop)]
+#[derive(Clone, Copy)]
 enum Step {
     Next(usize),
     Refused(u8, usize),
 }
 
 // The token count, the rule count and the place after them, or the question that fails and its place.
-#[derive(Drop)]
+#[derive(Clone, Copy)]
 enum Header {
     Counts(u8, u8, usize),
     Refused(u8, usize),
@@ -69,7 +69,7 @@ enum Header {
 
 // What comes next in the rules, with the place after it: a rule's action, or of its regex a byte class or a tag with how many
 // parts it has. Or that the rules are over, or reading stops.
-#[derive(Drop)]
+#[derive(Clone, Copy)]
 enum RuleTurn {
     Action(u8, usize),
     Class(u8, u8, usize),
@@ -78,21 +78,21 @@ enum RuleTurn {
 }
 
 // Rules read into the columns.
-#[derive(Drop)]
+#[derive(Clone, Copy)]
 struct RulesRead {
     step: Step,
     rules: RuleColumns,
 }
 
 // An expression node: its tag, the number after it or 0, and the place after them. Or the question that fails and its place.
-#[derive(Drop)]
+#[derive(Clone, Copy)]
 enum ExpressionTurn {
     Node(u8, u8, usize),
     Refused(u8, usize),
 }
 
 // A whole expression read into the columns.
-#[derive(Drop)]
+#[derive(Clone, Copy)]
 struct NodesRead {
     step: Step,
     nodes: NodeColumns,

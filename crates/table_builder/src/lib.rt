@@ -17,7 +17,7 @@ ghost use Rattle.table_builder.specs.Rows.{RowsHeld, AllHeld, SetsBelow, sets_by
 use scanner::EndedRule;
 
 // The sets of the rows from row 1 on, and how many they are: 256 where there are more than 256 rows.
-#[derive(Drop)]
+#[derive(Clone, Copy)]
 struct Rows {
     count: usize,
     sets: [u64; 256],

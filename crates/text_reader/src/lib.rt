@@ -13,7 +13,7 @@ use lines::Line;
 use machine_turn::RunAnswer;
 
 // How reading a text by a sheet ends: the sheet was refused, with number and place; or the text's answer.
-#[derive(Drop)]
+#[derive(Clone, Copy)]
 pub enum TextRead {
     Sheet(u8, usize),
     Text(RunAnswer),

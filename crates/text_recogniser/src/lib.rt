@@ -16,7 +16,7 @@ use sheet_checker::{CheckedSheet, Verdict};
 const MOST_TEXT_BYTES: usize = 2048;
 
 // What recognising returns: document 02's number and place, and the count of the tokens written.
-#[derive(Drop)]
+#[derive(Clone, Copy)]
 pub struct Recognition {
     pub number: u8,
     pub place: usize,

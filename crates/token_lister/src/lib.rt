@@ -15,7 +15,7 @@ use columns::{PositionColumns, RuleColumns};
 use scanner::Found;
 
 // How many tokens were listed, and the place at which reading stopped: the text's end, or where no rule matches.
-#[derive(Drop)]
+#[derive(Clone, Copy)]
 pub struct ListEnd {
     pub count: usize,
     pub place: usize,

@@ -20,7 +20,7 @@ use columns::{NodeColumns, NodeLinks, TypeColumns};
 use node_linker::link_nodes;
 
 // The type of one node.
-#[derive(Drop)]
+#[derive(Clone, Copy)]
 pub struct NodeType {
     pub null: bool,
     pub first: u32,
@@ -28,20 +28,20 @@ pub struct NodeType {
 }
 
 // What a node's equation adds to its type: the type then, and whether it is another one.
-#[derive(Drop)]
+#[derive(Clone, Copy)]
 struct Grown {
     now: NodeType,
     changed: bool,
 }
 
 // The question that failed, 8 to 10, and the node at which it did.
-#[derive(Drop)]
+#[derive(Clone, Copy)]
 pub enum Fault {
     Nothing,
     Refused(u8, u8),
 }
 
-#[derive(Drop)]
+#[derive(Clone, Copy)]
 pub struct Checked {
     pub links: NodeLinks,
     pub types: TypeColumns,

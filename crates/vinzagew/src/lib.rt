@@ -21,7 +21,7 @@ use sheet_checker::Verdict;
 use text_recogniser::Recognition;
 
 // The three numbers of an answer. The third is a length, a count of tokens, or 0 where there is neither.
-#[derive(Drop)]
+#[derive(Clone, Copy)]
 struct Numbers {
     number: u64,
     place: u64,

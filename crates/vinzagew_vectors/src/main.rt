@@ -766,7 +766,7 @@ fn recognise_case(text: &[u8], at: usize)
 }
 
 // The files, and what a line of each asks for.
-#[derive(Drop)]
+#[derive(Clone, Copy)]
 enum Kind {
     Check,
     Write,
