@@ -63,7 +63,7 @@ extern "C" {
 
 /*
  * The bytes of the processor's stack that a call of the recogniser needs at most. This is measured,
- * not proved, for the library as `rt staticlib` builds it.
+ * not proved, for the library as `tools/staticlib.sh` builds it.
  */
 #define VINZAGEW_RECOGNISER_STACK_BYTES 131072
 
