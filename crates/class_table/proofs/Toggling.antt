@@ -2,15 +2,13 @@
 -- sweep, and what a byte's set means, are not spoken of here.
 use mathlib.Core.Path.{◌≡◌, refl, sym, ◌∙◌}
 use mathlib.Core.Bool.{Bool, true, false, xor, cond}
-use mathlib.Core.Bool as B
 use mathlib.Core.List.{List}
 use Prim.Native.Nat.{ℕ, suc, ◌+◌, ◌≤◌, ◌<◌}
 use native.Mathlib.Omega.{arith}
 use native.Mathlib.Numerals.{add-one}
 use lib.Bits.{bit_xor, xor_zero_r}
 use lib.Dec.{eqb}
-use lib.ListN.{length, get_or, set, length-set, get_or-append}
-use Rattle.lexer.specs.Positions.{Position}
+use lib.ListN.{length, get_or, set, length-set}
 use lib.Seq.{get_or-set_same, get_or-set_other}
 use borrow.Author.Tests.{ne_eqb, eqb-true, eqb-false}
 use Rattle.basics.specs.Bits.{bit}

@@ -1,6 +1,5 @@
 -- Laws of the sets of a class table: which positions are in the set of a byte. How a table is filled is not asked here.
-use Rattle.std.specs.Prelude.{◌≡◌, Bool, ◌&&◌, ◌||◌, List, ◌∷◌, ℕ, suc, eqb}
-use Rattle.std.proofs.Math.Bool as B
+use Rattle.std.specs.Prelude.{◌≡◌, ◌&&◌, ◌||◌, List, ◌∷◌, ℕ, suc, eqb}
 use Rattle.basics.specs.Bits.{bit}
 use Rattle.basics.proofs.laws.BitLaws.{bit-or, bit_one_if}
 use Rattle.lexer.specs.Positions.{Position}

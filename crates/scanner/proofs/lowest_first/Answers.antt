@@ -4,17 +4,13 @@ use borrow.Author.Rules.{rules}
 use native.Mathlib.Omega.{arith}
 use lib.Count.{trailing_le}
 use Rattle.lexer.proofs.laws.SetWalkLaws.{members-step}
-use Rattle.scanner.proofs.lowest_first.Statement.{statement}
-use Rattle.scanner.proofs.lowest_first.Tie as tie
+use Rattle.scanner.proofs.lowest_first.Goals as goal
 
-returns : tie.Need-returns
+pub returns : goal.returns
 returns c = members-step c.args.set (λ e. omega arith) (omega arith)
 
-cast-t3 : tie.Need-overflow-cast-t3
-cast-t3 c = omega (arith, trailing_le 64 c.args.set)
+pub overflow_cast-result : goal.overflow_cast-result
+overflow_cast-result c = omega (arith, trailing_le 64 c.args.set)
 
-sub-t4 : tie.Need-overflow-sub-t4
-sub-t4 c = search rules
-
-pub lowest-first-spec : {M : Type 1} → statement M
-lowest-first-spec = tie.close (tie.spec cast-t3 sub-t4 returns)
+pub overflow_sub-result : goal.overflow_sub-result
+overflow_sub-result c = search rules
