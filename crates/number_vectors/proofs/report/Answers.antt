@@ -1,6 +1,6 @@
 -- What was read lies within the bytes, and takes one to ten of them.
 use Rattle.std.proofs.Common.{sym, arith, length-take-le}
-use Rattle.number.specs.laws.Laws.{decode_within}
+use Rattle.number.proofs.laws.Laws.{decode_within}
 use Rattle.number_vectors.proofs.report.Goals as goal
 
 pub comes_back-requires : goal.comes_back-requires
