@@ -6,7 +6,7 @@
 ghost use Rattle.std.specs.Prelude.{◌+◌, ◌≤◌, ◌<◌, length};
 ghost use Rattle.io.specs.Counts.{IsPrefixLen};
 
-use libc::STDOUT_FILENO;
+use std::io;
 
 // The value of a hexadecimal digit, or 16 where it is none.
 fn digit(c: u8) -> usize
@@ -103,65 +103,55 @@ fn comes_back(bytes: &[u8], value: u64, used: usize) -> bool
 
 // Prints whether the bytes are the same as are written, or padded; `different` where what the reader said and what was written
 // disagree.
-fn report_fewest(fewest: bool, back: bool) {
+fn report_fewest<R: Print>(rt: &R, fewest: bool, back: bool) -> io::Result<()> {
     if fewest {
         if back {
-            io::write_all(STDOUT_FILENO, b" same\n");
-            return;
+            return rt.write_all(b" same\n");
         }
-        io::write_all(STDOUT_FILENO, b" different\n");
-        return;
+        return rt.write_all(b" different\n");
     }
     if back {
-        io::write_all(STDOUT_FILENO, b" different\n");
-        return;
+        return rt.write_all(b" different\n");
     }
-    io::write_all(STDOUT_FILENO, b" padded\n");
+    rt.write_all(b" padded\n")
 }
 
 // Prints what the reader makes of some bytes.
-fn report(bytes: &[u8]) {
+fn report<R: Print>(rt: &R, bytes: &[u8]) -> io::Result<()> {
     match number::read_number(bytes, 0) {
         number::Number::Read(value, used, fewest) => {
-            io::print_decimal(STDOUT_FILENO, value);
-            io::write_all(STDOUT_FILENO, b" ");
-            io::print_decimal(STDOUT_FILENO, used as u64);
-            report_fewest(fewest, comes_back(bytes, value, used));
+            print!(rt; "{value} {used}")?;
+            report_fewest(rt, fewest, comes_back(bytes, value, used))
         }
-        number::Number::Refused => {
-            io::write_all(STDOUT_FILENO, b"refused\n");
-        }
+        number::Number::Refused => rt.write_all(b"refused\n"),
     }
 }
 
 // Prints what the reader makes of a line. Of more than 32 bytes the first 32 count, which is past the ten that matter.
-fn report_line(text: &[u8], at: usize)
+fn report_line<R: Print>(rt: &R, text: &[u8], at: usize) -> io::Result<()>
     requires { length text.now ≤ 8192 }
 {
     let mut bytes = [0u8; 32];
     let count = line_bytes(text, at, &mut bytes);
-    report(&bytes[..count]);
+    report(rt, &bytes[..count])
 }
 
 // Prints a line for each line of the text.
-fn report_all(text: &[u8])
+fn report_all<R: Print>(rt: &R, text: &[u8]) -> io::Result<()>
     requires { length text.now ≤ 8192 }
 {
     let mut at: usize = 0;
     while at < text.len() {
-        report_line(text, at);
+        report_line(rt, text, at)?;
         at = next_line(text, at);
     }
+    Ok(())
 }
 
-fn main() {
+fn main(rt: HostRuntime) -> io::Result<()> {
     let mut text = [0u8; 8192];
-    let file = os::open_read(b"numbers");
-    if file < 0 {
-        io::write_all(STDOUT_FILENO, b"no file\n");
-        return;
-    }
-    let n = io::read_full(file, &mut text);
-    libc::close(file);
-    report_all(&text[..n]);
+    let Some(size) = loader::load(&rt, "numbers", &mut text) else {
+        return rt.write_all(b"no file\n");
+    };
+    report_all(&rt, &text[..size])
 }

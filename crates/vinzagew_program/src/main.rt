@@ -8,20 +8,15 @@ ghost use Rattle.io.specs.Counts.{IsPrefixLen};
 ghost use Rattle.lines.specs.Lines.{line_bytes};
 ghost use Rattle.text_reader.specs.Program.{program_line, OwnLine};
 
-use libc::STDOUT_FILENO;
+use std::io;
+use std::rt::Files;
 
 // Reads a file from its beginning into a buffer, and answers how many bytes it gave; a file that
 // can't be opened counts as empty.
-fn load(name: &[u8], buffer: &mut [u8]) -> usize
+fn load<R: Files>(files: &R, name: &str, buffer: &mut [u8]) -> usize
     ensures { IsPrefixLen result buffer.new }
 {
-    let file = os::open_read(name);
-    if file < 0 {
-        return 0;
-    }
-    let count = io::read_full(file, buffer);
-    libc::close(file);
-    count
+    loader::load(files, name, buffer).unwrap_or(0)
 }
 
 // Puts the bytes to print at the front of a buffer, and answers how many they are. They are those
@@ -38,12 +33,12 @@ fn put_output(sheet: &[u8], text: &[u8], buffer: &mut [u8; lines::MOST_LINE]) ->
     lines::write_line(line, buffer)
 }
 
-fn main() {
+fn main(rt: HostRuntime) -> io::Result<()> {
     let mut sheet = [0u8; text_reader::LOADED_SHEET];
     let mut text = [0u8; text_reader::LOADED_TEXT];
     let mut line = [0u8; lines::MOST_LINE];
-    let sheet_size = load(b"sheet", &mut sheet);
-    let text_size = load(b"text", &mut text);
+    let sheet_size = load(&rt, "sheet", &mut sheet);
+    let text_size = load(&rt, "text", &mut text);
     let size = put_output(&sheet[..sheet_size], &text[..text_size], &mut line);
-    io::write_all(STDOUT_FILENO, &line[..size]);
+    rt.write_all(&line[..size])
 }

@@ -7,10 +7,11 @@ ghost use Rattle.std.specs.Prelude.{◌≡◌, ◌+◌, ◌*◌, ◌%◌, ◌^�
 ghost use Rattle.io.specs.Counts.{IsPrefixLen};
 
 use image_writer::Written;
-use libc::STDOUT_FILENO;
 use lines::Line;
 use machine_turn::RunAnswer;
 use sheet_checker::Verdict;
+use std::io;
+use std::rt::Files;
 use text_reader::TextRead;
 
 const PATTERN: u8 = 165;
@@ -155,31 +156,27 @@ fn next_line(text: &[u8], at: usize) -> usize
 }
 
 // Printing what a case gave.
-fn show_word(bytes: &[u8]) {
-    io::write_all(STDOUT_FILENO, bytes);
+fn show_word<R: Print>(rt: &R, bytes: &[u8]) -> io::Result<()> {
+    rt.write_all(bytes)
 }
 
 // Two numbers with a blank between them.
-fn show_pair(first: u64, second: u64) {
-    io::print_decimal(STDOUT_FILENO, first);
-    io::write_all(STDOUT_FILENO, b" ");
-    io::print_decimal(STDOUT_FILENO, second);
+fn show_pair<R: Print>(rt: &R, first: u64, second: u64) -> io::Result<()> {
+    print!(rt; "{first} {second}")
 }
 
 // And three.
-fn show_numbers(first: u64, second: u64, third: u64) {
-    show_pair(first, second);
-    io::write_all(STDOUT_FILENO, b" ");
-    io::print_decimal(STDOUT_FILENO, third);
+fn show_numbers<R: Print>(rt: &R, first: u64, second: u64, third: u64) -> io::Result<()> {
+    show_pair(rt, first, second)?;
+    print!(rt; " {third}")
 }
 
 // The end of a line: whether the lent buffers ended as they must.
-fn show_judgement(right: bool) {
+fn show_judgement<R: Print>(rt: &R, right: bool) -> io::Result<()> {
     if right {
-        io::write_all(STDOUT_FILENO, b" right\n");
-    } else {
-        io::write_all(STDOUT_FILENO, b" wrong\n");
+        return show_word(rt, b" right\n");
     }
+    show_word(rt, b" wrong\n")
 }
 
 fn hexadecimal_digit(value: u8) -> u8 {
@@ -192,22 +189,23 @@ fn hexadecimal_digit(value: u8) -> u8 {
     b'?'
 }
 
-fn show_byte(value: u8) {
+fn show_byte<R: Print>(rt: &R, value: u8) -> io::Result<()> {
     let digits = [hexadecimal_digit(value / 16), hexadecimal_digit(value % 16)];
-    io::write_all(STDOUT_FILENO, &digits);
+    show_word(rt, &digits)
 }
 
 // A blank, and then each of the first bytes as two digits.
-fn show_front(bytes: &[u8], count: usize) {
-    io::write_all(STDOUT_FILENO, b" ");
+fn show_front<R: Print>(rt: &R, bytes: &[u8], count: usize) -> io::Result<()> {
+    show_word(rt, b" ")?;
     let mut i: usize = 0;
     while i < count {
         if bytes.len() <= i {
-            return;
+            return Ok(());
         }
-        show_byte(bytes[i]);
+        show_byte(rt, bytes[i])?;
         i += 1;
     }
+    Ok(())
 }
 
 // Whether the bytes from one place to another are all there, and each is the given one.
@@ -245,31 +243,36 @@ fn buffers_right(number: u8, written: usize, work: &[u8], buffer: &[u8]) -> bool
 }
 
 // What checking answered: number and place, and whether the work area ended as it must.
-fn show_verdict(verdict: Verdict, work: &[u8]) {
+fn show_verdict<R: Print>(rt: &R, verdict: Verdict, work: &[u8]) -> io::Result<()> {
     match verdict {
         Verdict::Refused(number, place) => {
-            show_pair(number as u64, place as u64);
-            show_judgement(work_right(number, work));
+            show_pair(rt, number as u64, place as u64)?;
+            show_judgement(rt, work_right(number, work))
         }
         Verdict::Passed => {
-            show_pair(0, 0);
-            show_judgement(work_right(0, work));
+            show_pair(rt, 0, 0)?;
+            show_judgement(rt, work_right(0, work))
         }
     }
 }
 
 // Checks a sheet with the front of the work area. The buffer is an array here, so that its length is known from its type.
-fn check_with(sheet: &[u8], work_size: usize, work: &mut [u8; WORK]) {
+fn check_with<R: Print>(
+    rt: &R,
+    sheet: &[u8],
+    work_size: usize,
+    work: &mut [u8; WORK],
+) -> io::Result<()> {
     let work: &mut [u8] = work;
     if work.len() < work_size {
-        return;
+        return Ok(());
     }
     let verdict = sheet_checker::check(sheet, &mut work[..work_size]);
-    show_verdict(verdict, work);
+    show_verdict(rt, verdict, work)
 }
 
 // A case: the length of the work area, that of the image buffer, and the sheet. Checking has no image buffer.
-fn check_case(text: &[u8], at: usize)
+fn check_case<R: Print>(rt: &R, text: &[u8], at: usize) -> io::Result<()>
     requires { length text.now ≤ 65536 }
 {
     let mut sheet = [0u8; FIELD];
@@ -278,50 +281,51 @@ fn check_case(text: &[u8], at: usize)
     let sheet_at = after_blank(text, image_at);
     let work_size = decimal_field(text, at);
     let sheet_size = bytes_field(text, sheet_at, &mut sheet);
-    check_with(&sheet[..sheet_size], work_size, &mut work);
+    check_with(rt, &sheet[..sheet_size], work_size, &mut work)
 }
 
 // What writing answered: number, place and length, and on success the image.
-fn show_written(written: Written, work: &[u8], image: &[u8]) {
+fn show_written<R: Print>(rt: &R, written: Written, work: &[u8], image: &[u8]) -> io::Result<()> {
     match written {
         Written::Refused(number, place) => {
-            show_numbers(number as u64, place as u64, 0);
-            show_judgement(buffers_right(number, 0, work, image));
+            show_numbers(rt, number as u64, place as u64, 0)?;
+            show_judgement(rt, buffers_right(number, 0, work, image))
         }
         Written::TooLong(needed) => {
-            show_numbers(11, 0, needed as u64);
-            show_judgement(buffers_right(11, 0, work, image));
+            show_numbers(rt, 11, 0, needed as u64)?;
+            show_judgement(rt, buffers_right(11, 0, work, image))
         }
         Written::Done(size) => {
-            show_numbers(0, 0, size as u64);
-            show_front(image, size);
-            show_judgement(buffers_right(0, size, work, image));
+            show_numbers(rt, 0, 0, size as u64)?;
+            show_front(rt, image, size)?;
+            show_judgement(rt, buffers_right(0, size, work, image))
         }
     }
 }
 
 // Writes a sheet's image with the front of each buffer, which are arrays as above.
-fn write_with(
+fn write_with<R: Print>(
+    rt: &R,
     sheet: &[u8],
     work_size: usize,
     image_size: usize,
     work: &mut [u8; WORK],
     image: &mut [u8; IMAGE],
-) {
+) -> io::Result<()> {
     let work: &mut [u8] = work;
     let image: &mut [u8] = image;
     if work.len() < work_size {
-        return;
+        return Ok(());
     }
     if image.len() < image_size {
-        return;
+        return Ok(());
     }
     let written = image_writer::write(sheet, &mut work[..work_size], &mut image[..image_size]);
-    show_written(written, work, image);
+    show_written(rt, written, work, image)
 }
 
 // A case, with the image buffer.
-fn write_case(text: &[u8], at: usize)
+fn write_case<R: Print>(rt: &R, text: &[u8], at: usize) -> io::Result<()>
     requires { length text.now ≤ 65536 }
 {
     let mut sheet = [0u8; FIELD];
@@ -333,12 +337,13 @@ fn write_case(text: &[u8], at: usize)
     let image_size = decimal_field(text, image_at);
     let sheet_size = bytes_field(text, sheet_at, &mut sheet);
     write_with(
+        rt,
         &sheet[..sheet_size],
         work_size,
         image_size,
         &mut work,
         &mut image,
-    );
+    )
 }
 
 // Whether a run that gives this number leaves all that was lent as it was.
@@ -375,14 +380,20 @@ fn run_front(image: &[u8], input: &[u8], stack_size: usize, stack: &mut [u8]) ->
 }
 
 // And shows the answer, and whether the stack ended as it must.
-fn run_with(image: &[u8], input: &[u8], stack_size: usize, stack: &mut [u8]) {
+fn run_with<R: Print>(
+    rt: &R,
+    image: &[u8],
+    input: &[u8],
+    stack_size: usize,
+    stack: &mut [u8],
+) -> io::Result<()> {
     let ran = run_front(image, input, stack_size, stack);
-    show_numbers(ran.number as u64, ran.place as u64, ran.count as u64);
-    show_judgement(stack_right(ran.number, stack_size, stack));
+    show_numbers(rt, ran.number as u64, ran.place as u64, ran.count as u64)?;
+    show_judgement(rt, stack_right(ran.number, stack_size, stack))
 }
 
 // A case: the length of the stack, the image, and the text.
-fn run_case(text: &[u8], at: usize)
+fn run_case<R: Print>(rt: &R, text: &[u8], at: usize) -> io::Result<()>
     requires { length text.now ≤ 65536 }
 {
     let mut image = [0u8; FIELD];
@@ -394,23 +405,24 @@ fn run_case(text: &[u8], at: usize)
     let image_size = bytes_field(text, image_at, &mut image);
     let input_size = bytes_field(text, input_at, &mut input);
     run_with(
+        rt,
         &image[..image_size],
         &input[..input_size],
         stack_size,
         &mut stack,
-    );
+    )
 }
 
 // A text one byte too long for running, by no image.
-fn run_too_long(input: &[u8; 1048577]) {
+fn run_too_long<R: Print>(rt: &R, input: &[u8; 1048577]) -> io::Result<()> {
     let mut stack = [PATTERN; STACK];
-    run_with(b"", input, STACK, &mut stack);
+    run_with(rt, b"", input, STACK, &mut stack)
 }
 
 // The longest text that running takes, by no image, which is the refusal then.
-fn run_longest(input: &[u8; 1048576]) {
+fn run_longest<R: Print>(rt: &R, input: &[u8; 1048576]) -> io::Result<()> {
     let mut stack = [PATTERN; STACK];
-    run_with(b"", input, STACK, &mut stack);
+    run_with(rt, b"", input, STACK, &mut stack)
 }
 
 // An entry as a number of 64 bits.
@@ -478,32 +490,31 @@ fn rest_unwritten(entries: &[u16], from: usize) -> bool {
 }
 
 // Each of the first entries in decimal, with a blank before it.
-fn show_entries(entries: &[u16], count: usize) {
+fn show_entries<R: Print>(rt: &R, entries: &[u16], count: usize) -> io::Result<()> {
     let mut i: usize = 0;
     while i < count {
         if entries.len() <= i {
-            return;
+            return Ok(());
         }
-        io::write_all(STDOUT_FILENO, b" ");
-        io::print_decimal(STDOUT_FILENO, wide(entries[i]));
+        let entry = wide(entries[i]);
+        print!(rt; " {entry}")?;
         i += 1;
     }
+    Ok(())
 }
 
 // What was written: the count of rows, the checksum of their entries, and their winners. Tells whether all past them is as it was.
-fn show_table(rows: usize, table: &[u16], winners: &[u16]) -> bool
+fn show_table<R: Print>(rt: &R, rows: usize, table: &[u16], winners: &[u16]) -> io::Result<bool>
     requires { rows ≤ 300 }
 {
     let entries = rows * ROW;
-    io::write_all(STDOUT_FILENO, b" ");
-    io::print_decimal(STDOUT_FILENO, rows as u64);
-    io::write_all(STDOUT_FILENO, b" ");
-    io::print_hex(STDOUT_FILENO, checksum(table, entries), 16);
-    show_entries(winners, rows);
+    let sum = checksum(table, entries);
+    print!(rt; " {rows} {sum:016x}")?;
+    show_entries(rt, winners, rows)?;
     if rest_unwritten(winners, rows) {
-        return rest_unwritten(table, entries);
+        return Ok(rest_unwritten(table, entries));
     }
-    false
+    Ok(false)
 }
 
 // Whether two answers are the same.
@@ -586,13 +597,14 @@ fn run_table_front(
 }
 
 // Runs an image over a text with a table, and shows the answer, what was written, and whether all ended as it must.
-fn table_with(
+fn table_with<R: Print>(
+    rt: &R,
     image: &[u8],
     input: &[u8],
     table_size: usize,
     winners_size: usize,
     stack_size: usize,
-) {
+) -> io::Result<()> {
     let mut table = [UNWRITTEN; TABLE];
     let mut winners = [UNWRITTEN; WINNERS];
     let mut stack = [PATTERN; STACK];
@@ -606,14 +618,14 @@ fn table_with(
         &mut winners,
         &mut stack,
     );
-    show_numbers(ran.number as u64, ran.place as u64, ran.count as u64);
+    show_numbers(rt, ran.number as u64, ran.place as u64, ran.count as u64)?;
     let rows = rows_written(&winners);
-    let kept = show_table(rows, &table, &winners);
-    show_judgement(run_right(image, input, stack_size, &stack, ran, kept));
+    let kept = show_table(rt, rows, &table, &winners)?;
+    show_judgement(rt, run_right(image, input, stack_size, &stack, ran, kept))
 }
 
 // A case: the lengths of the table, of the winners and of the stack, the image, and the text.
-fn table_case(text: &[u8], at: usize)
+fn table_case<R: Print>(rt: &R, text: &[u8], at: usize) -> io::Result<()>
     requires { length text.now ≤ 65536 }
 {
     let mut image = [0u8; FIELD];
@@ -625,23 +637,24 @@ fn table_case(text: &[u8], at: usize)
     let image_size = bytes_field(text, image_at, &mut image);
     let input_size = bytes_field(text, input_at, &mut input);
     table_with(
+        rt,
         &image[..image_size],
         &input[..input_size],
         decimal_field(text, at),
         decimal_field(text, winners_at),
         decimal_field(text, stack_at),
-    );
+    )
 }
 
 // The text that is too long, by no image: with a table, and with one that is too short, which is the first question.
-fn table_too_long(input: &[u8; 1048577]) {
-    table_with(b"", input, 65536, 256, STACK);
-    table_with(b"", input, 65535, 256, STACK);
+fn table_too_long<R: Print>(rt: &R, input: &[u8; 1048577]) -> io::Result<()> {
+    table_with(rt, b"", input, 65536, 256, STACK)?;
+    table_with(rt, b"", input, 65535, 256, STACK)
 }
 
 // And the longest text, by no image.
-fn table_longest(input: &[u8; 1048576]) {
-    table_with(b"", input, 65536, 256, STACK);
+fn table_longest<R: Print>(rt: &R, input: &[u8; 1048576]) -> io::Result<()> {
+    table_with(rt, b"", input, 65536, 256, STACK)
 }
 
 // Has a text read by a sheet. The buffers are arrays, so that their lengths are known from their types.
@@ -678,18 +691,19 @@ fn read_case(text: &[u8], at: usize) -> TextRead
     )
 }
 
-fn show_read(read: TextRead) {
+fn show_read<R: Print>(rt: &R, read: TextRead) -> io::Result<()> {
     match read {
-        TextRead::Sheet(number, place) => show_numbers(number as u64, place as u64, 0),
+        TextRead::Sheet(number, place) => show_numbers(rt, number as u64, place as u64, 0)?,
         TextRead::Text(answer) => {
             show_numbers(
+                rt,
                 answer.number as u64,
                 answer.place as u64,
                 answer.count as u64,
-            )
+            )?
         }
     }
-    show_word(b"\n");
+    show_word(rt, b"\n")
 }
 
 // A case: the sheet, and the text, as the program would read them.
@@ -705,29 +719,30 @@ fn program_case(text: &[u8], at: usize) -> Line
 }
 
 // A line, as the program prints it.
-fn show_line(line: Line) {
+fn show_line<R: Print>(rt: &R, line: Line) -> io::Result<()> {
     let mut buffer = [0u8; lines::MOST_LINE];
     let size = lines::write_line(line, &mut buffer);
-    show_word(&buffer[..size]);
+    show_word(rt, &buffer[..size])
 }
 
 // Recognises a text by a sheet with the front of each buffer, and shows the answer, the tokens written, and whether the buffers ended as
 // they must.
-fn recognise_with(
+fn recognise_with<R: Print>(
+    rt: &R,
     sheet: &[u8],
     input: &[u8],
     work_size: usize,
     list_size: usize,
     work: &mut [u8; WORK],
     list: &mut [u8; IMAGE],
-) {
+) -> io::Result<()> {
     let work: &mut [u8] = work;
     let list: &mut [u8] = list;
     if work.len() < work_size {
-        return;
+        return Ok(());
     }
     if list.len() < list_size {
-        return;
+        return Ok(());
     }
     let told = text_recogniser::recognise(
         sheet,
@@ -735,13 +750,13 @@ fn recognise_with(
         &mut work[..work_size],
         &mut list[..list_size],
     );
-    show_numbers(told.number as u64, told.place as u64, told.count as u64);
-    show_front(list, told.count);
-    show_judgement(buffers_right(told.number, told.count, work, list));
+    show_numbers(rt, told.number as u64, told.place as u64, told.count as u64)?;
+    show_front(rt, list, told.count)?;
+    show_judgement(rt, buffers_right(told.number, told.count, work, list))
 }
 
 // A case: the lengths of the work area and of the list, the sheet, and the text.
-fn recognise_case(text: &[u8], at: usize)
+fn recognise_case<R: Print>(rt: &R, text: &[u8], at: usize) -> io::Result<()>
     requires { length text.now ≤ 65536 }
 {
     let mut sheet = [0u8; FIELD];
@@ -756,13 +771,14 @@ fn recognise_case(text: &[u8], at: usize)
     let sheet_size = bytes_field(text, sheet_at, &mut sheet);
     let input_size = bytes_field(text, input_at, &mut input);
     recognise_with(
+        rt,
         &sheet[..sheet_size],
         &input[..input_size],
         work_size,
         list_size,
         &mut work,
         &mut list,
-    );
+    )
 }
 
 // The files, and what a line of each asks for.
@@ -777,55 +793,52 @@ enum Kind {
     Recognise,
 }
 
-fn show_case(kind: Kind, text: &[u8], at: usize)
+fn show_case<R: Print>(rt: &R, kind: Kind, text: &[u8], at: usize) -> io::Result<()>
     requires { length text.now ≤ 65536 }
 {
     match kind {
-        Kind::Check => check_case(text, at),
-        Kind::Write => write_case(text, at),
-        Kind::Read => show_read(read_case(text, at)),
-        Kind::Run => run_case(text, at),
-        Kind::Table => table_case(text, at),
-        Kind::Program => show_line(program_case(text, at)),
-        Kind::Recognise => recognise_case(text, at),
+        Kind::Check => check_case(rt, text, at),
+        Kind::Write => write_case(rt, text, at),
+        Kind::Read => show_read(rt, read_case(text, at)),
+        Kind::Run => run_case(rt, text, at),
+        Kind::Table => table_case(rt, text, at),
+        Kind::Program => show_line(rt, program_case(text, at)),
+        Kind::Recognise => recognise_case(rt, text, at),
     }
 }
 
-fn show_cases(kind: Kind, text: &[u8])
+fn show_cases<R: Print>(rt: &R, kind: Kind, text: &[u8]) -> io::Result<()>
     requires { length text.now ≤ 65536 }
 {
     let mut at: usize = 0;
     while at < text.len() {
-        show_case(kind, text, at);
+        show_case(rt, kind, text, at)?;
         at = next_line(text, at);
     }
+    Ok(())
 }
 
 // Prints a line for each line of a file.
-fn show_file(kind: Kind, name: &[u8]) {
+fn show_file<R: Files + Print>(rt: &R, kind: Kind, name: &str) -> io::Result<()> {
     let mut text = [0u8; 65536];
-    let file = os::open_read(name);
-    if file < 0 {
-        show_word(b"no file\n");
-        return;
-    }
-    let size = io::read_full(file, &mut text);
-    libc::close(file);
-    show_cases(kind, &text[..size]);
+    let Some(size) = loader::load(rt, name, &mut text) else {
+        return show_word(rt, b"no file\n");
+    };
+    show_cases(rt, kind, &text[..size])
 }
 
-fn main() {
+fn main(rt: HostRuntime) -> io::Result<()> {
     let too_long = [0u8; 1048577];
     let longest = [0u8; 1048576];
-    show_file(Kind::Check, b"sheets");
-    show_file(Kind::Write, b"sheets");
-    show_file(Kind::Read, b"read");
-    show_file(Kind::Run, b"run");
-    run_too_long(&too_long);
-    run_longest(&longest);
-    show_file(Kind::Table, b"table");
-    table_too_long(&too_long);
-    table_longest(&longest);
-    show_file(Kind::Program, b"program");
-    show_file(Kind::Recognise, b"recognise");
+    show_file(&rt, Kind::Check, "sheets")?;
+    show_file(&rt, Kind::Write, "sheets")?;
+    show_file(&rt, Kind::Read, "read")?;
+    show_file(&rt, Kind::Run, "run")?;
+    run_too_long(&rt, &too_long)?;
+    run_longest(&rt, &longest)?;
+    show_file(&rt, Kind::Table, "table")?;
+    table_too_long(&rt, &too_long)?;
+    table_longest(&rt, &longest)?;
+    show_file(&rt, Kind::Program, "program")?;
+    show_file(&rt, Kind::Recognise, "recognise")
 }
