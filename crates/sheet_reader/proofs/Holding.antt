@@ -167,7 +167,7 @@ unfolding with_all
 items_held {c} {actions} {places} {items} [] h n k = rw (append-nil items) h
 items_held {c} {actions} {places} {items} (i ∷ more) h n k =
     rw (← append_assoc items (i ∷ []) more)
-    (items_held more (item_held h (omega arith) i (omega arith)) (omega (arith, items_put c i)) (omega (arith, classes_put c i)))
+    (items_held {c = with_item c i} more (item_held h (omega arith) i (omega arith)) (omega (arith, items_put c i)) (omega (arith, classes_put c i)))
 
 -- What the items of all rules count.
 abbrev node_sum : List ReadRule → ℕ
@@ -193,7 +193,7 @@ rules_held {c} {actions} {places} {items} (r ∷ rules) h l n k =
       ← append_assoc places (r.place ∷ []) (map (λ s. s.place) rules),
       ← append_assoc items r.items (flat_map (λ s. s.items) rules),
     )
-    (rules_held rules (items_held r.items (action_held h r.action r.place (omega arith)) (omega arith) (omega arith))
+    (rules_held {c = with_rule c r} rules (items_held r.items (action_held h r.action r.place (omega arith)) (omega arith) (omega arith))
     (omega arith) (omega arith) (omega arith))
 
 -- ---- what is held in the end
@@ -250,7 +250,7 @@ unfolding with_all with_read_node
 nodes_held {c} {items} {places} [] h l = rw (append-nil items, append-nil places) h
 nodes_held {c} {items} {places} (n ∷ nodes) h l =
     rw (← append_assoc items (n.item ∷ []) (map (λ m. m.item) nodes), ← append_assoc places (n.place ∷ []) (map (λ m. m.place) nodes))
-    (nodes_held nodes (node_held n.item n.place h (omega arith)) (omega arith))
+    (nodes_held {c = with_node c (expression_tag n.item) (number_after n.item) n.place} nodes (node_held n.item n.place h (omega arith)) (omega arith))
 
 pub all-nodes-held : (nodes : List ReadNode) → length nodes ≤ 64
     → NodesHold (with_all with_read_node no_nodes nodes) (map (λ n. n.item) nodes) (map (λ n. n.place) nodes)
