@@ -69,3 +69,4 @@ completed-here tokens most link at i [] ds l h = refl
 completed-here tokens most link at i (g ∷ gs) (d ∷ ds) l h =
     completed-here tokens d.depth (linked link d.parent at) (at + size g) i gs ds l h.1
     ∙ linked_other link d.parent at i l h.0.parent_past
+completed-here tokens most link at i (g ∷ gs) [] l h = elim h [ ]

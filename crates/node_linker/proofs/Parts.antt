@@ -97,6 +97,8 @@ dues_on tokens i j most more (g ∷ gs) (d ∷ ds) l m h = (
   },
   dues_on tokens i j d.depth d.depth gs ds l (omega arith) h.1,
 )
+dues_on tokens i j most more [] (d ∷ ds) l m h = elim h [ ]
+dues_on tokens i j most more (g ∷ gs) [] l m h = elim h [ ]
 
 -- A fixed point that opens deeper is none of theirs.
 pub nodes_due-set : (tokens i most : ℕ) (owner : List ℕ) (k v at : ℕ) (gs : List Expression) (ds : List Due) → most ≤ k
@@ -105,3 +107,5 @@ nodes_due-set tokens i most owner k v at [] [] l h = refl
 nodes_due-set tokens i most owner k v at (g ∷ gs) (d ∷ ds) l h =
     ap₂ ◌++◌ (ap (nodes_from g at) (binders-set owner d.depth d.guarded k v (omega (arith, h.0.within))))
     (nodes_due-set tokens i d.depth owner k v (at + size g) gs ds (omega (arith, h.0.within)) h.1)
+nodes_due-set tokens i most owner k v at [] (d ∷ ds) l h = elim h [ ]
+nodes_due-set tokens i most owner k v at (g ∷ gs) [] l h = elim h [ ]

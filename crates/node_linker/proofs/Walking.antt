@@ -54,6 +54,8 @@ due_items : (gs : List Expression) (ds : List Due) (tokens i most : ℕ) → Due
 due_items [] [] tokens i most h = omega arith
 due_items (g ∷ gs) (d ∷ ds) tokens i most h =
     rw (own-first g, length-append (own_item g ∷ part_items g) (items_due gs)) (omega (arith, due_items gs ds tokens i d.depth h.1))
+due_items [] (d ∷ ds) tokens i most h = elim h [ ]
+due_items (g ∷ gs) [] tokens i most h = elim h [ ]
 
 -- Where no items are left, no expression is still to come.
 pub none-due : (gs : List Expression) → [] ≡ items_due gs → gs ≡ []
