@@ -1,7 +1,7 @@
 -- Laws of the walk over columns: one for each way through a step, the remembered nodes in their array, and the nodes moved to the
 -- front. That the walk over the columns of a typed expression is the definition's walk is proved elsewhere.
 use mathlib.Core.Path.{◌≡◌, refl, sym, ap, ap₂, ◌∙◌}
-use mathlib.Core.Bool.{Bool, true, false, not, ◌||◌, cond, true≢false}
+use mathlib.Core.Bool.{Bool, true, false, ◌||◌, cond, true≢false}
 use mathlib.Core.List.{List, [], ◌∷◌, ◌++◌}
 use mathlib.Core.Logic.{◌⊎◌, inl, inr, ⊎_elim}
 use mathlib.Core.Option.{Option, none, some}
@@ -21,14 +21,6 @@ use Rattle.normal_form.specs.ProductionWalk.{walk_step, walk}
 use Rattle.production_finder.specs.Columns.{tail_held}
 use Rattle.production_finder.specs.ColumnWalk.{column_node, column_first, next_node, column_walk}
 use Rattle.production_finder.specs.declared.Walked.{Walked}
-
-pub not-true : (b : Bool) → not b ≡ true → b ≡ false
-not-true true e = sym e
-not-true false e = refl
-
-pub not-false : (b : Bool) → not b ≡ false → b ≡ true
-not-false true e = refl
-not-false false e = sym e
 
 none-not-some : {x : List ℕ} → ◌≡◌ {A = Option (List ℕ)} none (some x) → ⊥
 none-not-some e = let z : ◌≡◌ {A = ℕ} 0 1 = cc in absurd (omega arith)
