@@ -10,8 +10,7 @@ use lib.Seq.{get_or-drop}
 use Rattle.basics.proofs.laws.BitLaws.{shl_one}
 use Rattle.leading_sets.specs.Leading.{leading, leading_and_following}
 use Rattle.leading_sets.proofs.laws.LeadingLaws.{both_lower, both_upper, following_one}
-use Rattle.leading_sets.proofs.single_of.Statement.{statement}
-use Rattle.leading_sets.proofs.single_of.Tie as tie
+use Rattle.leading_sets.proofs.single_of.Goals as goal
 
 -- A position of the lower set.
 lower_single : (follow : List ℕ) (y : ℕ) → y < 64 → leading follow ((1 * 2 ^ y) % 2 ^ 64) ≡ leading_and_following follow (2 ^ y)
@@ -26,39 +25,27 @@ upper_single tables y l h =
     ∙ sym (both_upper (drop 256 tables) (2 ^ (y - 64)))
     ∙ ap (leading_and_following (drop 256 tables)) (sym (pow-add 2 (y - 64) 64) ∙ ap (λ (x : ℕ). 2 ^ x) e)
 
-shl-leading-to : tie.Need-overflow-shl-leading-to
-shl-leading-to c = search rules
+pub overflow_shl-y : goal.overflow_shl-y
+overflow_shl-y c = search rules
 
-leading-to-requires : tie.Need-leading-to-requires
-leading-to-requires c κs = search rules
+pub leading_to-requires : goal.leading_to-requires
+leading_to-requires c = search rules
 
-returns : tie.Need-returns
+pub returns-then-y-lt64 : goal.returns-then-y-lt64
+returns-then-y-lt64 c =
+    let a = c.args in
+    c.leading_to.ensures ∙ lower_single (drop 256 a.tables.now) a.y c.if-y-lt64.true
+
+pub overflow_add-result : goal.overflow_add-result
+overflow_add-result c = search rules
+
+pub offset_bounds-tables-y : goal.offset_bounds-tables-y
+offset_bounds-tables-y c = search rules
+
+pub bounds-tables-y : goal.bounds-tables-y
+bounds-tables-y c = search rules
+
+pub returns : goal.returns
 returns c =
-    let a = c.before.before.args in
-    c.leading-to.ensures ∙ lower_single (drop 256 a.tables.now) a.y c.before.if1.true
-
-add-result : tie.Need-overflow-add-result
-add-result c = search rules
-
-mul-result : tie.Need-overflow-mul-result
-mul-result c = search rules
-
-element-copy-out-result : tie.Need-element-copy-out-result
-element-copy-out-result c = search rules
-
-returns_2 : tie.Need-returns-2
-returns_2 c =
-    let a = c.before.before.args in
-    upper_single a.tables.now a.y c.before.if1.false c.before.before.requires
-
-pub single-of-spec : {M : Type 1} → statement M
-single-of-spec =
-    tie.close
-    (tie.spec
-    shl-leading-to
-    leading-to-requires
-    returns
-    add-result
-    mul-result
-    element-copy-out-result
-    returns_2)
+    let a = c.args in
+    upper_single a.tables.now a.y c.if-y-lt64.false c.requires

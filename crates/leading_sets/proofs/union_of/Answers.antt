@@ -1,5 +1,3 @@
--- `leading_sets::union_of` meets its contract. The loop's invariant: what was joined, with the answer for the bytes that are left, is the
--- answer for the set. A word of 64 digits has eight bytes, so every place that is read is in the table.
 use mathlib.Core.Path.{◌≡◌, sym, ap, ap₂, ◌∙◌}
 use mathlib.Core.List.{List}
 use Prim.Native.Nat.{ℕ, suc, ◌+◌, ◌-◌, ◌*◌, ◌/◌, ◌%◌, ◌^◌, ◌≤◌, ◌<◌}
@@ -9,17 +7,8 @@ use lib.ListN.{get_or}
 use Rattle.basics.proofs.laws.BitLaws.{or_assoc}
 use Rattle.leading_sets.specs.Leading.{leading_and_following, Unions}
 use Rattle.leading_sets.proofs.laws.LeadingLaws.{both_join, bytes_joined, bytes_few, bytes_fewer}
-use Rattle.leading_sets.proofs.union_of.Statement.{statement}
-use Rattle.leading_sets.proofs.union_of.Tie as tie
-
--- Byte at / 256 of the two sets comes next.
-record Joined (set start : ℕ) (unions : List ℕ) (left at joined : ℕ) : Type 0 where
-  whole : (follow : List ℕ) → Unions follow unions
-      → bit_or joined (leading_and_following follow (left * 256 ^ (at / 256))) ≡ leading_and_following follow (set * 256 ^ (start / 256))
-  low : start ≤ 2048
-  onward : start ≤ at
-  bytes : (start % 256 ≡ 0) × (at % 256 ≡ 0)
-  few : left * 256 ^ ((at - start) / 256) < 2 ^ 64
+use Rattle.leading_sets.proofs.union_of.Invariants.{Joined}
+use Rattle.leading_sets.proofs.union_of.Goals as goal
 
 joined-none : (set start : ℕ) (unions : List ℕ) → set < 2 ^ 64 → start ≤ 2048 → start % 256 ≡ 0 → Joined set start unions set start 0
 joined-none set start unions h l b =
@@ -62,47 +51,26 @@ module _ (set start : ℕ) (unions : List ℕ) (left at joined : ℕ) (j : Joine
       let z : left * 256 ^ (at / 256) ≡ 0 = ap (λ (x : ℕ). x * 256 ^ (at / 256)) e ∙ omega arith in
       sym (or_zero_r joined) ∙ ap (bit_or joined) (sym (ap (leading_and_following follow) z ∙ (both_join follow).none)) ∙ j.whole follow u
 
-abbrev invariant-loop : tie.invariant-loop
-invariant-loop set start unions left₀ at₀ joined₀ left at joined = Joined set start unions left at joined
+pub loop-left-init : goal.loop-left-init
+loop-left-init c = joined-none _ _ _ (omega arith) c.requires.0 c.requires.1
 
-abbrev decreases-loop : tie.decreases-loop
-decreases-loop set start unions left₀ at₀ joined₀ left at joined = left
+pub overflow_add-joined : goal.overflow_add-joined
+overflow_add-joined c = omega (arith, place_few _ _ _ _ _ _ c.loop-left.invariant c.loop-left-test.true)
 
-loop-holds : tie.Need-loop-init invariant-loop decreases-loop
-loop-holds c = joined-none _ _ _ (omega arith) c.requires.0 c.requires.1
+pub offset_bounds-unions-at : goal.offset_bounds-unions-at
+offset_bounds-unions-at c = omega (arith, place_few _ _ _ _ _ _ c.loop-left.invariant c.loop-left-test.true)
 
-add-joined : tie.Need-overflow-add-joined invariant-loop decreases-loop
-add-joined c = omega (arith, place_few _ _ _ _ _ _ c.before.loop.invariant c.loop-test.true)
+pub bounds-unions-at : goal.bounds-unions-at
+bounds-unions-at c = place_few _ _ _ _ _ _ c.loop-left.invariant c.loop-left-test.true
 
-mul-joined : tie.Need-overflow-mul-joined invariant-loop decreases-loop
-mul-joined c = omega (arith, place_few _ _ _ _ _ _ c.before.loop.invariant c.loop-test.true)
+pub overflow_add-at : goal.overflow_add-at
+overflow_add-at c = omega (arith, place_few _ _ _ _ _ _ c.loop-left.invariant c.loop-left-test.true)
 
-element-copy-out-joined : tie.Need-element-copy-out-joined invariant-loop decreases-loop
-element-copy-out-joined c = place_few _ _ _ _ _ _ c.before.loop.invariant c.loop-test.true
+pub loop-left-smaller : goal.loop-left-smaller
+loop-left-smaller c = omega arith
 
-add_at : tie.Need-overflow-add-at invariant-loop decreases-loop
-add_at c = omega (arith, place_few _ _ _ _ _ _ c.before.before.loop.invariant c.before.loop-test.true)
+pub loop-left-preserved : goal.loop-left-preserved
+loop-left-preserved c = joined_more _ _ _ _ _ _ c.loop-left.invariant c.loop-left-test.true
 
-loop-less : tie.Need-loop-smaller invariant-loop decreases-loop
-loop-less c = omega arith
-
-loop-again : tie.Need-loop-preserved invariant-loop decreases-loop
-loop-again c = joined_more _ _ _ _ _ _ c.before.before.loop.invariant c.before.loop-test.true
-
-returns : tie.Need-returns invariant-loop decreases-loop
-returns c = joined_all _ _ _ _ _ _ c.before.loop.invariant c.loop-test.false
-
-pub union-of-spec : {M : Type 1} → statement M
-union-of-spec =
-    tie.close
-    (tie.spec
-    invariant-loop
-    decreases-loop
-    loop-holds
-    add-joined
-    mul-joined
-    element-copy-out-joined
-    add_at
-    loop-less
-    loop-again
-    returns)
+pub returns : goal.returns
+returns c = joined_all _ _ _ _ _ _ c.loop-left.invariant c.loop-left-test.false
