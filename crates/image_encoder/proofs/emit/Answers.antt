@@ -8,25 +8,25 @@ use Rattle.number.proofs.laws.Laws.{encode_ten}
 use Rattle.image_encoder.proofs.emit.Goals as goal
 
 pub overflow_add-result : goal.overflow_add-result
-overflow_add-result c = let z = c.before.before.before.before.before.before.before in let w = c.write_number_at-used in omega
-    (arith, used-width _ _ _ _ w.ensures.0 c.if-used-gt0.true, encode_ten z.args.n, z.requires)
+overflow_add-result c = let w = c.write_number_at-used in omega
+    (arith, used-width _ _ _ _ w.ensures.0 c.if-used-gt0.true, encode_ten c.args.n, c.requires)
 
 pub returns-then-used-gt0 : goal.returns-then-used-gt0
-returns-then-used-gt0 c = let z = c.before.before.before.before.before.before.before in
+returns-then-used-gt0 c =
     let w = c.write_number_at-used in
     let u = used-width _ _ _ _ w.ensures.0 c.if-used-gt0.true in
-    (omega (arith, u, encode_ten z.args.n), emitted_one w.ensures.1 (ap (λ (k : ℕ). z.args.at + k) u))
+    (omega (arith, u, encode_ten c.args.n), emitted_one w.ensures.1 (ap (λ (k : ℕ). c.args.at + k) u))
 
 pub overflow_add-result-2 : goal.overflow_add-result-2
-overflow_add-result-2 c = let z = c.before.before.before.before.before.before.before.before in omega (
+overflow_add-result-2 c = omega (
   arith,
   c.number_width.ensures,
-  encode_ten z.args.n,
-  z.requires,
+  encode_ten c.args.n,
+  c.requires,
 )
 
 pub returns : goal.returns
-returns c = let z = c.before.before.before.before.before.before.before.before in
+returns c =
     let w = c.write_number_at-used in
     let u = c.number_width.ensures in
-    (omega (arith, u, encode_ten z.args.n), emitted_one w.ensures.1 (ap (λ (k : ℕ). z.args.at + k) u))
+    (omega (arith, u, encode_ten c.args.n), emitted_one w.ensures.1 (ap (λ (k : ℕ). c.args.at + k) u))

@@ -1,11 +1,9 @@
 use mathlib.Core.Path.{◌≡◌, refl, sym, subst, ◌∙◌}
 use mathlib.Core.List.{List}
-use mir.Syntax.{w64}
-use mir.Val.{Fits}
 use Prim.Native.Nat.{ℕ, ◌≤◌, ◌<◌}
 use native.Mathlib.Omega.{arith}
 use borrow.Author.Rules.{rules}
-use lib.ListN.{get_or, length, take}
+use lib.ListN.{length, take}
 use Rattle.basics.specs.Lists.{All}
 use Rattle.basics.specs.Meeting.{meet_all}
 use Rattle.node_numbering.proofs.Meeting.{found_members, member_met, member_number, nothing_met}
@@ -14,14 +12,6 @@ use Rattle.node_numbering.specs.Grammar.{Numbers, numbering_of}
 use Rattle.node_numbering.specs.Leads.{Leads}
 use Rattle.image_encoder.proofs.Writing.{nothing_yet, one_more, all_done, same_number, production_emitted}
 use Rattle.image_encoder.proofs.emit_production.Goals as goal
-use Rattle.image_encoder.proofs.emit_production.Goals.{Start}
-
--- What the type of the tail says of its members.
-members-long : (z : Start) → length z.args.tail.members ≡ 32
-members-long z = search rules
-
-member-fits : (z : Start) (i : ℕ) → Fits w64 (get_or z.args.tail.members i 0)
-member-fits z i = search rules
 
 pub emit-next-requires : goal.emit-next-requires
 emit-next-requires c = omega (arith, c.emit-after_rule.ensures.0, c.requires.0)
@@ -39,9 +29,6 @@ loop-i-init c = let p = c.requires in (
 
 pub bounds-tail-i : goal.bounds-tail-i
 bounds-tail-i c = omega (arith, c.loop-i-test.true, c.requires.1)
-
-pub overflow_cast-node : goal.overflow_cast-node
-overflow_cast-node c = member-fits c.before.before.before.before.before.before.before.before.before.before.before.before _
 
 pub number_of-own-requires : goal.number_of-own-requires
 number_of-own-requires c = number-length _ _ _ c.meet-known.ensures ∙ c.loop-i.invariant.5
@@ -63,7 +50,7 @@ loop-i-preserved c = let l = c.loop-i in
     let below = c.loop-i-test.true in
     let joins = c.meet-known.ensures in
     let x = c.emit-next-in-loop-i.ensures in
-    let size = members-long c.before.before.before.before.before.before.before.before.before.before.before.before.before.before.before.before.before.before.before.before.before in
+    let size : length t.members ≡ 32 = search rules in
     let room : t.count ≤ length t.members = omega (arith, c.requires.1) in (
       omega (arith, below),
       omega (arith, x.0, l.invariant.1),
@@ -85,14 +72,13 @@ shape_of-image c = let l = c.loop-i in
 
 pub returns : goal.returns
 returns c = let l = c.loop-i in
-    let z = c.before.before.before.before.before.before.before.before.before.before.before in
-    let t = z.args.tail in
-    let found = z.requires.3 in
+    let t = c.args.tail in
+    let found = c.requires.3 in
     let rule = c.emit-after_rule.ensures in
     let count = c.emit-next.ensures in
     let same : l.i ≡ t.count = omega (arith, l.invariant.0, c.loop-i-test.false) in
-    let size = members-long z in (
-      omega (arith, l.invariant.0, l.invariant.1, rule.0, count.0, z.requires.1),
+    let size : length t.members ≡ 32 = search rules in (
+      omega (arith, l.invariant.0, l.invariant.1, rule.0, count.0, c.requires.1),
       l.invariant.2,
       l.invariant.4,
       l.invariant.5,
@@ -103,7 +89,7 @@ returns c = let l = c.loop-i in
             subst (λ (k : List ℕ). Numbers (numbering_of l.known l.met l.number) (meet_all nodes k)) (sym is)
                 (subst (λ (k : ℕ). Numbers (numbering_of l.known l.met l.number) (meet_all nodes (take k t.members))) same
                 so_far.0),
-            production_emitted _ all t found (omega (arith, z.requires.1)) rule.1 count.1
+            production_emitted _ all t found (omega (arith, c.requires.1)) rule.1 count.1
                 (all_done _ l.i _ l.invariant.0 c.loop-i-test.false so_far.1),
           ),
     )
