@@ -2,11 +2,10 @@
 -- the right part; and nothing where a call ends.
 use mathlib.Core.Path.{◌≡◌, sym, subst, ◌∙◌}
 use mathlib.Core.List.{List}
-use mathlib.Core.Logic.{◌⊎◌, inl, inr, ⊎_elim}
-use Prim.Native.Nat.{ℕ, suc, ◌-◌, ◌/◌, ◌%◌, ◌≤◌, ◌<◌}
+use mathlib.Core.Logic.{inl, inr, ⊎_elim}
+use Prim.Native.Nat.{ℕ, suc, ◌/◌, ◌%◌, ◌≤◌, ◌<◌}
 use native.Mathlib.Omega.{arith}
 use Rattle.sheet.specs.Expression.{Expression}
-use Rattle.types.specs.Nodes.{nodes}
 use Rattle.recogniser.specs.Descends.{Descent, left, stuck, Descends}
 use Rattle.descent_table.specs.TableOf.{link_at, up_at}
 use Rattle.descent.specs.Steps.{stuck_at, Below, After, nothing_more, goes_on, fails_on, Through, reads, fails, Pending, none_pending, next_pending}

@@ -43,7 +43,7 @@ fn stuck(falling: usize) -> usize
 }
 
 // A node that the next token begins. ε and ⊥ are no such nodes.
-#[cycle(alternative_enter_fixed_point_leave_repetition_sequence_token_variable_visit)]
+#[cycle(descent)]
 fn enter(table: &[u64; 320], tokens: &[u8; 2048], node: usize, root: usize, falling: usize) -> usize
     requires { (node < 64) × (falling < 524544) }
     ensures { Below (falling / 256) result
@@ -65,7 +65,7 @@ fn enter(table: &[u64; 320], tokens: &[u8; 2048], node: usize, root: usize, fall
 }
 
 // A token: it is the next, and is taken. The rank is full again.
-#[cycle(alternative_enter_fixed_point_leave_repetition_sequence_token_variable_visit)]
+#[cycle(descent)]
 fn token(table: &[u64; 320], tokens: &[u8; 2048], node: usize, root: usize, falling: usize) -> usize
     requires { (node < 64) × (falling < 524544) × (0 < falling) }
     ensures { Below (falling / 256) result
@@ -79,7 +79,7 @@ fn token(table: &[u64; 320], tokens: &[u8; 2048], node: usize, root: usize, fall
 }
 
 // A sequence: its left part. The right part comes when that is left.
-#[cycle(alternative_enter_fixed_point_leave_repetition_sequence_token_variable_visit)]
+#[cycle(descent)]
 fn sequence(
     table: &[u64; 320],
     tokens: &[u8; 2048],
@@ -96,7 +96,7 @@ fn sequence(
 }
 
 // An alternative: the part that the next token begins.
-#[cycle(alternative_enter_fixed_point_leave_repetition_sequence_token_variable_visit)]
+#[cycle(descent)]
 fn alternative(
     table: &[u64; 320],
     tokens: &[u8; 2048],
@@ -118,7 +118,7 @@ fn alternative(
 }
 
 // A fixed point: its body.
-#[cycle(alternative_enter_fixed_point_leave_repetition_sequence_token_variable_visit)]
+#[cycle(descent)]
 fn fixed_point(
     table: &[u64; 320],
     tokens: &[u8; 2048],
@@ -135,7 +135,7 @@ fn fixed_point(
 }
 
 // A variable: its fixed point is read by a call of its own, which ends there and, unless it is stuck, has taken a token.
-#[cycle(alternative_enter_fixed_point_leave_repetition_sequence_token_variable_visit)]
+#[cycle(descent)]
 fn variable(
     table: &[u64; 320],
     tokens: &[u8; 2048],
@@ -157,7 +157,7 @@ fn variable(
 }
 
 // A repetition: its part. The repetition comes again when that is left.
-#[cycle(alternative_enter_fixed_point_leave_repetition_sequence_token_variable_visit)]
+#[cycle(descent)]
 fn repetition(
     table: &[u64; 320],
     tokens: &[u8; 2048],
@@ -174,7 +174,7 @@ fn repetition(
 }
 
 // Any node that denotes something: one that the next token does not begin takes nothing. ε is chosen without a look at what follows.
-#[cycle(alternative_enter_fixed_point_leave_repetition_sequence_token_variable_visit)]
+#[cycle(descent)]
 fn visit(table: &[u64; 320], tokens: &[u8; 2048], node: usize, root: usize, falling: usize) -> usize
     requires { (node < 64) × (falling < 524544) }
     ensures { Below (falling / 256 + 1) result
@@ -190,7 +190,7 @@ fn visit(table: &[u64; 320], tokens: &[u8; 2048], node: usize, root: usize, fall
 }
 
 // A node is done: what comes after it in the sequence or the repetition in whose part it stands, unless the call ends first.
-#[cycle(alternative_enter_fixed_point_leave_repetition_sequence_token_variable_visit)]
+#[cycle(descent)]
 fn leave(table: &[u64; 320], tokens: &[u8; 2048], node: usize, root: usize, falling: usize) -> usize
     requires { (node < 64) × (falling < 524544) }
     ensures { Below (falling / 256 + 1) result

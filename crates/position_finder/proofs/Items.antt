@@ -79,10 +79,10 @@ regexes_short (i ∷ is) = omega (arith, before_short i (regexes is), regexes_sh
 
 -- ---- the item at a place
 
-get_d_map : {A B : Type 0} (f : A → B) (l : List A) (n : ℕ) (d : A) → get_or (map f l) n (f d) ≡ f (get_or l n d)
-get_d_map f [] n d = refl
-get_d_map f (a ∷ l) zero d = refl
-get_d_map f (a ∷ l) (suc n) d = get_d_map f l n d
+get_or_map : {A B : Type 0} (f : A → B) (l : List A) (n : ℕ) (d : A) → get_or (map f l) n (f d) ≡ f (get_or l n d)
+get_or_map f [] n d = refl
+get_or_map f (a ∷ l) zero d = refl
+get_or_map f (a ∷ l) (suc n) d = get_or_map f l n d
 
 sum-take : (is : List RegexItem) (n : ℕ) (d : RegexItem) → n < length is
     → sum item_classes (take (suc n) is) ≡ sum item_classes (take n is) + item_classes (get_or is n d)
@@ -111,7 +111,7 @@ item_before rs tags items at h l m =
       record {
         made = ap regexes c;
         tag = sym (get_or-take items tags n 0 (omega arith)) ∙ ap (λ (t : List ℕ). get_or t n 0) h.tags_held
-            ∙ get_d_map regex_tag is n empty_item;
+            ∙ get_or_map regex_tag is n empty_item;
         parts = (subst (λ (l : List RegexItem). Enough l) c (enough_drop n is (enough_all rs))).0;
         classes = ap (λ (k : ℕ). sum item_classes (take k is)) (sym e) ∙ sum-take is n empty_item b;
       },

@@ -35,7 +35,6 @@ use Rattle.position_finder.specs.Answer.{empty_rule}
 use Rattle.position_finder.proofs.laws.Laws.{found_below, nothing_found}
 use Rattle.position_finder.specs.declared.EmptyRule.{EmptyRule}
 use Rattle.position_finder.specs.declared.EmptyRule.TheVariants as sets
-use Rattle.image.specs.Check as page
 use Rattle.image.specs.Check.{work_bytes, after_types, after_rules, after_reading, after_work, check, work_after}
 use Rattle.sheet_checker.specs.Answer.{failed_sheet, Ends}
 use Rattle.sheet_checker.specs.Steps.{SheetOf}

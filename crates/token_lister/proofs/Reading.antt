@@ -9,12 +9,12 @@ use borrow.Author.Tests.{lt-ltb, le-ltb}
 use Rattle.basics.specs.Lists.{written_over}
 use Rattle.basics.proofs.laws.Buffers.{rest_from}
 use Rattle.sheet.specs.Sheet.{Rule}
-use Rattle.lexer.specs.Positions.{positions, first_positions}
+use Rattle.lexer.specs.Positions.{Position, positions, first_positions}
 use Rattle.lexer.specs.Match.{Match, no_match, matched}
 use Rattle.lexer.specs.Walk.{longest_match}
 use Rattle.lexer.proofs.laws.PositionBounds.{rules-below}
 use Rattle.lexer.proofs.laws.LongestMatchLaws.{match_within, match_rule-below}
-use Rattle.scanner.specs.Meaning.{match_of}
+use Rattle.scanner.specs.Meaning.{match_of, Prepared}
 use Rattle.scanner.specs.declared.Found.{Found}
 use Rattle.scanner.specs.declared.Found.TheVariants as found
 use Rattle.recogniser.specs.Listing.{Listed, listed, with_action, list_match, list_from, list_tokens}
@@ -155,3 +155,12 @@ module _ (rules : List Rule) (action tables : List ℕ) (last first : ℕ) (read
   action_is k n h l =
       let below = (match_fits k n h l).2 in
       sym (get_or-take (length rules) action k 0 below) ∙ ap (λ (m : List ℕ). get_or m k 0) ready.actions_held
+
+-- The same, for whatever rules the tables were made of; and there are few rules.
+pub fits_here : (action tables text : List ℕ) (last first p : ℕ) (w : (rules : List Rule) × RulesReady rules action tables last first)
+    (f : Found)
+    → ((ps : List Position) → Prepared ps last tables → match_of f ≡ longest_match ps first (take (length text - p) (drop p text)))
+    → (k n : ℕ) → f ≡ found.Rule k n → p ≤ length text → (0 < n) × (p + n ≤ length text) × (k < 32)
+fits_here action tables text last first p w f e k n h l =
+    let m = match_fits w.0 action tables last first w.1 text p f (e (positions w.0) w.1.prepared) k n h l in
+    (m.0, m.1, omega (arith, m.2, w.1.few))

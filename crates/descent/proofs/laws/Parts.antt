@@ -20,7 +20,6 @@ use Rattle.types.proofs.laws.NodeRanges.{size_positive}
 use Rattle.normal_form.proofs.laws.NodeLanguages.{languages_past}
 use Rattle.normal_form.proofs.laws.Places.{Placed, nodes_placed, Everywhere, everywhere_all, nodes-count}
 use Rattle.columns.specs.HeldNodes.{node_of}
-use Rattle.recogniser.specs.Descends.{left}
 use Rattle.recogniser.proofs.laws.DescentRuns.{words_are, left_not_empty, part-not_empty}
 use Rattle.descent_table.specs.TableOf.{tag_at, link_at, first_at, TableOf}
 use Rattle.descent.specs.Steps.{last, begins_with}

@@ -1,10 +1,6 @@
 -- `descent_table::flag_of` meets its contract.
-use borrow.Author.Rules.{rules}
 use mathlib.Core.Path.{sym}
 use Rattle.descent_table.proofs.flag_of.Goals as goal
-
-pub has-requires : goal.has-requires
-has-requires c = search rules
 
 pub returns-then-has : goal.returns-then-has
 returns-then-has c = rw (sym c.has.ensures, c.if-has.true)

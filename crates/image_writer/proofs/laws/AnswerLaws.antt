@@ -1,12 +1,10 @@
 -- The cases of the code's answer and the ways in which writing ends agree.
 use Rattle.std.specs.Prelude.{◌≡◌, refl, List, ℕ, length}
 use Rattle.std.proofs.Common.{arith}
-use Rattle.image.specs.Answer.{Answer}
 use Rattle.image.specs.Write.{write_answer}
 use Rattle.image.specs.Write as page
-use Rattle.image_writer.specs.declared.Written.{Written}
 use Rattle.image_writer.specs.declared.Written.TheVariants.{Done, TooLong, Refused}
-use Rattle.image_writer.specs.Answer.{answer_of, case_of, Ends}
+use Rattle.image_writer.specs.Answer.{answer_of, case_of}
 
 -- What a case tells of the way to end.
 pub case_done : (m : page.Written) {written : ℕ} → case_of m ≡ Done written

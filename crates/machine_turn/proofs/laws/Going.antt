@@ -1,6 +1,6 @@
 -- The turns of a run in code: the state that the loop of turns keeps, and what a turn and the end of the text make of it. The loop itself is
 -- not here: whoever goes on by turns, all of them or one, lives on these laws.
-use Rattle.std.specs.Prelude.{◌≡◌, refl, List, [], ℕ, suc, ◌+◌, ◌-◌, ◌≤◌, ◌<◌, length, drop}
+use Rattle.std.specs.Prelude.{◌≡◌, refl, List, [], ℕ, suc, ◌-◌, ◌≤◌, ◌<◌, length, drop}
 use Rattle.std.proofs.Math.Path.{sym}
 use Rattle.std.proofs.Common.{ap, ◌∙◌, arith}
 use Rattle.std.proofs.Math.ListN.{length-drop}
@@ -15,12 +15,11 @@ use Rattle.machine.specs.Trace.{Take, match_at, start_state, Ended, ended, answe
 use Rattle.machine.specs.Run as run
 use Rattle.machine.specs.Run.{text_turn, trace_from}
 use Rattle.machine.proofs.laws.RunLaws.{turn-before_end, trace-goes_on, trace_stops, trace-at_end, turn_onward}
-use Rattle.machine_turn.specs.Stack.{stacked, pending, Ready}
+use Rattle.machine_turn.specs.Stack.{stacked, pending}
 use Rattle.machine_turn.specs.Steps.{answer_held, state_at, state_held, end_answer, turn_step, MatchFits}
 use Rattle.machine_turn.proofs.laws.TurnLaws.{turn_done, turn-next, end_is}
 use Rattle.machine_turn.specs.declared.RunAnswer.{RunAnswer}
 use Rattle.machine_turn.specs.declared.State.{State}
-use Rattle.machine_turn.specs.declared.Turn.{Turn}
 use Rattle.machine_turn.specs.declared.Turn.TheVariants.{Next, Done}
 use Rattle.machine_turn.specs.laws.Going.{Going}
 

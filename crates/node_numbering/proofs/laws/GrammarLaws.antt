@@ -19,7 +19,6 @@ use Rattle.columns.specs.declared.NodeLinks.{NodeLinks}
 use Rattle.columns.specs.declared.TypeColumns.{TypeColumns}
 use Rattle.production_finder.proofs.laws.ColumnLaws.{count_is_size, columns_of}
 use Rattle.node_numbering.specs.Grammar.{GrammarOf}
-use Rattle.node_numbering.specs.declared.Grammar.{Grammar}
 use Rattle.node_numbering.specs.laws.GrammarLaws.{grammar_from}
 
 null_here : (links : NodeLinks) (types : TypeColumns) (e : Expression) → held_nodes links ≡ nodes e

@@ -5,7 +5,6 @@ use Rattle.sheet.specs.Sheet.{Sheet}
 use Rattle.image.specs.Check.{check_answer}
 use Rattle.image.specs.Check as page
 use Rattle.sheet_checker.specs.Steps.{PassedParts}
-use Rattle.sheet_checker.specs.declared.Verdict.{Verdict}
 use Rattle.sheet_checker.specs.declared.Verdict.TheVariants as verdict
 use Rattle.sheet_checker.specs.declared.CheckedSheet.{CheckedSheet}
 use Rattle.sheet_checker.specs.Answer.{answer_of, case_of, failed_sheet, Ends}

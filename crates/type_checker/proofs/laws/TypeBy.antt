@@ -3,11 +3,10 @@
 use Rattle.std.specs.Prelude.{◌≡◌, ℕ, ◌<◌}
 use Rattle.std.proofs.Math.Path.{refl, ap, ap₂}
 use Rattle.std.proofs.Common.{◌∙◌, arith}
-use Rattle.std.proofs.Math.Option.{Option, none}
-use Rattle.types.specs.Types.{LanguageType, epsilon_type, bottom_type, token_type, sequence_type, alternative_type, repetition_type}
+use Rattle.types.specs.Types.{LanguageType, bottom_type, sequence_type, alternative_type, repetition_type}
 use Rattle.types.specs.Nodes.{Node, epsilon_node, bottom_node, token_node, sequence_node, alternative_node, fixed_point_node, variable_node, repetition_node}
 use Rattle.types.specs.LeastTypes.{type_of, node_type, node_type_with}
-use Rattle.types.specs.Questions.{Fault, separable, apart, unless, node_fault}
+use Rattle.types.specs.Questions.{separable, apart, unless, node_fault}
 use Rattle.columns.specs.Tabulate.{tabulate}
 use Rattle.columns.proofs.laws.TabulateLaws.{tabulate-at}
 use Rattle.sheet.specs.Limits.{most_tokens}

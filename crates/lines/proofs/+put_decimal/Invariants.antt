@@ -1,0 +1,5 @@
+-- `lines::put_decimal` meets its contract. The measure is the number.
+use Rattle.lines.proofs.+put_decimal.Given as goal
+
+abbrev pub decreases-put_decimal : goal.decreases-put_decimal
+decreases-put_decimal l = l.n
