@@ -1,5 +1,4 @@
 -- `build` meets its contract: nothing is built where nothing is lent, otherwise what `build_table` builds.
-use borrow.Author.Rules.{rules}
 use mathlib.Core.Path.{ap, subst}
 use mathlib.Core.Bool.{not}
 use Prim.Native.Nat.{ℕ}
@@ -16,12 +15,6 @@ build_table-requires c =
     let a = start.args in
     let long = long_both a.table.now a.winners.now a.by_rows (ap not c.if-not-by_rows.false) w.0 in
     ((w.1.2.positions, w.1.3.positions w.1.4.never_falling), long.0, long.1)
-
-pub shape_of-table : goal.shape_of-table
-shape_of-table c = search rules
-
-pub shape_of-winners : goal.shape_of-winners
-shape_of-winners c = search rules
 
 pub returns : goal.returns
 returns c =

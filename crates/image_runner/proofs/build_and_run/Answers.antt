@@ -1,5 +1,4 @@
 -- `build_and_run` meets its contract: 19 where the table has too many rows, otherwise the run.
-use borrow.Author.Rules.{rules}
 use mathlib.Core.Path.{◌≡◌, ap, subst}
 use mathlib.Core.Bool.{Bool, true, false, not}
 use Rattle.image.specs.Image.{Image}
@@ -56,15 +55,6 @@ with-here c i d range =
 pub build-few-requires : goal.build-few-requires
 build-few-requires c = let w = c.requires in (w.0, (_, _, w.2.0, w.2.1, w.2.2))
 
-pub answer-requires : goal.answer-requires
-answer-requires c = search rules
-
-pub shape_of-table-then-not-few : goal.shape_of-table-then-not-few
-shape_of-table-then-not-few c = search rules
-
-pub shape_of-winners-then-not-few : goal.shape_of-winners-then-not-few
-shape_of-winners-then-not-few c = search rules
-
 pub returns-then-not-few : goal.returns-then-not-few
 unfolding answer_held
 returns-then-not-few c =
@@ -97,15 +87,6 @@ run_image-requires c =
     let w = (start_of passed.before.before.before.before.before).requires in
     (w.1, (w.2.0, with_flag passed true w.2.0 then.if-by_rows.true w.2.1 w.2.2))
 
-pub shape_of-table-then-by_rows : goal.shape_of-table-then-by_rows
-shape_of-table-then-by_rows c = search rules
-
-pub shape_of-winners-then-by_rows : goal.shape_of-winners-then-by_rows
-shape_of-winners-then-by_rows c = search rules
-
-pub shape_of-stack-then-by_rows : goal.shape_of-stack-then-by_rows
-shape_of-stack-then-by_rows c = search rules
-
 pub returns-then-by_rows : goal.returns-then-by_rows
 returns-then-by_rows c =
     let ran = c.before.before.before in
@@ -127,15 +108,6 @@ run_image-requires-2 c =
     let passed = else.before in
     let w = (start_of passed.before.before.before.before.before).requires in
     (w.1, (w.2.0, with_flag passed false w.2.0 else.if-by_rows.false w.2.1 w.2.2))
-
-pub shape_of-table : goal.shape_of-table
-shape_of-table c = search rules
-
-pub shape_of-winners : goal.shape_of-winners
-shape_of-winners c = search rules
-
-pub shape_of-stack : goal.shape_of-stack
-shape_of-stack c = search rules
 
 pub returns : goal.returns
 returns c =

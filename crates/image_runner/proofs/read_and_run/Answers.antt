@@ -1,5 +1,4 @@
 -- `read_and_run` meets its contract: 13, or the run of the image that was read.
-use borrow.Author.Rules.{rules}
 use mathlib.Core.Path.{sym, ap, subst, ◌∙◌}
 use mathlib.Core.List.{List, []}
 use Prim.Native.Nat.{ℕ}
@@ -39,12 +38,6 @@ read_image-read-requires c =
       subst (λ (l : List ℕ). Room l 0) (sym w.3) room-whole,
     )
 
-pub enum_known-outcome : goal.enum_known-outcome
-enum_known-outcome c = search rules
-
-pub answer-requires : goal.answer-requires
-answer-requires c = search rules
-
 pub returns-in-Refused : goal.returns-in-Refused
 unfolding answer_held
 returns-in-Refused c =
@@ -58,24 +51,12 @@ returns-in-Refused c =
       none_touched a.by_rows _ _,
     )
 
-pub enum_told-1 : goal.enum_told-1
-enum_told-1 c = search rules
-
 pub build_and_run-requires : goal.build_and_run-requires
 build_and_run-requires c =
     let told = c.before.before.before.before in
     let read = told.before in
     let readable = read.read_image-read.ensures.readable told.in_default.is in
     ((start_of read).requires.0, (start_of read).requires.1, (readable.0, readable.2, (read-in_range _ (bytes_of read) _ _ readable.1).0))
-
-pub shape_of-table : goal.shape_of-table
-shape_of-table c = search rules
-
-pub shape_of-winners : goal.shape_of-winners
-shape_of-winners c = search rules
-
-pub shape_of-stack : goal.shape_of-stack
-shape_of-stack c = search rules
 
 pub returns : goal.returns
 returns c =

@@ -1,5 +1,4 @@
 -- `run_lent` meets its contract: 18, 12, or the run.
-use borrow.Author.Rules.{rules}
 use mathlib.Core.Path.{◌≡◌, refl, sym, ap, subst, ◌∙◌}
 use mathlib.Core.Bool.{Bool}
 use mathlib.Core.List.{List}
@@ -36,18 +35,6 @@ lent-here c =
 long-here : (c : Lts-Else-is_short) → Short (lent-here c.before).scanner → ⊥
 long-here c = long_told (lent-here c.before).scanner (sym c.is_short.ensures ∙ c.if-is_short.false)
 
-pub is_short-requires : goal.is_short-requires
-is_short-requires c = search rules
-
-pub answer-requires : goal.answer-requires
-answer-requires c = search rules
-
-pub shape_of-table-then-is_short : goal.shape_of-table-then-is_short
-shape_of-table-then-is_short c = search rules
-
-pub shape_of-winners-then-is_short : goal.shape_of-winners-then-is_short
-shape_of-winners-then-is_short c = search rules
-
 pub returns-then-is_short : goal.returns-then-is_short
 unfolding answer_held
 returns-then-is_short c =
@@ -58,15 +45,6 @@ returns-then-is_short c =
       left_alone a.image.now a.text.now lent 18 0 (run_short _ _ lent short) c.answer.result (ap answer_held c.answer.ensures),
       none_touched a.by_rows _ _,
     )
-
-pub answer-requires-then-text-gt-MOST_TEXT_BYTES : goal.answer-requires-then-text-gt-MOST_TEXT_BYTES
-answer-requires-then-text-gt-MOST_TEXT_BYTES c = search rules
-
-pub shape_of-table-then-text-gt-MOST_TEXT_BYTES : goal.shape_of-table-then-text-gt-MOST_TEXT_BYTES
-shape_of-table-then-text-gt-MOST_TEXT_BYTES c = search rules
-
-pub shape_of-winners-then-text-gt-MOST_TEXT_BYTES : goal.shape_of-winners-then-text-gt-MOST_TEXT_BYTES
-shape_of-winners-then-text-gt-MOST_TEXT_BYTES c = search rules
 
 pub returns-then-text-gt-MOST_TEXT_BYTES : goal.returns-then-text-gt-MOST_TEXT_BYTES
 unfolding answer_held
@@ -99,15 +77,6 @@ read_and_run-requires c =
       refl,
     )
 
-pub shape_of-table-then-by_rows : goal.shape_of-table-then-by_rows
-shape_of-table-then-by_rows c = search rules
-
-pub shape_of-winners-then-by_rows : goal.shape_of-winners-then-by_rows
-shape_of-winners-then-by_rows c = search rules
-
-pub shape_of-stack-then-by_rows : goal.shape_of-stack-then-by_rows
-shape_of-stack-then-by_rows c = search rules
-
 pub returns-then-by_rows : goal.returns-then-by_rows
 returns-then-by_rows c =
     let read = c.before.before.before.before.before.before.before in
@@ -115,18 +84,6 @@ returns-then-by_rows c =
     let l = read.read_and_run.new in
     subst (Leaves then.before.before.before read.read_and_run.result l.stack l.table l.winners) (sym then.if-by_rows.true)
     read.read_and_run.ensures
-
-pub read_and_run-requires-2 : goal.read_and_run-requires-2
-read_and_run-requires-2 c = search rules
-
-pub shape_of-table : goal.shape_of-table
-shape_of-table c = search rules
-
-pub shape_of-winners : goal.shape_of-winners
-shape_of-winners c = search rules
-
-pub shape_of-stack : goal.shape_of-stack
-shape_of-stack c = search rules
 
 pub returns : goal.returns
 returns c =
