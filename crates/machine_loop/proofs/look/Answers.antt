@@ -1,5 +1,4 @@
 -- `look` meets its contract: by a word, or by one walk where no word is left.
-use borrow.Author.Rules.{rules}
 use mathlib.Core.Path.{sym, ap, subst, ◌∙◌}
 use mathlib.Core.List.{List}
 use mathlib.Core.Logic.{⊎_elim}
@@ -20,15 +19,6 @@ use Rattle.machine_loop.proofs.look.Reads as reads
 abbrev Lts-Joined-not-by_rows : Type 0
 Lts-Joined-not-by_rows = lts.Joined1 tie.the-claims reads.Pre reads.Post
 
-pub offset_bounds-matches-turn : goal.offset_bounds-matches-turn
-offset_bounds-matches-turn c = search rules
-
-pub bounds-matches-turn : goal.bounds-matches-turn
-bounds-matches-turn c = search rules
-
-pub word_seen-requires : goal.word_seen-requires
-word_seen-requires c = search rules
-
 pub returns-then-turn-matches : goal.returns-then-turn-matches
 returns-then-turn-matches c =
     let a = c.args in
@@ -42,23 +32,14 @@ returns-then-turn-matches c =
 none_left : (j : Lts-Joined-not-by_rows) → length j.args.matches.now ≤ j.args.turn
 none_left j = ⊎_elim (λ w. w.if-turn-matches.false) (λ w. j.requires.1 w.if-not-by_rows.false) j.if-not-by_rows.branch-raw
 
-pub slice_bounds-walk-count : goal.slice_bounds-walk-count
-slice_bounds-walk-count c = search rules
-
 pub slice_bounds-walk-start : goal.slice_bounds-walk-start
 slice_bounds-walk-start c = omega (arith, c.requires.0)
-
-pub slice_bounds-walk-end : goal.slice_bounds-walk-end
-slice_bounds-walk-end c = search rules
 
 pub walk-end-requires : goal.walk-end-requires
 walk-end-requires c =
     let s = c.before.before.before.before.before.before.before in
     let a = s.args in
     (omega (arith, s.requires.0, ap (λ (l : List ℕ). length l) (rest_from a.text.now a.place), length-drop a.place a.text.now), s.requires.2)
-
-pub walk_seen-requires : goal.walk_seen-requires
-walk_seen-requires c = search rules
 
 pub returns : goal.returns
 returns c =

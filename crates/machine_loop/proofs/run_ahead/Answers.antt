@@ -1,4 +1,3 @@
-use borrow.Author.Rules.{rules}
 use mathlib.Core.Path.{◌≡◌, refl, ap, subst, ◌∙◌}
 use mathlib.Core.List.{List}
 use Prim.Native.Nat.{ℕ, ◌+◌, ◌≤◌, ◌<◌}
@@ -120,9 +119,6 @@ turns_ahead-ahead-requires c =
       (w.0, w.1, w.2, w.3, rest.going, rest.held),
     )
 
-pub enum_known-turned : goal.enum_known-turned
-enum_known-turned c = search rules
-
 pub shape_of-stack-in-Done : goal.shape_of-stack-in-Done
 shape_of-stack-in-Done c = kept_here c.before.before.before.before
 
@@ -130,9 +126,6 @@ pub returns-in-Done : goal.returns-in-Done
 returns-in-Done c =
     let turns = c.before.before.before.before in
     λ i whole k w g h. subst (Led turns i whole) c.in-Done.is (led turns i whole k (w, g, h))
-
-pub enum_known-turned-in-Next-1 : goal.enum_known-turned-in-Next-1
-enum_known-turned-in-Next-1 c = search rules
 
 pub loop-state-smaller : goal.loop-state-smaller
 loop-state-smaller c = let r = rises c.before in omega (arith, r.0, r.1)

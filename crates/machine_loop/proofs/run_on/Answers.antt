@@ -1,5 +1,4 @@
 -- `run_on` meets its contract: the answer that the turns gave, or that of the rest.
-use borrow.Author.Rules.{rules}
 use mathlib.Core.Path.{subst}
 use mathlib.Core.Bool.{Bool}
 use Rattle.image.specs.Image.{Image}
@@ -23,15 +22,9 @@ module _ (s : Start) (i : Image) (whole : Ended) where
       let a = s.args in
       PlainLead i a.image.now (tables_of a.read a.tables.now a.productions.now) a.text.now whole a.stack.now turned
 
-pub enum_known-turned : goal.enum_known-turned
-enum_known-turned c = search rules
-
 pub returns-in-Done : goal.returns-in-Done
 returns-in-Done c =
     λ i whole w l. (subst (Left c.before.before.before.before.before.before.before i whole) c.in-Done.is l).0
-
-pub enum_known-turned-in-Next-1 : goal.enum_known-turned-in-Next-1
-enum_known-turned-in-Next-1 c = search rules
 
 pub run_rest-requires : goal.run_rest-requires
 run_rest-requires c =
@@ -45,9 +38,6 @@ run_rest-requires c =
         (subst (Left s w.0 w.1) c.in-Next.is w.3).0,
       ),
     )
-
-pub shape_of-stack-then-by_rows : goal.shape_of-stack-then-by_rows
-shape_of-stack-then-by_rows c = search rules
 
 pub returns-then-by_rows : goal.returns-then-by_rows
 returns-then-by_rows c =
@@ -68,9 +58,6 @@ run_rest-requires-in-Next c =
         (subst (Left s w.0 w.1) c.in-Next.is w.3).0,
       ),
     )
-
-pub shape_of-stack-in-Next : goal.shape_of-stack-in-Next
-shape_of-stack-in-Next c = search rules
 
 pub returns-in-Next : goal.returns-in-Next
 returns-in-Next c =

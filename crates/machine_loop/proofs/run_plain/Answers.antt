@@ -1,4 +1,3 @@
-use borrow.Author.Rules.{rules}
 use mathlib.Core.Path.{◌≡◌, refl, sym, ap, subst, ◌∙◌}
 use mathlib.Core.List.{List, []}
 use Prim.Native.Nat.{ℕ, ◌-◌}
@@ -73,9 +72,6 @@ led c i w = let h = (head_of c).loop-done.invariant.1 i w in c.turns_by_walks-ro
 kept_here : (c : Lts-After-turns_by_walks-round) → length (stack-left c) ≡ length (start_of (head_of c)).args.stack.now
 kept_here c = c.turns_by_walks-round.auto.stack ∙ (head_of c).loop-done.invariant.0
 
-pub answer-requires : goal.answer-requires
-answer-requires c = search rules
-
 pub returns-then-stack-lt1 : goal.returns-then-stack-lt1
 unfolding answer_held
 returns-then-stack-lt1 c =
@@ -84,12 +80,6 @@ returns-then-stack-lt1 c =
       ap answer_held c.answer.ensures ∙ run_no_entry i _ start.args.text.now c.if-stack-lt1.true,
       λ h. absurd (omega (arith, h, c.if-stack-lt1.true)),
     )
-
-pub first_state-state-requires : goal.first_state-state-requires
-first_state-state-requires c = search rules
-
-pub budget_of-left-requires : goal.budget_of-left-requires
-budget_of-left-requires c = search rules
 
 pub loop-done-init : goal.loop-done-init
 unfolding budget
@@ -119,9 +109,6 @@ turns_by_walks-round-requires c =
     let h = head.loop-done.invariant.1 w.0 w.1 in
     (s.requires.0, (w.0, whole s w.0, w.1, h.0, h.1))
 
-pub enum_known-turned : goal.enum_known-turned
-enum_known-turned c = search rules
-
 pub shape_of-stack-in-Done : goal.shape_of-stack-in-Done
 shape_of-stack-in-Done c = kept_here c.before.before.before.before
 
@@ -130,9 +117,6 @@ returns-in-Done c =
     let turns = c.before.before.before.before in
     λ i w. let x = subst (Led turns i) c.in-Done.is (led turns i w) in (x.0, λ h. x.1)
 
-pub enum_known-turned-in-InVain-1 : goal.enum_known-turned-in-InVain-1
-enum_known-turned-in-InVain-1 c = search rules
-
 pub shape_of-stack-in-InVain : goal.shape_of-stack-in-InVain
 shape_of-stack-in-InVain c = kept_here c.before.before.before.before
 
@@ -140,9 +124,6 @@ pub returns-in-InVain : goal.returns-in-InVain
 returns-in-InVain c =
     let turns = c.before.before.before.before in
     λ i w. subst (Led turns i) c.in-InVain.is (led turns i w)
-
-pub enum_known-turned-in-Reached-1 : goal.enum_known-turned-in-Reached-1
-enum_known-turned-in-Reached-1 c = search rules
 
 abbrev turns-of : Lts-In-Reached → Lts-After-turns_by_walks-round
 turns-of t = t.before.before.before

@@ -1,5 +1,4 @@
 -- `run_rest` meets its contract: the marks hold what finding matches ahead from the state's place relies on, and no block is held yet.
-use borrow.Author.Rules.{rules}
 use Prim.Native.Nat.{◌/◌}
 use native.Mathlib.Omega.{arith}
 use Rattle.image.specs.Image.{Image}
@@ -41,21 +40,12 @@ marked-here c i w =
       held = λ q l m. absurd (omega (arith, m));
     }
 
-pub unions_of-unions-requires : goal.unions_of-unions-requires
-unions_of-unions-requires c = search rules
-
-pub mark_blocks-requires : goal.mark_blocks-requires
-mark_blocks-requires c = search rules
-
 pub run_ahead-requires : goal.run_ahead-requires
 run_ahead-requires c =
     let marks = c.before.before.before.before.before in
     let s = start_of marks in
     let w = s.requires.1 in
     (s.requires.0, marks.mark_blocks.ensures.1, (w.0, w.1, _, w.2, w.3, marked-here marks w.0 w.2))
-
-pub shape_of-stack : goal.shape_of-stack
-shape_of-stack c = search rules
 
 pub returns : goal.returns
 returns c =

@@ -1,4 +1,3 @@
-use borrow.Author.Rules.{rules}
 use mathlib.Core.Path.{◌≡◌, refl, sym, ap, subst, ◌∙◌}
 use mathlib.Core.List.{List}
 use Prim.Native.Nat.{ℕ, ◌+◌, ◌≤◌, ◌<◌}
@@ -174,9 +173,6 @@ one_turn-after-requires c =
     let held : Held (start_of head) w.0 w.1 w.2 = (w.3, w.4, w.5) in
     (fits_here look c.if-vain-ne0.false w.0 w.1 w.2 held, (_, _, (turned-here head w.0 w.1 w.2 held).going.ready))
 
-pub enum_known-after : goal.enum_known-after
-enum_known-after c = search rules
-
 -- The stack keeps its length.
 kept_here : (turn : Lts-After-one_turn-after)
     → length turn.one_turn-after.new.stack ≡ length (start_of (look-head (turn-look turn))).args.stack.now
@@ -207,9 +203,6 @@ returns-in-Done c =
           (charged_at i a.text.now a.matches.now l.state.place v (drop l.turn a.matches.now)
           ((seen_here look i whole to held).not_in_vain (quiet turn)) (old.charged v x)),
     )
-
-pub enum_known-after-in-Next-1 : goal.enum_known-after-in-Next-1
-enum_known-after-in-Next-1 c = search rules
 
 pub overflow_add-turn : goal.overflow_add-turn
 overflow_add-turn c =

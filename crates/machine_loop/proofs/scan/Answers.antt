@@ -12,7 +12,7 @@ match_by_rows-requires c =
 pub returns-then-by_rows : goal.returns-then-by_rows
 returns-then-by_rows c =
     λ image productions i w.
-    found_by_rows i w.in_range _ _ (w.built c.if-by_rows.true) _ (λ j. (c.shared_slice_known-1.given j).fits)
+    found_by_rows i w.in_range _ _ (w.built c.if-by_rows.true) _ (λ j. (c.type_inv.text j).fits)
     c.match_by_rows.result c.match_by_rows.ensures
 
 pub longest_match-requires : goal.longest_match-requires

@@ -1,5 +1,4 @@
 -- `turn_again` meets its contract: the match of the walk that is made again is the one match found ahead, and the turn by it leads past its place.
-use borrow.Author.Rules.{rules}
 use mathlib.Core.Path.{◌≡◌, refl, ◌∙◌}
 use mathlib.Core.List.{List, [], ◌∷◌}
 use Prim.Native.Nat.{ℕ, zero, suc, ◌+◌, ◌-◌, ◌≤◌}
@@ -107,17 +106,8 @@ led c i whole w =
 pub overflow_add-p : goal.overflow_add-p
 overflow_add-p c = let s = c.before.before.before.before.before.before in omega (arith, inside s, s.requires.0)
 
-pub slice_bounds-scan-count : goal.slice_bounds-scan-count
-slice_bounds-scan-count c = search rules
-
-pub slice_bounds-scan-start : goal.slice_bounds-scan-start
-slice_bounds-scan-start c = search rules
-
 pub slice_bounds-scan-end : goal.slice_bounds-scan-end
 slice_bounds-scan-end c = omega (arith, inside c.before.before.before.before.before.before)
-
-pub scan-found-requires : goal.scan-found-requires
-scan-found-requires c = search rules
 
 pub word_of-requires : goal.word_of-requires
 word_of-requires c =
@@ -135,9 +125,6 @@ word_of-requires c =
 pub overflow_add-stop : goal.overflow_add-stop
 overflow_add-stop c = let s = start_of c.before.before.before in omega (arith, inside s, s.requires.0, s.requires.1)
 
-pub slice_bounds-run_turns-end : goal.slice_bounds-run_turns-end
-slice_bounds-run_turns-end c = search rules
-
 pub run_turns-requires : goal.run_turns-requires
 run_turns-requires c =
     let word = c.before.before.before in
@@ -145,9 +132,6 @@ run_turns-requires c =
     let w = s.requires.3 in
     let held : Held s w.0 w.1 = (w.2, w.3, w.4) in
     (omega (arith, inside s, s.requires.1), λ e. absurd (not-rows e), (w.0, w.1, s.args.state.place + 1, without_rows w.2, w.3, ahead-here word w.0 w.1 held))
-
-pub shape_of-stack : goal.shape_of-stack
-shape_of-stack c = search rules
 
 pub returns : goal.returns
 returns c =

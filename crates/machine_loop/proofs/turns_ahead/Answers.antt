@@ -1,5 +1,4 @@
 -- `turns_ahead` meets its contract: the matches found ahead are those that the turns are made by, and what these leave is gone on from.
-use borrow.Author.Rules.{rules}
 use mathlib.Core.Path.{◌≡◌, sym, subst}
 use mathlib.Core.List.{List}
 use Prim.Native.Nat.{ℕ, ◌+◌, ◌≤◌, ◌<◌}
@@ -92,9 +91,6 @@ led : (c : Lts-After-run_turns-turned) (i : Image) (whole : Ended) (k : ℕ)
     found.find_ahead-ahead.result.stop whole c.run_turns-turned.new.stack c.run_turns-turned.result
 led c i whole k w = c.run_turns-turned.ensures i whole _ (without_rows w.0) w.1 (ahead-here (turns-found c) i whole k w).0
 
-pub find_ahead-ahead-requires : goal.find_ahead-ahead-requires
-find_ahead-ahead-requires c = search rules
-
 pub slice_bounds-run_turns-end : goal.slice_bounds-run_turns-end
 slice_bounds-run_turns-end c = sym (count-here c.before.before.before)
 
@@ -113,9 +109,6 @@ turn_left-requires c =
     let found = turns-found turns in
     let w = (start_of found).requires.5 in
     no_walk w.0 _ _ _ _ _ found.find_ahead-ahead.result.stop w.1 _ turns.run_turns-turned.result (led turns w.0 w.1 w.2 (w.3, w.4, w.5))
-
-pub shape_of-stack : goal.shape_of-stack
-shape_of-stack c = search rules
 
 pub returns : goal.returns
 returns c =

@@ -1,5 +1,4 @@
 -- `turns_by_walks` meets its contract: what the turns leave, and after a walk in vain what the turn leaves whose walk is made again.
-use borrow.Author.Rules.{rules}
 use mathlib.Core.Path.{◌≡◌, refl, subst}
 use mathlib.Core.List.{List, []}
 use Prim.Native.Nat.{ℕ, zero, suc, ◌+◌, ◌-◌, ◌≤◌}
@@ -93,23 +92,11 @@ inside t =
     let before = v.1 in
     (walk-inside w.0 s.args.text.now (state-of t).place (bytes_of t) v.3 v.4 (omega (arith, before)), s.requires.0)
 
-pub slice_bounds-none-end : goal.slice_bounds-none-end
-slice_bounds-none-end c = search rules
-
-pub slice_bounds-run_turns-end : goal.slice_bounds-run_turns-end
-slice_bounds-run_turns-end c = search rules
-
 pub run_turns-turned-requires : goal.run_turns-turned-requires
 run_turns-turned-requires c =
     let s = c.before.before.before.before.before.before.before.before in
     let w = s.requires.1 in
     (omega arith, λ e. refl, (w.0, w.1, s.args.from.place, w.2, w.3, omega arith))
-
-pub enum_known-turned : goal.enum_known-turned
-enum_known-turned c = search rules
-
-pub shape_of-stack-in_default : goal.shape_of-stack-in_default
-shape_of-stack-in_default c = search rules
 
 pub returns-in_default : goal.returns-in_default
 returns-in_default c =
@@ -121,9 +108,6 @@ returns-in_default c =
 
 pub overflow_add-n : goal.overflow_add-n
 overflow_add-n t = let b = inside t.before in omega (arith, b.0, b.1)
-
-pub shape_of-stack-then-left-n : goal.shape_of-stack-then-left-n
-shape_of-stack-then-left-n c = search rules
 
 pub returns-then-left-n : goal.returns-then-left-n
 returns-then-left-n c =
@@ -148,9 +132,6 @@ overflow_add-result c = let b = inside c.before.before.before.before.before.befo
 
 pub overflow_sub-result : goal.overflow_sub-result
 overflow_sub-result c = omega (arith, c.if-left-n.false)
-
-pub shape_of-stack : goal.shape_of-stack
-shape_of-stack c = search rules
 
 -- The turn whose walk was made again leaves so much less of the budget.
 after : (i : Image) (bytes : List ℕ) (t : ImageTables) (text : List ℕ) (place p left n : ℕ) (whole : Ended) (stack : List ℕ) → place ≤ p → n + n ≤ left

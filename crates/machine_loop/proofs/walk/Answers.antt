@@ -15,7 +15,7 @@ walk_rows-requires c =
 pub returns-then-by_rows : goal.returns-then-by_rows
 returns-then-by_rows c =
     λ image productions i w.
-    told_by-table i w.in_range _ _ (w.built c.if-by_rows.true) _ (λ j. (c.shared_slice_known-1.given j).fits)
+    told_by-table i w.in_range _ _ (w.built c.if-by_rows.true) _ (λ j. (c.type_inv.text j).fits)
     (told_of c.walk_rows.result) c.walk_rows.ensures
 
 pub walk_once-requires : goal.walk_once-requires

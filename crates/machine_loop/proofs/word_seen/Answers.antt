@@ -1,5 +1,4 @@
 -- `word_seen` meets its contract.
-use borrow.Author.Rules.{rules}
 use mathlib.Core.Path.{refl}
 use borrow.Author.Tests.{eq-eqb, ne_eqb}
 use Rattle.scanner.specs.Meaning.{match_of}
@@ -9,9 +8,6 @@ use Rattle.machine_loop.proofs.word_seen.Goals as goal
 pub returns-then-word-eq0 : goal.returns-then-word-eq0
 unfolding match_of word_match
 returns-then-word-eq0 c = (refl, rw (eq-eqb c.args.word 0 c.if-word-eq0.true))
-
-pub overflow_cast-rule : goal.overflow_cast-rule
-overflow_cast-rule c = search rules
 
 pub returns : goal.returns
 unfolding match_of word_match
