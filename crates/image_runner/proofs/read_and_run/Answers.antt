@@ -3,7 +3,6 @@ use mathlib.Core.Path.{sym, ap, subst, ◌∙◌}
 use mathlib.Core.List.{List, []}
 use Prim.Native.Nat.{ℕ}
 use lib.ListN.{length, length-replicate}
-use Rattle.sheet.proofs.laws.FieldLaws.{Bytes}
 use Rattle.image.proofs.laws.ReadableImages.{read-in_range}
 use Rattle.class_table.specs.Holding.{Holding}
 use Rattle.class_table.proofs.laws.HoldingLaws.{holding_none}
@@ -25,10 +24,6 @@ Lts-After-read_image-read = lts.After-read_image tie.the-claims reads.Pre reads.
 -- The start, from where the image was read.
 abbrev start_of : Lts-After-read_image-read → Start
 start_of c = c.before.before.before.before.before.before.before.before
-
--- The image's bytes are bytes.
-bytes_of : (c : Lts-After-read_image-read) → Bytes (start_of c).args.image.now
-bytes_of c i = (c.shared_slice_known-1.given i).fits
 
 pub read_image-read-requires : goal.read_image-read-requires
 read_image-read-requires c =
@@ -56,7 +51,7 @@ build_and_run-requires c =
     let told = c.before.before.before.before in
     let read = told.before in
     let readable = read.read_image-read.ensures.readable told.in_default.is in
-    ((start_of read).requires.0, (start_of read).requires.1, (readable.0, readable.2, (read-in_range _ (bytes_of read) _ _ readable.1).0))
+    ((start_of read).requires.0, (start_of read).requires.1, (readable.0, readable.2, (read-in_range _ (λ i. (c.type_inv.image i).fits) _ _ readable.1).0))
 
 pub returns : goal.returns
 returns c =
@@ -67,5 +62,5 @@ returns c =
     let a = start.args in
     let readable = read.read_image-read.ensures.readable told.in_default.is in
     let lent = lent_by a.by_rows a.stack.now a.table.now a.winners.now in
-    let x = ran.build_and_run.ensures readable.0 readable.2 (read-in_range _ (bytes_of read) _ _ readable.1).0 in
+    let x = ran.build_and_run.ensures readable.0 readable.2 (read-in_range _ (λ i. (c.type_inv.image i).fits) _ _ readable.1).0 in
     (x.0 ∙ sym (run_got _ _ lent start.requires.0 start.requires.1 readable.0 _ readable.1), x.1)
