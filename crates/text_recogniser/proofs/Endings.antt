@@ -123,6 +123,12 @@ tokens_few s checked p text =
     ⊎_elim (λ (e : (list_tokens (image_sheet s).rules text).place ≡ length text). omega (arith, within, all, same, e))
     (λ h. omega (arith, within, all, same, h.0)) r.stops
 
+-- So there are at most 2048 of them, however they are written.
+pub listed_few : (s : Sheet) (checked : CheckedSheet) → PassedParts s checked → (text : List ℕ) → length text ≤ 2048
+    → {count : ℕ} {list list' starts starts' : List ℕ}
+    → Written (list_tokens (image_sheet s).rules text) count list list' starts starts' → count ≤ 2048
+listed_few s checked p text short w = omega (arith, tokens_few s checked p text, w.tokens_counted, short)
+
 pub typed_columns : (s : Sheet) (checked : CheckedSheet) → PassedParts s checked
     → HoldsTyped checked.links checked.types s.expression
 typed_columns s checked p =
