@@ -15,17 +15,14 @@ use Rattle.lexer.specs.Positions.{Position}
 use Rattle.lexer.specs.Table.{most_rows, table_rows, table_entries, table_winners}
 use Rattle.basics.specs.Lists.{written_over}
 use Rattle.image.specs.Image.{Image}
-use Rattle.image.specs.ImageRanges.{InRange}
-use Rattle.image_reader.specs.Decoded.{ImageTables, Decoded}
 use Rattle.image.specs.Answer.{Answer, answer}
 use Rattle.machine.specs.Trace.{answer_of}
-use Rattle.machine.specs.Lent.{lent_entries, Scanner, Lent, Ran, rows_of, entries_of, winners_of, built, turned_away, finished}
+use Rattle.machine.specs.Lent.{lent_entries, Scanner, Lent, rows_of, entries_of, winners_of, built, turned_away, finished}
 use Rattle.machine.specs.Runs.{Short}
 use Rattle.machine.specs.Run.{trace, is_short, has_many_rows, run_image, run}
 use Rattle.machine_turn.specs.Steps.{answer_held}
 use Rattle.machine_turn.specs.declared.RunAnswer.{RunAnswer}
 use Rattle.machine_loop.specs.Built.{Built}
-use Rattle.machine_loop.specs.Prepared.{WithTables}
 use Rattle.image_runner.specs.Lending.{scanner_by, lent_by, ran, Untouched, BuiltBy}
 
 not-false : (y : Bool) → false ≡ not y → y ≡ true

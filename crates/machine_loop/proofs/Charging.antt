@@ -14,13 +14,10 @@ use Rattle.scanner.specs.Meaning.{match_of}
 use Rattle.scanner.specs.declared.Found.{Found}
 use Rattle.scanner.specs.declared.Found.TheVariants as found
 use Rattle.image.specs.Image.{Image}
-use Rattle.image_reader.specs.Decoded.{ImageTables}
-use Rattle.machine.specs.Trace.{match_at, Ended}
+use Rattle.machine.specs.Trace.{match_at}
 use Rattle.machine.specs.Work.{charge, budget, TurnsTo, none_yet, one_more}
-use Rattle.machine_turn.specs.laws.Going.{Going}
 use Rattle.machine_turn.specs.Steps.{run_answer, all_members, end_answer}
 use Rattle.machine_turn.specs.declared.RunAnswer.{RunAnswer}
-use Rattle.machine_turn.specs.declared.State.{State}
 use Rattle.alive_scanner.specs.Ahead.{word_match}
 use Rattle.machine_loop.specs.Turning.{Charged, WordFits}
 

@@ -1,13 +1,10 @@
 -- `turns_by_walks` meets its contract: what the turns leave, and after a walk in vain what the turn leaves whose walk is made again.
 use borrow.Author.Rules.{rules}
-use mathlib.Core.Path.{◌≡◌, refl, sym, ap, subst, ◌∙◌}
-use mathlib.Core.List.{List, [], ◌∷◌}
-use mathlib.Core.Logic.{⊎_elim}
+use mathlib.Core.Path.{◌≡◌, refl, subst}
+use mathlib.Core.List.{List, []}
 use Prim.Native.Nat.{ℕ, zero, suc, ◌+◌, ◌-◌, ◌≤◌}
 use native.Mathlib.Omega.{arith}
 use lib.ListN.{length, drop}
-use denote.Enum.Declared.{tag_of}
-use types.Run.{OneOf}
 use Rattle.image.specs.Image.{Image}
 use Rattle.image_reader.specs.Decoded.{ImageTables, tables_of}
 use Rattle.machine.specs.Trace.{Ended}
@@ -18,45 +15,52 @@ use Rattle.machine_loop.specs.declared.Turns.{Turns}
 use Rattle.machine_loop.specs.declared.Turns.TheVariants.{Done, Reached, InVain}
 use Rattle.machine_loop.specs.Prepared.{WithTables}
 use Rattle.machine_loop.specs.Turning.{Charged, TurnsLead, AgainLead, LeftAt, RoundLead}
-use Rattle.machine_loop.proofs.TurningLaws.{charged_at}
-use Rattle.machine_loop.proofs.Charging.{none-at_end, walk-inside, charge_is}
-use Rattle.machine_loop.specs.contracts.Turns.{the_type}
-use Rattle.machine_loop.proofs.turns_by_walks.Statement.{statement}
+use Rattle.machine_loop.proofs.Charging.{walk-inside, charge_is}
+use Rattle.machine_loop.proofs.turns_by_walks.Goals as goal
+use Rattle.machine_loop.proofs.turns_by_walks.Goals.{Start}
+use Rattle.machine_loop.proofs.turns_by_walks.Lts as lts
 use Rattle.machine_loop.proofs.turns_by_walks.Tie as tie
+use Rattle.machine_loop.proofs.turns_by_walks.Reads as reads
+
+abbrev Lts-After-run_turns-turned : Type 0
+Lts-After-run_turns-turned = lts.After-run_turns tie.the-claims reads.Pre reads.Post
+
+abbrev Lts-In-InVain : Type 0
+Lts-In-InVain = lts.Past-After-known_told tie.the-claims reads.Pre reads.Post
 
 -- The start, from what the turns leave, and that, from a walk in vain.
-abbrev start_of : tie.After-run-turns → tie.Start
+abbrev start_of : Lts-After-run_turns-turned → Start
 start_of c = c.before.before.before.before.before.before.before.before
 
-abbrev turns-of : tie.After-known-told → tie.After-run-turns
-turns-of t = t.before.before.before.before.before
+abbrev turns-of : Lts-In-InVain → Lts-After-run_turns-turned
+turns-of t = t.before.before.before
 
-abbrev tables-here : tie.Start → ImageTables
+abbrev tables-here : Start → ImageTables
 tables-here s = let a = s.args in tables_of a.read a.tables.now a.productions.now
 
-abbrev Held : tie.Start → Image → Ended → Type 0
+abbrev Held : Start → Image → Ended → Type 0
 Held s i whole =
     let a = s.args in
     WithTables a.image.now (tables-here s) a.by_rows a.table.now a.winners.now i
     × Going i a.image.now (tables-here s) a.text.now a.stack.now a.from whole
     × LeftAt i a.text.now a.from.place a.left
 
-abbrev stack-left : tie.After-run-turns → List ℕ
-stack-left c = c.run-turns.new.1.1.1.1.1.1.1.1.1.0
+abbrev stack-left : Lts-After-run_turns-turned → List ℕ
+stack-left c = c.run_turns-turned.new.stack
 
 -- What the turns leave, for any image that the tables hold.
-abbrev Led : tie.After-run-turns → Image → Ended → Turns → Type 0
+abbrev Led : Lts-After-run_turns-turned → Image → Ended → Turns → Type 0
 Led c i whole =
     let s = start_of c in
     let a = s.args in
     TurnsLead i a.image.now (tables-here s) a.text.now a.from.place [] a.from.place (length a.text.now) whole (stack-left c)
 
-led : (c : tie.After-run-turns) (i : Image) (whole : Ended) → Held (start_of c) i whole → Led c i whole c.run-turns.result
-led c i whole w = c.run-turns.ensures i whole (start_of c).args.from.place w.0 w.1 (omega arith)
+led : (c : Lts-After-run_turns-turned) (i : Image) (whole : Ended) → Held (start_of c) i whole → Led c i whole c.run_turns-turned.result
+led c i whole w = c.run_turns-turned.ensures i whole (start_of c).args.from.place w.0 w.1 (omega arith)
 
 -- Turns that end without a walk in vain come to the answer, or to the text's end.
 ended : (i : Image) (bytes : List ℕ) (t : ImageTables) (text : List ℕ) (place left : ℕ) (whole : Ended) (stack : List ℕ) → LeftAt i text place left
-    → (turned : Turns) → (OneOf (0 ∷ 1 ∷ []) (tag_of the_type turned)) → TurnsLead i bytes t text place [] place (length text) whole stack turned
+    → (turned : Turns) → ((s : State) (n : ℕ) → turned ≡ InVain s n → ⊥) → TurnsLead i bytes t text place [] place (length text) whole stack turned
     → RoundLead i bytes t text place whole stack left turned
 ended i bytes t text place left whole stack h (Done a) tag l = let y = l.1 _ h.1 in (l.0, (y.0, y.1, y.2, y.3, omega (arith, y.4)))
 ended i bytes t text place left whole stack h (Reached s) tag l =
@@ -65,89 +69,88 @@ ended i bytes t text place left whole stack h (Reached s) tag l =
     used : (turns : ℕ) → Charged i text s.place (drop turns []) (budget text - left) → Charged i text s.place [] (budget text - left)
     used zero c = c
     used (suc k) c = c
-ended i bytes t text place left whole stack h (InVain s n) tag l = ⊎_elim (λ e. absurd (omega (arith, e))) (λ e. absurd (omega (arith, e))) tag
+ended i bytes t text place left whole stack h (InVain s n) tag l = absurd (tag s n refl)
 
 -- ---- a walk in vain
+abbrev state-of : Lts-In-InVain → State
+state-of t = t.in-InVain.s
 
-abbrev state-of : tie.After-known-told → State
-state-of t = t.before.turned.given.0.0
+abbrev bytes_of : Lts-In-InVain → ℕ
+bytes_of t = t.in-InVain.n
 
-abbrev bytes_of : tie.After-known-told → ℕ
-bytes_of t = t.before.turned.given.0.1.0
-
-vain-here : (t : tie.After-known-told) (i : Image) (whole : Ended) → Held (start_of (turns-of t)) i whole
+vain-here : (t : Lts-In-InVain) (i : Image) (whole : Ended) → Held (start_of (turns-of t)) i whole
     → Led (turns-of t) i whole (InVain (state-of t) (bytes_of t))
-vain-here t i whole w = subst (Led (turns-of t) i whole) t.before.turned.given.1 (led (turns-of t) i whole w)
+vain-here t i whole w = subst (Led (turns-of t) i whole) t.in-InVain.is (led (turns-of t) i whole w)
 
 -- Its bytes lie within the text.
-inside : (t : tie.After-known-told)
+inside : (t : Lts-In-InVain)
     → let text = (start_of (turns-of t)).args.text.now in
     ((state-of t).place + bytes_of t ≤ length text) × (length text ≤ 1048576)
 inside t =
     let s = start_of (turns-of t) in
-    let w = s.pre.1 in
+    let w = s.requires.1 in
     let v = vain-here t w.0 w.1 (w.2, w.3, w.4) in
     let before = v.1 in
-    (walk-inside w.0 s.args.text.now (state-of t).place (bytes_of t) v.3 v.4 (omega (arith, before)), s.pre.0)
+    (walk-inside w.0 s.args.text.now (state-of t).place (bytes_of t) v.3 v.4 (omega (arith, before)), s.requires.0)
 
-array-share-prefix-none : tie.Need-array-share-prefix-none
-array-share-prefix-none c = search rules
+pub slice_bounds-none-end : goal.slice_bounds-none-end
+slice_bounds-none-end c = search rules
 
-slice-aggregate-run-turns : tie.Need-slice-aggregate-run-turns
-slice-aggregate-run-turns c = search rules
+pub slice_bounds-run_turns-end : goal.slice_bounds-run_turns-end
+slice_bounds-run_turns-end c = search rules
 
-run-turns-requires : tie.Need-run-turns-requires
-run-turns-requires c κs =
-    let s = c.before.before.before.before.before.before.before in
+pub run_turns-turned-requires : goal.run_turns-turned-requires
+run_turns-turned-requires c =
+    let s = c.before.before.before.before.before.before.before.before in
     let w = s.requires.1 in
     (omega arith, λ e. refl, (w.0, w.1, s.args.from.place, w.2, w.3, omega arith))
 
-enum-known-turned : tie.Need-enum-known-turned
-enum-known-turned c = search rules
+pub enum_known-turned : goal.enum_known-turned
+enum_known-turned c = search rules
 
-same_length : tie.Need-same-length
-same_length c = search rules
+pub shape_of-stack-in_default : goal.shape_of-stack-in_default
+shape_of-stack-in_default c = search rules
 
-returns : tie.Need-returns
-returns c =
-    let turns = c.before.before.before in
+pub returns-in_default : goal.returns-in_default
+returns-in_default c =
+    let turns = c.before.before.before.before in
     let a = (start_of turns).args in
     λ i whole w g h.
-    ended i a.image.now (tables-here (start_of turns)) a.text.now a.from.place a.left whole (stack-left turns) h turns.run-turns.result
-    c.match.keys2 (led turns i whole (w, g, h))
+    ended i a.image.now (tables-here (start_of turns)) a.text.now a.from.place a.left whole (stack-left turns) h turns.run_turns-turned.result
+    c.in_default.not-InVain (led turns i whole (w, g, h))
 
-add-if1 : tie.Need-overflow-add-if1
-add-if1 t = let b = inside t in omega (arith, b.0, b.1)
+pub overflow_add-n : goal.overflow_add-n
+overflow_add-n t = let b = inside t.before in omega (arith, b.0, b.1)
 
-same_length_2 : tie.Need-same-length-2
-same_length_2 c = search rules
+pub shape_of-stack-then-left-n : goal.shape_of-stack-then-left-n
+shape_of-stack-then-left-n c = search rules
 
-returns_2 : tie.Need-returns-2
-returns_2 c =
-    let t = c.before in
+pub returns-then-left-n : goal.returns-then-left-n
+returns-then-left-n c =
+    let t = c.before.before in
     let a = (start_of (turns-of t)).args in
     λ i whole w g h.
     let x = vain-here t i whole (w, g, h) in
     let y = x.5 _ h.1 in
     let n = charge_is i a.text.now (state-of t).place (bytes_of t) x.3 x.4 in
-    (x.0, (y.0, budget a.text.now - a.left, y.1, y.2, omega arith, omega (arith, n, c.if1.true, h.0)))
+    (x.0, (y.0, budget a.text.now - a.left, y.1, y.2, omega arith, omega (arith, n, c.if-left-n.true, h.0)))
 
-turn-again-requires : tie.Need-turn-again-requires
-turn-again-requires c κs =
-    let t = c.before.before in
+pub turn_again-again-requires : goal.turn_again-again-requires
+turn_again-again-requires c =
+    let t = c.before.before.before in
     let s = start_of (turns-of t) in
-    let w = s.pre.1 in
+    let w = s.requires.1 in
     let x = vain-here t w.0 w.1 (w.2, w.3, w.4) in
-    (s.pre.0, x.1, x.3, (w.0, w.1, w.2, x.0, x.4))
+    (s.requires.0, x.1, x.3, (w.0, w.1, w.2, x.0, x.4))
 
-add-t22 : tie.Need-overflow-add-t22
-add-t22 c = let b = inside c.before.before.before.before.before in omega (arith, b.0, b.1)
+pub overflow_add-result : goal.overflow_add-result
+overflow_add-result c = let b = inside c.before.before.before.before.before.before in omega (arith, b.0, b.1)
 
-sub-t26 : tie.Need-overflow-sub-t26
-sub-t26 c = omega (arith, c.before.before.before.before.if1.false)
+pub overflow_sub-result : goal.overflow_sub-result
+overflow_sub-result c = omega (arith, c.if-left-n.false)
 
-same-length-3 : tie.Need-same-length-3
-same-length-3 c = search rules
+pub shape_of-stack : goal.shape_of-stack
+shape_of-stack c = search rules
 
 -- The turn whose walk was made again leaves so much less of the budget.
 after : (i : Image) (bytes : List ℕ) (t : ImageTables) (text : List ℕ) (place p left n : ℕ) (whole : Ended) (stack : List ℕ) → place ≤ p → n + n ≤ left
@@ -159,32 +162,13 @@ after i bytes t text place p left n whole stack pl nl h c (Reached s) l =
     (l.0, λ m. omega (arith, l.1), (omega arith, subst (Charged i text s.place []) e (l.2 _ c)))
 after i bytes t text place p left n whole stack pl nl h c (InVain s k) l = absurd l
 
-returns-3 : tie.Need-returns-3
-returns-3 c =
-    let again = c.before.before in
+pub returns : goal.returns
+returns c =
+    let again = c.before.before.before in
     let t = again.before.before.before in
     let s = start_of (turns-of t) in
     let a = s.args in
     λ i whole w g h.
     let x = vain-here t i whole (w, g, h) in
     after i a.image.now (tables-here s) a.text.now a.from.place (state-of t).place a.left (bytes_of t) whole _ x.2
-    again.before.before.if1.false h.0 (x.5 _ h.1) again.turn-again.result (again.turn-again.ensures i whole w x.0 x.4)
-
-pub turns-by-walks-spec : {M : Type 1} → statement M
-turns-by-walks-spec =
-    tie.close
-    (tie.spec
-    array-share-prefix-none
-    slice-aggregate-run-turns
-    run-turns-requires
-    enum-known-turned
-    same_length
-    returns
-    add-if1
-    same_length_2
-    returns_2
-    turn-again-requires
-    add-t22
-    sub-t26
-    same-length-3
-    returns-3)
+    again.if-left-n.false h.0 (x.5 _ h.1) again.turn_again-again.result (again.turn_again-again.ensures i whole w x.0 x.4)

@@ -20,8 +20,23 @@ use Rattle.machine_loop.specs.Turning.{Charged, TurnsLead, AgainLead}
 use Rattle.machine_loop.proofs.ByRows.{not-rows, without_rows}
 use Rattle.machine_loop.proofs.TurningLaws.{no_walk}
 use Rattle.machine_loop.proofs.Charging.{word_fits, walk-inside, match_again, charged_again}
-use Rattle.machine_loop.proofs.turn_again.Statement.{statement}
+use Rattle.machine_loop.proofs.turn_again.Goals as goal
+use Rattle.machine_loop.proofs.turn_again.Goals.{Start}
+use Rattle.machine_loop.proofs.turn_again.Lts as lts
 use Rattle.machine_loop.proofs.turn_again.Tie as tie
+use Rattle.machine_loop.proofs.turn_again.Reads as reads
+
+abbrev Lts-After-scan-arg-1 : Type 0
+Lts-After-scan-arg-1 = lts.After-scan-arg tie.the-claims reads.Pre reads.Post
+
+abbrev Lts-After-scan-found : Type 0
+Lts-After-scan-found = lts.After-scan tie.the-claims reads.Pre reads.Post
+
+abbrev Lts-After-word_of : Type 0
+Lts-After-word_of = lts.After-word_of tie.the-claims reads.Pre reads.Post
+
+abbrev Lts-After-run_turns : Type 0
+Lts-After-run_turns = lts.After-run_turns tie.the-claims reads.Pre reads.Post
 
 -- What one turn by the match leaves, as it is gone on from.
 gone_on : (i : Image) (bytes : List ℕ) (t : ImageTables) (text : List ℕ) (place word more : ℕ) (whole : Ended) (stack : List ℕ)
@@ -38,13 +53,13 @@ gone_on i bytes t text place word more whole stack charged (Reached s) l = (l.0,
 gone_on i bytes t text place word more whole stack charged (InVain s n) l = no_walk i bytes t text place (word ∷ []) (place + 1) whole stack (InVain s n) l
 
 -- The start, from where the walk is made again, and from there on.
-abbrev start_of : tie.After-scan-arg → tie.Start
+abbrev start_of : Lts-After-scan-arg-1 → Start
 start_of c = c.before.before.before.before.before.before
 
-abbrev tables-here : tie.Start → ImageTables
+abbrev tables-here : Start → ImageTables
 tables-here s = let a = s.args in tables_of a.read a.tables.now a.productions.now
 
-abbrev Held : tie.Start → Image → Ended → Type 0
+abbrev Held : Start → Image → Ended → Type 0
 Held s i whole =
     let a = s.args in
     WithTables a.image.now (tables-here s) a.by_rows a.table.now a.winners.now i
@@ -52,23 +67,23 @@ Held s i whole =
     × (a.n ≡ vain_bytes i.positions i.first (drop a.state.place a.text.now))
 
 -- The bytes of the walk lie within the text.
-inside : (s : tie.Start) → s.args.state.place + s.args.n ≤ length s.args.text.now
+inside : (s : Start) → s.args.state.place + s.args.n ≤ length s.args.text.now
 inside s =
     let w = s.requires.3 in
     walk-inside w.0 s.args.text.now s.args.state.place s.args.n s.requires.2 w.4 (omega (arith, s.requires.1))
 
 -- The match of the walk that is made again is the one at the place.
-match_here : (c : tie.After-scan) (i : Image) (whole : Ended)
+match_here : (c : Lts-After-scan-found) (i : Image) (whole : Ended)
     → let s = start_of c.before in
-    Held s i whole → match_of c.scan.result ≡ match_at i s.args.text.now s.args.state.place
+    Held s i whole → match_of c.scan-found.result ≡ match_at i s.args.text.now s.args.state.place
 match_here c i whole w =
     let s = start_of c.before in
     let a = s.args in
-    c.scan.ensures _ _ i w.0
-    ∙ match_again i a.text.now a.state.place a.n s.pre.2 w.2 (a.state.place + a.n - a.state.place) (omega arith)
+    c.scan-found.ensures _ _ i w.0
+    ∙ match_again i a.text.now a.state.place a.n s.requires.2 w.2 (a.state.place + a.n - a.state.place) (omega arith)
 
 -- The one word is the match found ahead, and leads past the place.
-ahead-here : (c : tie.After-word-of) (i : Image) (whole : Ended)
+ahead-here : (c : Lts-After-word_of) (i : Image) (whole : Ended)
     → let s = start_of c.before.before in
     let a = s.args in
     Held s i whole → Ahead i.positions i.first a.text.now (a.state.place + 1) a.state.place (c.word_of.result ∷ [])
@@ -78,65 +93,65 @@ ahead-here c i whole w =
     (e, λ rule n m. omega (arith, (match_within i.positions i.first (drop a.state.place a.text.now) rule n m).0))
 
 -- What the turn leaves.
-led : (c : tie.After-run-turns) (i : Image) (whole : Ended)
+led : (c : Lts-After-run_turns) (i : Image) (whole : Ended)
     → let word = c.before.before.before in
     let s = start_of word.before.before in
     let a = s.args in
     Held s i whole
     → TurnsLead i a.image.now (tables-here s) a.text.now a.state.place (word.word_of.result ∷ []) (a.state.place + 1) (a.state.place + 1)
-    whole c.run-turns.new.1.1.1.1.1.1.1.1.1.0 c.run-turns.result
+    whole c.run_turns.new.stack c.run_turns.result
 led c i whole w =
     let word = c.before.before.before in
-    c.run-turns.ensures i whole _ (without_rows w.0) w.1 (ahead-here word i whole w)
+    c.run_turns.ensures i whole _ (without_rows w.0) w.1 (ahead-here word i whole w)
 
-add-scan : tie.Need-overflow-add-scan
-add-scan c = let s = c.before.before.before.before.before in omega (arith, inside s, s.requires.0)
+pub overflow_add-p : goal.overflow_add-p
+overflow_add-p c = let s = c.before.before.before.before.before.before in omega (arith, inside s, s.requires.0)
 
-sub-scan : tie.Need-overflow-sub-scan
-sub-scan c = search rules
+pub slice_bounds-scan-count : goal.slice_bounds-scan-count
+slice_bounds-scan-count c = search rules
 
-part-scan-start : tie.Need-slice-bounds-scan-start
-part-scan-start c = search rules
+pub slice_bounds-scan-start : goal.slice_bounds-scan-start
+slice_bounds-scan-start c = search rules
 
-part-scan-end : tie.Need-slice-bounds-scan-end
-part-scan-end c = omega (arith, inside c.before.before.before.before.before)
+pub slice_bounds-scan-end : goal.slice_bounds-scan-end
+slice_bounds-scan-end c = omega (arith, inside c.before.before.before.before.before.before)
 
-scan-requires : tie.Need-scan-requires
-scan-requires c κs = search rules
+pub scan-found-requires : goal.scan-found-requires
+scan-found-requires c = search rules
 
-word-of-requires : tie.Need-word-of-requires
-word-of-requires c κs =
-    let s = start_of c.before in
+pub word_of-requires : goal.word_of-requires
+word_of-requires c =
+    let s = start_of c.before.before in
     let a = s.args in
-    let w = s.pre.3 in
-    word_fits w.0 _ c.scan.result (c.scan.ensures _ _ w.0 w.2)
+    let w = s.requires.3 in
+    word_fits w.0 _ c.scan-found.result (c.scan-found.ensures _ _ w.0 w.2)
     (omega (
       arith,
-      s.pre.0,
+      s.requires.0,
       length-take (a.state.place + a.n - a.state.place) (drop a.state.place a.text.now),
       length-drop a.state.place a.text.now,
     ))
 
-add-stop : tie.Need-overflow-add-stop
-add-stop c = let s = start_of c.before.before in omega (arith, inside s, s.pre.0, s.pre.1)
+pub overflow_add-stop : goal.overflow_add-stop
+overflow_add-stop c = let s = start_of c.before.before.before in omega (arith, inside s, s.requires.0, s.requires.1)
 
-slice-aggregate-run-turns : tie.Need-slice-aggregate-run-turns
-slice-aggregate-run-turns c = search rules
+pub slice_bounds-run_turns-end : goal.slice_bounds-run_turns-end
+slice_bounds-run_turns-end c = search rules
 
-run-turns-requires : tie.Need-run-turns-requires
-run-turns-requires c κs =
-    let word = c.before.before in
+pub run_turns-requires : goal.run_turns-requires
+run_turns-requires c =
+    let word = c.before.before.before in
     let s = start_of word.before.before in
-    let w = s.pre.3 in
+    let w = s.requires.3 in
     let held : Held s w.0 w.1 = (w.2, w.3, w.4) in
-    (omega (arith, inside s, s.pre.1), λ e. absurd (not-rows e), (w.0, w.1, s.args.state.place + 1, without_rows w.2, w.3, ahead-here word w.0 w.1 held))
+    (omega (arith, inside s, s.requires.1), λ e. absurd (not-rows e), (w.0, w.1, s.args.state.place + 1, without_rows w.2, w.3, ahead-here word w.0 w.1 held))
 
-same_length : tie.Need-same-length
-same_length c = search rules
+pub shape_of-stack : goal.shape_of-stack
+shape_of-stack c = search rules
 
-returns : tie.Need-returns
+pub returns : goal.returns
 returns c =
-    let turns = c.before.before in
+    let turns = c.before.before.before in
     let word = turns.before.before.before in
     let s = start_of word.before.before in
     let a = s.args in
@@ -144,21 +159,5 @@ returns c =
     let held : Held s i whole = (w, g, e) in
     let m = word.word_of.ensures ∙ match_here word.before i whole held in
     gone_on i a.image.now (tables-here s) a.text.now a.state.place word.word_of.result (a.n + a.n) whole _
-    (λ v x. charged_again i a.text.now a.state.place a.n s.pre.2 e word.word_of.result v s.pre.1 m x) turns.run-turns.result
+    (λ v x. charged_again i a.text.now a.state.place a.n s.requires.2 e word.word_of.result v s.requires.1 m x) turns.run_turns.result
     (led turns i whole held)
-
-pub turn-again-spec : {M : Type 1} → statement M
-turn-again-spec =
-    tie.close
-    (tie.spec
-    add-scan
-    sub-scan
-    part-scan-start
-    part-scan-end
-    scan-requires
-    word-of-requires
-    add-stop
-    slice-aggregate-run-turns
-    run-turns-requires
-    same_length
-    returns)

@@ -1,0 +1,71 @@
+-- `look` meets its contract: by a word, or by one walk where no word is left.
+use borrow.Author.Rules.{rules}
+use mathlib.Core.Path.{sym, ap, subst, ◌∙◌}
+use mathlib.Core.List.{List}
+use mathlib.Core.Logic.{⊎_elim}
+use Prim.Native.Nat.{ℕ, suc, ◌≤◌}
+use native.Mathlib.Omega.{arith}
+use lib.ListN.{length, get_or, drop, drop_of_length-le, length-drop}
+use lib.Seq.{drop-cons}
+use Rattle.basics.proofs.laws.Buffers.{rest_from}
+use Rattle.lexer.specs.Alive.{told}
+use Rattle.alive_scanner.specs.Ahead.{Ahead}
+use Rattle.machine_loop.specs.Turning.{SeenBy, SeenAt}
+use Rattle.machine_loop.proofs.Looking.{seen_walk, seen_word}
+use Rattle.machine_loop.proofs.look.Goals as goal
+use Rattle.machine_loop.proofs.look.Lts as lts
+use Rattle.machine_loop.proofs.look.Tie as tie
+use Rattle.machine_loop.proofs.look.Reads as reads
+
+abbrev Lts-Joined-not-by_rows : Type 0
+Lts-Joined-not-by_rows = lts.Joined1 tie.the-claims reads.Pre reads.Post
+
+pub offset_bounds-matches-turn : goal.offset_bounds-matches-turn
+offset_bounds-matches-turn c = search rules
+
+pub bounds-matches-turn : goal.bounds-matches-turn
+bounds-matches-turn c = search rules
+
+pub word_seen-requires : goal.word_seen-requires
+word_seen-requires c = search rules
+
+pub returns-then-turn-matches : goal.returns-then-turn-matches
+returns-then-turn-matches c =
+    let a = c.args in
+    λ image productions i w to ahead.
+    let d = drop-cons a.matches.now a.turn 0 c.if-turn-matches.true in
+    subst (λ (l : List ℕ). SeenAt i a.text.now a.place l c.word_seen.result) (sym d)
+    (seen_word i a.text.now a.place c.word_seen.result to (get_or a.matches.now a.turn 0) (drop (suc a.turn) a.matches.now)
+    (subst (Ahead i.positions i.first a.text.now to a.place) d ahead) c.word_seen.ensures.0 c.word_seen.ensures.1)
+
+-- No word is left: it was looked, or the turns go by rows.
+none_left : (j : Lts-Joined-not-by_rows) → length j.args.matches.now ≤ j.args.turn
+none_left j = ⊎_elim (λ w. w.if-turn-matches.false) (λ w. j.requires.1 w.if-not-by_rows.false) j.if-not-by_rows.branch-raw
+
+pub slice_bounds-walk-count : goal.slice_bounds-walk-count
+slice_bounds-walk-count c = search rules
+
+pub slice_bounds-walk-start : goal.slice_bounds-walk-start
+slice_bounds-walk-start c = omega (arith, c.requires.0)
+
+pub slice_bounds-walk-end : goal.slice_bounds-walk-end
+slice_bounds-walk-end c = search rules
+
+pub walk-end-requires : goal.walk-end-requires
+walk-end-requires c =
+    let s = c.before.before.before.before.before.before.before in
+    let a = s.args in
+    (omega (arith, s.requires.0, ap (λ (l : List ℕ). length l) (rest_from a.text.now a.place), length-drop a.place a.text.now), s.requires.2)
+
+pub walk_seen-requires : goal.walk_seen-requires
+walk_seen-requires c = search rules
+
+pub returns : goal.returns
+returns c =
+    let j = c.before.before.before.before in
+    let a = j.args in
+    λ image productions i w to ahead.
+    let d = drop_of_length-le a.matches.now {i = a.turn} (none_left j) in
+    let e = c.walk-end.ensures image productions i w ∙ ap (told i.positions i.first) (rest_from a.text.now a.place) in
+    subst (λ (l : List ℕ). SeenAt i a.text.now a.place l c.walk_seen.result) (sym d)
+    (seen_walk i a.text.now a.place c.walk_seen.result (subst (SeenBy c.walk_seen.result) e c.walk_seen.ensures))
