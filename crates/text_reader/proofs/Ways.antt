@@ -1,6 +1,6 @@
 -- One law for each way through `read_text`: what is told, what the stack holds, and that it is the sheet's own answer.
 use mathlib.Core.Path.{◌≡◌, refl, sym, ap, ◌∙◌}
-use mathlib.Core.Bool.{Bool, cond}
+use mathlib.Core.Bool.{cond}
 use mathlib.Core.List.{List}
 use Prim.Native.Nat.{ℕ, ◌≤◌, ◌<◌}
 use native.Mathlib.Omega.{arith}
@@ -21,8 +21,6 @@ use Rattle.image.specs.Image.{image_of}
 use Rattle.image.proofs.laws.ReadableImages.{readable_written}
 use Rattle.image.proofs.laws.ImageLength.{image_fits}
 use Rattle.lexer.proofs.laws.EmptyWord.{none_empty}
-use Rattle.image_writer.specs.declared.Written.{Written}
-use Rattle.image_writer.specs.declared.Written.TheVariants.{Done, TooLong, Refused}
 use Rattle.image.specs.Answer.{Answer, answer}
 use Rattle.machine.specs.Lent.{stack_alone, Ran}
 use Rattle.machine.specs.Run.{run}
