@@ -2,3 +2,4 @@
 pub mod Proofs
 pub mod Corollaries
 pub mod Requests
+pub mod RequestsFollow

@@ -1,4 +1,5 @@
 -- The laws of this crate's definitions, proved; and what only their proofs use.
+pub mod ByRule
 pub mod FusionLaws
 pub mod NumberingLaws
 pub mod Simulation

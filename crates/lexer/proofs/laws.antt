@@ -13,6 +13,7 @@ pub mod OrderedMatches
 pub mod PositionBounds
 pub mod LowestPosition
 pub mod ToldLaws
+pub mod VainLaws
 pub mod AliveLaws
 pub mod TableLaws
 pub mod SetWalkExamples

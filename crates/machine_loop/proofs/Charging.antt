@@ -8,7 +8,8 @@ use native.Mathlib.Omega.{arith}
 use lib.ListN.{length, take, drop, length-drop, drop_of_length-le}
 use Rattle.lexer.specs.Walk.{walk, longest_match}
 use Rattle.lexer.specs.Alive.{walk_bytes, match_bytes, vain, vain_bytes, cut_bytes}
-use Rattle.lexer.proofs.laws.AliveLaws.{match_or-vain, walk_bytes_most, walk-front}
+use Rattle.lexer.proofs.laws.AliveLaws.{walk_bytes_most, walk-front}
+use Rattle.lexer.proofs.laws.VainLaws.{match_or-vain}
 use Rattle.lexer.proofs.laws.LongestMatchLaws.{match_within}
 use Rattle.scanner.specs.Meaning.{match_of}
 use Rattle.scanner.specs.declared.Found.{Found}

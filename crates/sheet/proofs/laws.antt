@@ -3,6 +3,7 @@ pub mod ListLaws
 pub mod FieldLaws
 pub mod NumberLaws
 pub mod FormatLaws
+pub mod AfterTags
 pub mod SheetAgreement
 pub mod SheetRanges
 pub mod ReadingLaws

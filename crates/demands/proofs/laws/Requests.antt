@@ -273,22 +273,6 @@ module _ (f : Functions) (demand : Demand1 f) where
         let r = twins_refused a b bytes other_bytes twins short other_short (length work) question place e in
         (r.0, ap (λ (x : Checked). x.answer) (one_check f demand b work other_bytes) ∙ ap check_answer r.1, r.2)
 
-  -- Both ways: with every work area and every image buffer both are accepted, with one image, or neither is.
-  twin_accepted : (a b : List ℕ) → Bytes a → Bytes b → Twins a b → length a ≤ most_sheet_bytes → length b ≤ most_sheet_bytes
-      → (work buffer : List ℕ) → Accepts f a work buffer → Accepts f b work buffer × (f.write b work buffer ≡ f.write a work buffer)
-  twin_accepted a b bytes other_bytes twins short other_short work buffer h =
-      let passes = (some_buffer a work bytes).1 (buffer, h) in
-      let same = (twins_pass a b bytes other_bytes twins short other_short work passes).1 buffer in
-      (subst (λ (r : Wrote). r.answer.number ≡ 0) (sym same) h, same)
-
-  pub same_image : (a b : List ℕ) → Bytes a → Bytes b → Twins a b → length a ≤ most_sheet_bytes → length b ≤ most_sheet_bytes
-      → (work buffer : List ℕ) → (Accepts f a work buffer ↔ Accepts f b work buffer)
-      × (Accepts f a work buffer → (f.write b work buffer).part ≡ (f.write a work buffer).part)
-  same_image a b bytes other_bytes twins short other_short work buffer =
-      let there = twin_accepted a b bytes other_bytes twins short other_short work buffer in
-      let back = twin_accepted b a other_bytes bytes (twins_back twins) other_short short work buffer in
-      (((λ h. (there h).0), λ h. (back h).0), λ h. ap (λ (r : Wrote). r.part) (there h).1)
-
   -- ---- [4] "a word rule .. now wins over any other"
 
   -- Where no other rule stands above a word rule, the image is the one with the rules numbered as they stand, as it was before.
@@ -298,12 +282,6 @@ module _ (f : Functions) (demand : Demand1 f) where
       let e = (accepts_by sheet work buffer bytes).0 h in
       subst (ReadableAs (f.write sheet work buffer).part) (numbering_kept s above)
       (accepted_normal_form sheet bytes (length work) (length buffer) _ e s spells)
-
-  -- Byte for byte, since an image has one spelling.
-  pub same_bytes : (sheet work buffer : List ℕ) → Bytes sheet → Accepts f sheet work buffer → (s : Sheet) → Spells sheet s
-      → WordsAbove s.rules → (f.write sheet work buffer).part ≡ image_bytes (plain_image s)
-  same_bytes sheet work buffer bytes h s spells above =
-      readable_written (f.write sheet work buffer).part (plain_image s) (same_numbering sheet work buffer bytes h s spells above)
 
 -- ---- [1] and [4], of what is read
 
@@ -487,15 +465,6 @@ module _ (f : Functions) (demand : Demand1 f) (sheet text work list : List ℕ) 
     as_own throughout a own =
         let e = (as_own-answer sheet text (length work) (length list) bytes fixed_by.0 s read_by (read_through.0 throughout).1 a own).0 in
         (ap (λ (b : Answer). b.number) e, ap (λ (b : Answer). b.place) e)
-
-    -- "it gets the machine's number and place on a long enough stack", with a table that fits or without one.
-    pub as_machine : MatchedThroughout s text → Demand3 f → (other buffer : List ℕ) → Accepts f sheet other buffer
-        → (lent : Lent) → long_enough text ≤ length lent.stack → (Short lent.scanner → ⊥)
-        → (ManyRows lent.scanner (image_of s) → ⊥)
-        → let a = (f.run (f.write sheet other buffer).part text lent).answer in
-        (recognition.answer.number ≡ a.number) × (recognition.answer.place ≡ a.place)
-    as_machine throughout demand_3 other buffer accepted lent long not_IsShort few =
-        as_own throughout _ (own f demand_3 sheet other buffer bytes accepted s spells text lent (omega (arith, within)) long not_IsShort few)
 
     -- Unless that is 15, the count is the same too.
     pub whole_as_machine : MatchedThroughout s text → Demand3 f → (other buffer : List ℕ) → Accepts f sheet other buffer

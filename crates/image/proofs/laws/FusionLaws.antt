@@ -12,10 +12,7 @@ use Rattle.lexer.specs.Words.{RuleAt, first_rule, later_rule}
 use Rattle.image.specs.Fusion.{fused_from}
 use Rattle.image.specs.ImageRanges.{Rising}
 use Rattle.image.specs.laws.FusionLaws.{fused_row}
-
--- A token's production as the production of rule r, before the others.
-abbrev pub by_rule : ℕ → Option Production → List Production → List Production
-by_rule r o ps = elim o [ none ↦ ps | some p ↦ record { head = r; tail = p.tail } ∷ ps ]
+use Rattle.image.proofs.laws.ByRule.{by_rule}
 
 -- Rule k returns token t: its action is t + 1.
 pub record Returns (rules : List Rule) (k t : ℕ) : Type 0 where

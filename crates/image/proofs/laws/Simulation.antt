@@ -14,7 +14,8 @@ use Rattle.sheet.specs.Sheet.{Rule}
 use Rattle.normal_form.specs.Productions.{Production, Row, no_productions, row_of, production_of}
 use Rattle.image.specs.Fusion.{fused_from, fused}
 use Rattle.image.specs.laws.FusionLaws.{fused_row}
-use Rattle.image.proofs.laws.FusionLaws.{Returns, by_rule}
+use Rattle.image.proofs.laws.ByRule.{by_rule}
+use Rattle.image.proofs.laws.FusionLaws.{Returns}
 use Rattle.image.proofs.laws.FusionLaws.{as_rule, rule-production, FusedOf, fused_of}
 use Rattle.normal_form.proofs.laws.ProductionLaws.{Found, production_found}
 use Rattle.basics.proofs.laws.Members.{all_of}

@@ -20,6 +20,7 @@ use Rattle.lexer.proofs.laws.Least.{LeastOf, least_iff, least_one}
 use Rattle.lexer.proofs.laws.PositionList.{PositionFrom, first_place, later_place, PositionAt, place_one}
 use Rattle.lexer.proofs.laws.WalkLaws.{in_keep, keep_in, in_follows, follows_in, EndsRule, ended-least}
 use Rattle.lexer.proofs.laws.LowestPosition.{follows_nothing, ended_nothing, walk_nothing}
+use Rattle.lexer.proofs.laws.VainLaws.{match_or-vain}
 
 -- ---- sets
 
@@ -372,15 +373,6 @@ pub match_bytes_most : (ps : List Position) (first : ℕ) (text : List ℕ)
 match_bytes_most ps first text = omega (arith, cut_bytes_right ps first text, cut_walk_bytes ps first first text (λ i h. h))
 
 -- ---- what one walk tells
-
--- A walk goes over the bytes of its match, or it is in vain.
-pub match_or-vain : (n : ℕ) (m : Match) → ((n ≡ match_bytes m) × (vain n m ≡ 0)) ⊎ (vain n m ≡ n)
-unfolding vain
-match_or-vain n m = go (eqb n (match_bytes m)) refl
-  where
-    go : (x : Bool) → eqb n (match_bytes m) ≡ x → ((n ≡ match_bytes m) × (cond x 0 n ≡ 0)) ⊎ (cond x 0 n ≡ n)
-    go true e = inl (eqb-true n (match_bytes m) e, refl)
-    go false e = inr refl
 
 pub not_both : {X : Type 0} {m : Match} {k : ℕ} → ends_with m ≡ in_vain k → X
 not_both e = let z : ◌≡◌ {A = ℕ} 0 1 = cc in absurd (omega arith)

@@ -12,7 +12,8 @@ use Rattle.lexer.specs.Match.{matched}
 use Rattle.lexer.specs.Walk.{longest_match}
 use Rattle.lexer.specs.Alive.{walk_bytes, match_bytes, vain_bytes, cut_bytes}
 use Rattle.lexer.proofs.laws.LongestMatchLaws.{match_within}
-use Rattle.lexer.proofs.laws.AliveLaws.{cut_bytes_right, walk_bytes_most, match_bytes_most, match_or-vain}
+use Rattle.lexer.proofs.laws.AliveLaws.{cut_bytes_right, walk_bytes_most, match_bytes_most}
+use Rattle.lexer.proofs.laws.VainLaws.{match_or-vain}
 use Rattle.machine.specs.Work.{charge, least_budget, budget, TurnsTo, none_yet, one_more}
 
 -- What may be charged is the text's length, and at most a fixed number more.

@@ -11,7 +11,7 @@ use Rattle.sheet.specs.Regex.{empty}
 use Rattle.sheet.specs.Sheet.{Rule}
 use Rattle.normal_form.specs.Productions.{Production, production_of}
 use Rattle.image.specs.Fusion.{fused_from}
-use Rattle.image.proofs.laws.FusionLaws.{by_rule}
+use Rattle.image.proofs.laws.ByRule.{by_rule}
 use Rattle.image.specs.Image.{all_numbers}
 use Rattle.image.specs.laws.NumberingLaws.{tail_members}
 use Rattle.basics.proofs.laws.Members.{get_or-map-inside}

@@ -31,7 +31,7 @@ use Rattle.sheet.specs.Format.{Format, done, field}
 use Rattle.sheet.proofs.laws.FormatLaws.{judged, asked, read_part, read, then_same, then_then}
 use Rattle.sheet.proofs.laws.FormatLaws as whole_reading
 use Rattle.sheet.specs.SheetFormat.{judge, regex_format, rules_format, expression_format, sheet_format}
-use Rattle.sheet.proofs.laws.SheetRanges.{regex_limits, after_regex_tag, after_expression_tag}
+use Rattle.sheet.proofs.laws.AfterTags.{regex_limits, after_regex_tag, after_expression_tag}
 
 module _ (bytes : List ℕ) where
   abbrev part : {X : Type 0} → Format X → ℕ → Reading X

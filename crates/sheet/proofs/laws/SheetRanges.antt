@@ -22,31 +22,7 @@ use Rattle.sheet.specs.Field.{between}
 use Rattle.sheet.proofs.laws.FieldLaws.{true-between}
 use Rattle.sheet.specs.Format.{Format, done, number, field}
 use Rattle.sheet.specs.SheetFormat.{Contents, judge, regex_format, rules_format, expression_format, sheet_format}
-
--- ---- what the format of a regex or of an expression is after a tag
-
--- Whether the limits are kept with a tag.
-abbrev pub regex_limits : ℕ → ℕ → ℕ → Bool
-regex_limits nodes classes tag = ltb nodes most_regex_nodes && (not (eqb tag 1) || ltb classes most_classes)
-
-abbrev pub after_regex_tag : {X : Type 0} → ℕ → ℕ → ℕ → (Regex → ℕ → ℕ → Format X) → ℕ → Format X
-after_regex_tag {X} depth nodes classes next tag =
-    let none = next empty (nodes + 1) classes in
-    let bytes = field 4 (between 0 255) (λ low. field 4 (between low 255) (λ high. next (class low high) (nodes + 1) (classes + 1))) in
-    let two : (Regex → Regex → Regex) → Format X =
-    λ make. regex_format depth (nodes + 1) classes (λ r n c. regex_format depth n c (λ s. next (make r s))) in
-    let one = regex_format depth (nodes + 1) classes (λ r. next (star r)) in
-    get_or (none ∷ bytes ∷ two concat ∷ two union ∷ one ∷ []) tag none
-
--- The places are those of the tags so far.
-abbrev pub after_expression_tag : {X : Type 0} → ℕ → ℕ → ℕ → List ℕ → (Expression → List ℕ → Format X) → ℕ → Format X
-after_expression_tag {X} depth tokens opened places next tag =
-    let below : ℕ → (ℕ → Expression) → Format X = λ bound make. field 4 (λ k. ltb k bound) (λ k. next (make k) places) in
-    let one : ℕ → (Expression → Expression) → Format X = λ inside make. expression_format depth tokens inside places (λ g. next (make g)) in
-    let two : (Expression → Expression → Expression) → Format X =
-    λ make. expression_format depth tokens opened places (λ g p. expression_format depth tokens opened p (λ h. next (make g h))) in
-    get_or (next epsilon places ∷ next bottom places ∷ below tokens token ∷ two sequence ∷ two alternative ∷ one (suc opened) fixed_point
-    ∷ below opened variable ∷ one opened repetition ∷ []) tag (next bottom places)
+use Rattle.sheet.proofs.laws.AfterTags.{regex_limits, after_regex_tag, after_expression_tag}
 
 -- ---- two formats that ask alike
 
