@@ -21,7 +21,6 @@ use Rattle.sheet.proofs.laws.ReadingLaws.{spelled_limits, spelled_once}
 use Rattle.sheet.specs.Spelling.{Bytes}
 use Rattle.sheet.specs.WellFormed.{WithinLimits}
 use Rattle.sheet.specs.Twins.{Twins, SamePlace}
-use Rattle.sheet.proofs.laws.TwinLaws.{twins_back}
 use Rattle.types.specs.Denotation.{Denotes}
 use Rattle.types.specs.Languages as languages
 use Rattle.types.specs.Languages.{HasWord}

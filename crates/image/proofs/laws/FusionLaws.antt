@@ -6,12 +6,11 @@ use mathlib.Core.List.Memᴰ
 use mathlib.Core.List.{List, [], ◌∷◌, Memᴰ}
 use Rattle.std.proofs.Math.Option.{Option, none, some}
 use Rattle.sheet.specs.Sheet.{Rule}
-use Rattle.normal_form.specs.Productions.{Production, Row, production_of}
+use Rattle.normal_form.specs.Productions.{Production, production_of}
 use Rattle.normal_form.proofs.laws.ProductionLaws.{Found, production_found}
 use Rattle.lexer.specs.Words.{RuleAt, first_rule, later_rule}
 use Rattle.image.specs.Fusion.{fused_from}
 use Rattle.image.specs.ImageRanges.{Rising}
-use Rattle.image.specs.laws.FusionLaws.{fused_row}
 use Rattle.image.proofs.laws.ByRule.{by_rule}
 
 -- Rule k returns token t: its action is t + 1.

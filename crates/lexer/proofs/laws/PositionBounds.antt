@@ -5,7 +5,6 @@ use Rattle.std.proofs.Common.{sym, ap, ap₂, ◌∙◌, subst, ⊎_elim, arith,
 use Rattle.std.proofs.Math.Option.{none}
 use Rattle.basics.specs.Lists.{All, sum}
 use Rattle.basics.proofs.laws.Order.{lt-or-le}
-use Rattle.sheet.specs.Limits.{most_classes}
 use Rattle.sheet.specs.Regex.{Regex, empty, class, concat, union, star, class_count}
 use Rattle.sheet.specs.Sheet.{Rule, Sheet}
 use Rattle.sheet.specs.WellFormed.{BytesInRange, RuleInRange, WithinLimits}

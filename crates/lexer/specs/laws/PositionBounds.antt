@@ -3,7 +3,7 @@
 use Rattle.std.specs.Prelude.{List, [], ◌∷◌, ℕ, ◌≤◌, ◌<◌, ◌^◌, length}
 use Rattle.basics.specs.Lists.{All}
 use Rattle.sheet.specs.Limits.{most_classes}
-use Rattle.lexer.specs.Positions.{Position, follow}
+use Rattle.lexer.specs.Positions.{Position}
 
 -- "and never falling": each is at least the one before it, and the first at least `low`.
 abbrev pub NeverFalling : ℕ → List Position → Type 0

@@ -7,7 +7,7 @@ use Prim.Native.Nat.{ℕ, suc}
 use Rattle.sheet.specs.Expression.{Expression, epsilon, bottom, token, sequence, alternative, fixed_point, variable, repetition, size}
 use Rattle.sheet.specs.Items.{ExpressionItem, epsilon_item, bottom_item, token_item, sequence_item, alternative_item}
 use Rattle.sheet.specs.Items.{fixed_point_item, variable_item, repetition_item, part_depths, expression_before, expressions}
-use Rattle.sheet.specs.laws.ExpressionItems.{expression_items_of, expression_tag}
+use Rattle.sheet.specs.laws.ExpressionItems.{expression_items_of}
 
 -- ---- what the items of an expression count
 

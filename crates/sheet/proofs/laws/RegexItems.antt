@@ -7,7 +7,7 @@ use Rattle.basics.proofs.laws.Members.{sum-append}
 use Rattle.sheet.specs.Regex.{Regex, empty, class, concat, union, star, class_count}
 use Rattle.sheet.specs.Items.{RegexItem, empty_item, class_item, concat_item, union_item, star_item, regex_parts}
 use Rattle.sheet.specs.Items.{item_classes, regex_before, regexes}
-use Rattle.sheet.specs.laws.RegexItems.{regex_items_of, regex_tag}
+use Rattle.sheet.specs.laws.RegexItems.{regex_items_of}
 
 -- ---- what the items of a regex count
 

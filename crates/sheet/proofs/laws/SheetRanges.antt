@@ -1,6 +1,6 @@
 -- What the sheet's format makes keeps the page's ranges and limits; and from places that correspond it makes the same sheet, with places that
 -- correspond. Bytes are not named here.
-use Rattle.std.specs.Prelude.{◌≡◌, Bool, false, not, ◌&&◌, ◌||◌, eqb, get_or}
+use Rattle.std.specs.Prelude.{◌≡◌, Bool, false, not, ◌||◌, eqb, get_or}
 use Rattle.std.proofs.Math.Path.{refl, ap}
 use Rattle.std.proofs.Common.{sym, ◌∙◌, true≢false}
 use Rattle.std.proofs.Math.Bool.{true}

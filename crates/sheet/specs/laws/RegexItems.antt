@@ -1,5 +1,5 @@
 -- The items of a regex in prefix order, and that items make regexes which have just these items. Bytes are not named here.
-use Rattle.std.specs.Prelude.{ℕ, ◌+◌}
+use Rattle.std.specs.Prelude.{ℕ}
 use mathlib.Core.List.{List, [], ◌∷◌, ◌++◌}
 use Rattle.sheet.specs.Regex.{Regex, empty, class, concat, union, star}
 use Rattle.sheet.specs.Items.{RegexItem, empty_item, class_item, concat_item, union_item, star_item}
