@@ -7,7 +7,7 @@ use Rattle.image.specs.Answer.{answer}
 use Rattle.demands.specs.ImageD.{rules_of_image_D}
 use Rattle.cases.specs.Cases.{Case, writes, reads}
 
--- N·(S-as-N)*, and its image
+-- N·(S·N)*, and its image
 abbrev pub counts : List ℕ
 counts = with_expression (3 ∷ 2 ∷ 0 ∷ 7 ∷ 3 ∷ 2 ∷ 1 ∷ 2 ∷ 0 ∷ [])
 
@@ -24,7 +24,7 @@ image_of_numbers = rules_of_image_D ++ (1 ∷ 1 ∷ 1 ∷ 2 ∷ 1 ∷ 0 ∷ [])
 
 unfoldable pub repetition_cases : List Case
 repetition_cases =
-    -- N·(S-as-N)*: its image, and `12/7`, `12//7`, `12/`
+    -- N·(S·N)*: its image, and `12/7`, `12//7`, `12/`
     writes counts (written image_of_counts)
     ∷ reads counts (49 ∷ 50 ∷ 47 ∷ 55 ∷ []) (answer 0 4 3)
     ∷ reads counts (49 ∷ 50 ∷ 47 ∷ 47 ∷ 55 ∷ []) (answer 15 3 2)

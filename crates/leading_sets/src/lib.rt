@@ -77,17 +77,24 @@ fn word_of(k: usize, unions: &[u64; 4096], singles: &[u64; 128]) -> u64
     unions[k - (1usize << lowest)] | singles[8 * (k / 256) + lowest]
 }
 
+// Writes the table of unions.
+pub fn fill_unions(tables: &[u64; 448], unions: &mut [u64; 4096])
+    ensures { Unions (drop 256 tables.now) unions.new }
+{
+    let singles = singles_of(tables);
+    let mut k: usize = 0;
+    while k < 4096 {
+        unions[k] = word_of(k, unions, &singles);
+        k += 1;
+    }
+}
+
 // The table of unions.
 pub fn unions_of(tables: &[u64; 448]) -> [u64; 4096]
     ensures { Unions (drop 256 tables.now) result }
 {
-    let singles = singles_of(tables);
     let mut unions = [0u64; 4096];
-    let mut k: usize = 0;
-    while k < 4096 {
-        unions[k] = word_of(k, &unions, &singles);
-        k += 1;
-    }
+    fill_unions(tables, &mut unions);
     unions
 }
 

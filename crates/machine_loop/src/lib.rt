@@ -578,7 +578,9 @@ fn run_rest<'a>(
         stack.old from whole
         → answer_held result ≡ answer_of whole }
 {
-    let unions = leading_sets::unions_of(tables);
+    // Written in place, so that the table lies on the processor's stack once.
+    let mut unions = [0u64; 4096];
+    leading_sets::fill_unions(tables, &mut unions);
     let mut marks = [0u64; 1024];
     let mut block = [0u64; 1024];
     let from_block = from.place / 1024;

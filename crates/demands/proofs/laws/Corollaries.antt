@@ -38,13 +38,13 @@ module _ (f : Functions) (demand : Demand1 f) where
 module _ (f : Functions) (demand : Demand3 f) (sheet work buffer : List ℕ) (bytes : Bytes sheet) (accepted : Accepts f sheet work buffer)
     (s : Sheet) (spells : Spells sheet s) (text : List ℕ) (lent : Lent)
     (within : length text ≤ most_text_bytes) (long : long_enough text ≤ length lent.stack)
-    (not_IsShort : Short lent.scanner → ⊥) (few_rows : ManyRows lent.scanner (image_of s) → ⊥) where
+    (not_short : Short lent.scanner → ⊥) (few_rows : ManyRows lent.scanner (image_of s) → ⊥) where
   -- What running the image answers.
   abbrev a : Answer
   a = (f.run (f.write sheet work buffer).part text lent).answer
 
   pub own : OwnAnswer s text a
-  own = (demand.own_answer sheet work buffer bytes accepted s spells text lent within long not_IsShort few_rows a).0 refl
+  own = (demand.own_answer sheet work buffer bytes accepted s spells text lent within long not_short few_rows a).0 refl
 
   -- A text is accepted exactly when longest match over all rules reads it to its end and the expression denotes the tokens found.
   pub text_accepted_iff : (a.number ≡ 0)

@@ -166,7 +166,7 @@ runs_own : (sheet : List ℕ) → Bytes sheet → (work room : ℕ) (image : Lis
     → (text : List ℕ) (lent : Lent) → length text ≤ most_text_bytes → long_enough text ≤ length lent.stack
     → (Short lent.scanner → ⊥) → (ManyRows lent.scanner (image_of s) → ⊥) → {r : Ran} → Runs image text lent r → OwnAnswer s text r.answer
 unfolding image_of image_sheet turned_away finished answer_of
-runs_own sheet bytes work room image e s spells text lent within long not_IsShort few runs = by_question runs
+runs_own sheet bytes work room image e s spells text lent within long not_short few runs = by_question runs
   where
     acceptable : Acceptable sheet room s
     acceptable = (accepted_sheet sheet bytes work room image e s spells).0
@@ -179,7 +179,7 @@ runs_own sheet bytes work room image e s spells text lent within long not_IsShor
     readable = accepted_normal_form sheet bytes work room image e s spells
 
     by_question : {q : Ran} → Runs image text lent q → OwnAnswer s text q.answer
-    by_question (short h) = absurd (not_IsShort h)
+    by_question (short h) = absurd (not_short h)
     by_question (long_text h l) = absurd (omega arith)
     by_question (unreadable p h l u o) = absurd (u (image_of s, readable))
     by_question (many_rows i h l x k) = absurd (few (subst (ManyRows lent.scanner) (readable_one image i (image_of s) x readable) k))
@@ -202,16 +202,16 @@ pub run-own-answer : (sheet : List ℕ) → Bytes sheet → (work room : ℕ) (i
     → (s : Sheet) → Spells sheet s
     → (text : List ℕ) (lent : Lent) → length text ≤ most_text_bytes → long_enough text ≤ length lent.stack
     → (Short lent.scanner → ⊥) → (ManyRows lent.scanner (image_of s) → ⊥) → OwnAnswer s text (run image text lent).answer
-run-own-answer sheet bytes work room image e s spells text lent within long not_IsShort few =
-    runs_own sheet bytes work room image e s spells text lent within long not_IsShort few
+run-own-answer sheet bytes work room image e s spells text lent within long not_short few =
+    runs_own sheet bytes work room image e s spells text lent within long not_short few
     (run_runs image text lent (written_bytes sheet bytes work room image e))
 
 pub demand_3 : Demand3 cited
 demand_3 = record {
-  own_answer = λ sheet work buffer bytes h s spells text lent within long not_IsShort few.
+  own_answer = λ sheet work buffer bytes h s spells text lent within long not_short few.
       let image = (wrote sheet work buffer).part in
       let e = accepted_written sheet work buffer bytes h in
-      let own = run-own-answer sheet bytes (length work) (length buffer) image e s spells text lent within long not_IsShort few in
+      let own = run-own-answer sheet bytes (length work) (length buffer) image e s spells text lent within long not_short few in
       fixed (run image text lent).answer own (λ a o. own-answer_one s text own o);
 }
 

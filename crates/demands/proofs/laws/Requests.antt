@@ -289,8 +289,8 @@ pub spelled_out_answered : (f : Functions) → Demand3 f → (sheet work buffer 
     → (s : Sheet) → Spells sheet s → (text : List ℕ) (lent : Lent) → length text ≤ most_text_bytes → long_enough text ≤ length lent.stack
     → (Short lent.scanner → ⊥) → (ManyRows lent.scanner (image_of s) → ⊥)
     → (a : Answer) → ((f.run (f.write sheet work buffer).part text lent).answer ≡ a) ↔ OwnAnswer (spelled_out_sheet s) text a
-spelled_out_answered f demand sheet work buffer bytes h s spells text lent within long not_IsShort few a =
-    let own = demand.own_answer sheet work buffer bytes h s spells text lent within long not_IsShort few a in
+spelled_out_answered f demand sheet work buffer bytes h s spells text lent within long not_short few a =
+    let own = demand.own_answer sheet work buffer bytes h s spells text lent within long not_short few a in
     let out = spelled_out-own-answer s text a in
     ((λ e. out.0 (own.0 e)), λ o. own.1 (out.1 o))
 
@@ -470,9 +470,9 @@ module _ (f : Functions) (demand : Demand1 f) (sheet text work list : List ℕ) 
         → (lent : Lent) → long_enough text ≤ length lent.stack → (Short lent.scanner → ⊥)
         → (ManyRows lent.scanner (image_of s) → ⊥)
         → let a = (f.run (f.write sheet other buffer).part text lent).answer in (a.number ≡ 15 → ⊥) → recognition.answer ≡ a
-    whole_as_machine throughout demand_3 other buffer accepted lent long not_IsShort few =
+    whole_as_machine throughout demand_3 other buffer accepted lent long not_short few =
         unless_15 sheet text (length work) (length list) bytes fixed_by.0 s read_by (read_through.0 throughout).1 _
-        (own f demand_3 sheet other buffer bytes accepted s spells text lent (omega (arith, within)) long not_IsShort few)
+        (own f demand_3 sheet other buffer bytes accepted s spells text lent (omega (arith, within)) long not_short few)
 
     by_descent : (lexemes : List Lexeme) → Lexes by_kind s text (length text) lexemes
         → (o : Descent) → DescendsFromStart s.expression (tokens_of lexemes) o

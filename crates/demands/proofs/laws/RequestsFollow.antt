@@ -63,5 +63,5 @@ module _ (f : Functions) (demand : Demand1 f) (sheet text work list : List ℕ) 
         → (ManyRows lent.scanner (image_of s) → ⊥)
         → let a = (f.run (f.write sheet other buffer).part text lent).answer in
         (recognition.answer.number ≡ a.number) × (recognition.answer.place ≡ a.place)
-    as_machine throughout demand_3 other buffer accepted lent long not_IsShort few =
-        as_own f demand sheet text work list bytes passes s spells within list_holds throughout _ (own f demand_3 sheet other buffer bytes accepted s spells text lent (omega (arith, within)) long not_IsShort few)
+    as_machine throughout demand_3 other buffer accepted lent long not_short few =
+        as_own f demand sheet text work list bytes passes s spells within list_holds throughout _ (own f demand_3 sheet other buffer bytes accepted s spells text lent (omega (arith, within)) long not_short few)

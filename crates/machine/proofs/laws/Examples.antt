@@ -36,15 +36,15 @@ example rules e text a = record { sheet = record { tokens = 3; rules = rules; ex
 
 pub examples : List Example
 examples =
-    -- A-as-C over `ab`: the longest match is B
+    -- A·C over `ab`: the longest match is B
     example words (sequence (token 0) (token 2)) (97 ∷ 98 ∷ []) (answer 15 0 0)
     -- μβ.(ε ∨ N·β) over `aa`: ε is not taken while the row has a production for the rule
     ∷ example letters (fixed_point (alternative epsilon (sequence (token 0) (variable 0)))) (97 ∷ 97 ∷ []) (answer 0 2 2)
     -- N·⊥ ∨ S over `a`: the tail that leads nowhere is gone, so 15 comes at once
     ∷ example letters (alternative (sequence (token 0) bottom) (token 1)) (97 ∷ []) (answer 15 0 0)
-    -- (N-as-S)·N over `aba`: the right node stands at the end of the tail
+    -- (N·S)·N over `aba`: the right node stands at the end of the tail
     ∷ example letters (sequence (sequence (token 0) (token 1)) (token 0)) (97 ∷ 98 ∷ 97 ∷ []) (answer 0 3 3)
-    -- N·(S-as-N) over `ab`: pending at the end is not nullable
+    -- N·(S·N) over `ab`: pending at the end is not nullable
     ∷ example letters (sequence (token 0) (sequence (token 1) (token 0))) (97 ∷ 98 ∷ []) (answer 16 2 2)
     ∷ []
 

@@ -55,7 +55,7 @@ examples =
           ∷ nullable_row [] ∷ row (goes 1 (7 ∷ []) ∷ []) ∷ row (goes 1 [] ∷ []) ∷ row (goes 0 (9 ∷ []) ∷ []) ∷ row (goes 0 [] ∷ [])
           ∷ nullable_row (goes 1 (7 ∷ []) ∷ []) ∷ [];
     }
-    -- N·(S-as-N)*: the repetition, node 2, comes at the end of its part's tails.
+    -- N·(S·N)*: the repetition, node 2, comes at the end of its part's tails.
     ∷ record {
       expression = sequence N (repetition (sequence S N));
       expected =

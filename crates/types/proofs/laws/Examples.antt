@@ -51,7 +51,7 @@ examples =
     ∷ record { expression = sequence epsilon bottom; answer = at 9 0 }
     ∷ record { expression = sequence (alternative (sequence N bottom) epsilon) N; answer = at 9 0 }
     ∷ record { expression = alternative (sequence N (alternative (sequence N bottom) epsilon)) N; answer = at 10 0 }
-    -- repetitions that have a type: (N)*, N·(S-as-N)*, (⊥)*, (N·(S)*)*
+    -- repetitions that have a type: (N)*, N·(S·N)*, (⊥)*, (N·(S)*)*
     ∷ record { expression = repetition N; answer = none }
     ∷ record { expression = sequence N (repetition (sequence S N)); answer = none }
     ∷ record { expression = repetition bottom; answer = none }

@@ -16,7 +16,7 @@ N = token 0
 abbrev S : Expression
 S = token 1
 
--- N·(S-as-N)*: sheet D's expression, but for the sequence S·N·β, which is (S-as-N)·β here and S·(N·β) there.
+-- N·(S·N)*: sheet D's expression, but for the sequence S·N·β, which is (S·N)·β here and S·(N·β) there.
 separated : spelled_out (sequence N (repetition (sequence S N)))
     ≡ sequence N (fixed_point (alternative epsilon (sequence (sequence S N) (variable 0))))
 separated = refl

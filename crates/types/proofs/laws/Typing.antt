@@ -80,25 +80,25 @@ each_both types p (x ∷ ns) h k = (record { equation = h.0; passes = k.0 }, eac
 module _ (tokens : ℕ) (within : tokens ≤ most_tokens) (e : Expression) (closed : Closed tokens 0 e) where
   no_fault_each : type_fault e ≡ none → EachFrom (Holds sequence_type (least_types e)) 0 (nodes e)
   unfolding type_fault
-  no_fault_each None-found =
+  no_fault_each none_found =
       each_both (least_types e) 0 (nodes e) (solved_each (nodes e) (least_types e) (least_solves tokens within e closed))
-      ((no_fault_iff (least_types e) (nodes e) 0).0 None-found)
+      ((no_fault_iff (least_types e) (nodes e) 0).0 none_found)
 
   pub no_fault_typed_at : type_fault e ≡ none → TypedAt sequence_type (least_types e) e 0 []
   unfolding nodes
-  no_fault_typed_at None-found = nodes_typed sequence_type (least_types e) e 0 no_more (no_fault_each None-found)
+  no_fault_typed_at none_found = nodes_typed sequence_type (least_types e) e 0 no_more (no_fault_each none_found)
 
   -- The same, by place in the list of nodes.
   pub no_fault_holds : type_fault e ≡ none → (n : ℕ) → n < size e → Holds sequence_type (least_types e) n (node_at (nodes e) n)
   unfolding nodes
-  no_fault_holds None-found n l = each_member (Holds sequence_type (least_types e)) bottom_node (nodes e) (no_fault_each None-found) n
+  no_fault_holds none_found n l = each_member (Holds sequence_type (least_types e)) bottom_node (nodes e) (no_fault_each none_found) n
       (subst (λ k. n < k) (sym (nodes-length e 0 [])) l)
 
   pub no_fault_typed : type_fault e ≡ none → [] ⊢ e ∶ type_of (least_types e) 0
-  no_fault_typed None-found = typed_derivation sequence_type (least_types e) e 0 [] (no_fault_typed_at None-found)
+  no_fault_typed none_found = typed_derivation sequence_type (least_types e) e 0 [] (no_fault_typed_at none_found)
 
   pub typed_iff : (type_fault e ≡ none) ↔ HasType e
-  typed_iff = (λ None-found. (type_of (least_types e) 0, no_fault_typed None-found), λ d. typed_no_fault e d.1)
+  typed_iff = (λ none_found. (type_of (least_types e) 0, no_fault_typed none_found), λ d. typed_no_fault e d.1)
 
 -- For a sheet.
 pub sheet_typed_iff : (s : Sheet) → WithinLimits s → (type_fault s.expression ≡ none) ↔ HasType s.expression

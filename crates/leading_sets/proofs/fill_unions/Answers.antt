@@ -3,7 +3,7 @@ use native.Mathlib.Omega.{arith}
 use lib.ListN.{drop}
 use Rattle.leading_sets.specs.Leading.{leading_and_following, set_of_word}
 use Rattle.leading_sets.proofs.Entries.{entry_more}
-use Rattle.leading_sets.proofs.unions_of.Goals as goal
+use Rattle.leading_sets.proofs.fill_unions.Goals as goal
 
 pub singles_of-singles-requires : goal.singles_of-singles-requires
 singles_of-singles-requires c = tt
