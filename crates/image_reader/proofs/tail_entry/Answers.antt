@@ -57,35 +57,30 @@ pub returns-then-size-eq1 : goal.returns-then-size-eq1
 returns-then-size-eq1 c = λ n tail t few. entry_one _ _ _ _ tail t few c.if-size-eq1.true _ refl
 
 -- ---- two members
-two_here : (c : Lts-Else-size-eq1) → let a = c.args in get_or a.bytes.now a.place 0 ≡ 2
-two_here c =
-    let more = c.before.before in
-    omega (arith, c.if-size-eq1.false, more.if-size-gt2.false, more.if-size-eq0.false)
-
 second-here : (c : Lts-Else-size-eq1)
     → let a = c.args in
-    (get_or a.bytes.now (a.place + 2) 0 < 64) × (a.place + 2 < length a.bytes.now)
-second-here c =
+    get_or a.bytes.now a.place 0 ≡ 2 → (get_or a.bytes.now (a.place + 2) 0 < 64) × (a.place + 2 < length a.bytes.now)
+second-here c two =
     let p = c.requires in
-    second-at _ 0 _ _ p.2.1 p.2.2 p.2.3 (two_here c) (omega arith)
+    second-at _ 0 _ _ p.2.1 p.2.2 p.2.3 two (omega arith)
 
 pub overflow_add-second : goal.overflow_add-second
-overflow_add-second c = omega (arith, (second-here c.before).1)
+overflow_add-second c = omega (arith, (second-here c.before (omega (arith, c.if-size-eq1.false, c.if-size-gt2.false, c.if-size-eq0.false))).1)
 
 pub bounds-bytes-place-3 : goal.bounds-bytes-place-3
-bounds-bytes-place-3 c = (second-here c.before.before).1
+bounds-bytes-place-3 c = (second-here c.before.before (omega (arith, c.if-size-eq1.false, c.if-size-gt2.false, c.if-size-eq0.false))).1
 
 pub overflow_cast-second : goal.overflow_cast-second
-overflow_cast-second c = omega (arith, (second-here c.before.before).0)
+overflow_cast-second c = omega (arith, (second-here c.before.before (omega (arith, c.if-size-eq1.false, c.if-size-gt2.false, c.if-size-eq0.false))).0)
 
 pub overflow_mul-result : goal.overflow_mul-result
-overflow_mul-result c = omega (arith, (second-here c.before.before).0, (first_here c.before.before.before.before).0)
+overflow_mul-result c = omega (arith, (second-here c.before.before (omega (arith, c.if-size-eq1.false, c.if-size-gt2.false, c.if-size-eq0.false))).0, (first_here c.before.before.before.before).0)
 
 pub overflow_add-result-2 : goal.overflow_add-result-2
-overflow_add-result-2 c = omega (arith, (second-here c.before.before).0, (first_here c.before.before.before.before).0)
+overflow_add-result-2 c = omega (arith, (second-here c.before.before (omega (arith, c.if-size-eq1.false, c.if-size-gt2.false, c.if-size-eq0.false))).0, (first_here c.before.before.before.before).0)
 
 pub overflow_add-result-3 : goal.overflow_add-result-3
-overflow_add-result-3 c = omega (arith, (second-here c.before.before).0, (first_here c.before.before.before.before).0)
+overflow_add-result-3 c = omega (arith, (second-here c.before.before (omega (arith, c.if-size-eq1.false, c.if-size-gt2.false, c.if-size-eq0.false))).0, (first_here c.before.before.before.before).0)
 
 pub returns : goal.returns
-returns c = λ n tail t few. entry_two _ _ _ _ tail t few (two_here c.before.before) _ _ refl refl
+returns c = λ n tail t few. entry_two _ _ _ _ tail t few (omega (arith, c.if-size-eq1.false, c.if-size-gt2.false, c.if-size-eq0.false)) _ _ refl refl

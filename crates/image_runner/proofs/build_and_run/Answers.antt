@@ -17,9 +17,6 @@ use Rattle.image_runner.proofs.build_and_run.Reads as reads
 abbrev Lts-After-build-few : Type 0
 Lts-After-build-few = lts.After-build tie.the-claims reads.Pre reads.Post
 
-abbrev Lts-Else-not-few : Type 0
-Lts-Else-not-few = lts.Else1 tie.the-claims reads.Pre reads.Post
-
 -- The start, from where the table is built.
 abbrev start_of : Lts-After-build-few → Start
 start_of c = c.before.before.before.before.before.before.before.before
@@ -35,21 +32,19 @@ built-here : (c : Lts-After-build-few) (i : Image) → Held c i → InRange i
 built-here c i d range = c.build-few.ensures _ _ i d range
 
 -- What the run relies on.
-with-here : (c : Lts-Else-not-few) (i : Image)
-    → let made = c.before.before.before.before.before in
-    let a = (start_of made).args in
-    Held made i → InRange i
+with-here : (made : Lts-After-build-few) (i : Image)
+    → let a = (start_of made).args in
+    made.build-few.result ≡ true → Held made i → InRange i
     → WithTables a.image.now (tables_of a.read a.tables.now a.productions.now) a.by_rows
     made.build-few.new.table made.build-few.new.winners i
-with-here c i d range =
-    let made = c.before.before.before.before.before in
+with-here made i few d range =
     let start = start_of made in
     let a = start.args in
     record {
       decoded = d;
       in_range = range;
       built = table_holds i a.text.now a.stack.now a.table.now a.winners.now _ _ a.by_rows made.build-few.result
-          (built-here made i d range) (ap not c.if-not-few.false) start.requires.0 made.build-few.auto.table made.build-few.auto.winners;
+          (built-here made i d range) (ap not few) start.requires.0 made.build-few.auto.table made.build-few.auto.winners;
     }
 
 pub build-few-requires : goal.build-few-requires
@@ -68,24 +63,22 @@ returns-then-not-few c =
     )
 
 -- The same, once the flag is known.
-with_flag : (c : Lts-Else-not-few) (b : Bool) (i : Image)
-    → let made = c.before.before.before.before.before in
-    let a = (start_of made).args in
-    a.by_rows ≡ b → Held made i → InRange i
+with_flag : (made : Lts-After-build-few) (b : Bool) (i : Image)
+    → let a = (start_of made).args in
+    made.build-few.result ≡ true → a.by_rows ≡ b → Held made i → InRange i
     → WithTables a.image.now (tables_of a.read a.tables.now a.productions.now) b
     made.build-few.new.table made.build-few.new.winners i
-with_flag c b i e d range =
-    let made = c.before.before.before.before.before in
+with_flag made b i few e d range =
     let a = (start_of made).args in
     subst (λ (x : Bool). WithTables a.image.now (tables_of a.read a.tables.now a.productions.now) x
-    made.build-few.new.table made.build-few.new.winners i) e (with-here c i d range)
+    made.build-few.new.table made.build-few.new.winners i) e (with-here made i few d range)
 
 pub run_image-requires : goal.run_image-requires
 run_image-requires c =
     let then = c.before.before in
     let passed = then.before in
     let w = (start_of passed.before.before.before.before.before).requires in
-    (w.1, (w.2.0, with_flag passed true w.2.0 then.if-by_rows.true w.2.1 w.2.2))
+    (w.1, (w.2.0, with_flag passed.before.before.before.before.before true w.2.0 passed.if-not-few.false then.if-by_rows.true w.2.1 w.2.2))
 
 pub returns-then-by_rows : goal.returns-then-by_rows
 returns-then-by_rows c =
@@ -97,7 +90,7 @@ returns-then-by_rows c =
     λ i d range.
     let x = built-here made i d range in (
       run_few_rows i a.text.now a.stack.now a.table.now a.winners.now _ _ a.by_rows made.build-few.result x
-          (ap not passed.if-not-few.false) ran.run_image.result _ (ran.run_image.ensures.1 i (with_flag passed true i then.if-by_rows.true d range))
+          (ap not passed.if-not-few.false) ran.run_image.result _ (ran.run_image.ensures.1 i (with_flag made true i passed.if-not-few.false then.if-by_rows.true d range))
           ran.run_image.ensures.0,
       x.untouched,
     )
@@ -107,7 +100,7 @@ run_image-requires-2 c =
     let else = c.before.before in
     let passed = else.before in
     let w = (start_of passed.before.before.before.before.before).requires in
-    (w.1, (w.2.0, with_flag passed false w.2.0 else.if-by_rows.false w.2.1 w.2.2))
+    (w.1, (w.2.0, with_flag passed.before.before.before.before.before false w.2.0 passed.if-not-few.false else.if-by_rows.false w.2.1 w.2.2))
 
 pub returns : goal.returns
 returns c =
@@ -119,7 +112,7 @@ returns c =
     λ i d range.
     let x = built-here made i d range in (
       run_few_rows i a.text.now a.stack.now a.table.now a.winners.now _ _ a.by_rows made.build-few.result x
-          (ap not passed.if-not-few.false) ran.run_image-2.result _ (ran.run_image-2.ensures.1 i (with_flag passed false i else.if-by_rows.false d range))
+          (ap not passed.if-not-few.false) ran.run_image-2.result _ (ran.run_image-2.ensures.1 i (with_flag made false i passed.if-not-few.false else.if-by_rows.false d range))
           ran.run_image-2.ensures.0,
       x.untouched,
     )
