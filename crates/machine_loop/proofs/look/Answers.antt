@@ -11,6 +11,7 @@ use Rattle.alive_scanner.specs.Ahead.{Ahead}
 use Rattle.machine_loop.specs.Turning.{SeenBy, SeenAt}
 use Rattle.machine_loop.proofs.Looking.{seen_walk, seen_word}
 use Rattle.machine_loop.proofs.look.Goals as goal
+use Rattle.machine_loop.proofs.look.Goals.{then-not-by_rows+else-turn-matches, else-not-by_rows}
 
 pub returns-then-turn-matches : goal.returns-then-turn-matches
 returns-then-turn-matches c =
@@ -34,7 +35,10 @@ returns c =
     let a = c.args in
     λ image productions i w to ahead.
     let d = drop_of_length-le a.matches.now {i = a.turn}
-    (grind arith) in
+    (elim c.if-not-by_rows.branch [
+      | then-not-by_rows+else-turn-matches w ↦ w.if-turn-matches.false
+      | else-not-by_rows w ↦ c.requires.1 w.if-not-by_rows.false
+    ]) in
     let e = c.walk-end.ensures image productions i w ∙ ap (told i.positions i.first) (rest_from a.text.now a.place) in
     subst (λ (l : List ℕ). SeenAt i a.text.now a.place l c.walk_seen.result) (sym d)
     (seen_walk i a.text.now a.place c.walk_seen.result (subst (SeenBy c.walk_seen.result) e c.walk_seen.ensures))

@@ -19,7 +19,7 @@ check_rules-requires c =
 
 pub returns-in-Done : goal.returns-in-Done
 returns-in-Done c =
-    let r = c.read_sheet-read in
-    let s = sheet_read _ c.if-sheet-gt-MOST_SHEET_BYTES.false r.result r.ensures (λ i. (c.type_inv.sheet i).fits) c.in-Done.is in
+    let read = c.read_sheet-read in
+    let s = sheet_read _ c.if-sheet-gt-MOST_SHEET_BYTES.false read.result read.ensures (λ i. (c.type_inv.sheet i).fits) c.in-Done.is in
     ends_read c.args.sheet.now s.what s.end c.check_rules.result c.if-sheet-gt-MOST_SHEET_BYTES.false s.read
     (c.check_rules.ensures s.what s.held)
