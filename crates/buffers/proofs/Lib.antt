@@ -1,3 +1,3 @@
--- The laws that the proof of the loop cites.
+-- The lemma that the proof of the fill cites.
 pub mod Filling
 pub mod laws

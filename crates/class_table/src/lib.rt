@@ -41,10 +41,8 @@ pub fn sweep(tables: &mut [u64; 448])
     ensures { SweptOver tables.old tables.new }
 {
     let mut set: u64 = 0;
-    let mut byte: usize = 0;
-    while byte < 256 {
+    for byte in 0..256 {
         set ^= tables[byte];
         tables[byte] = set;
-        byte += 1;
     }
 }

@@ -60,14 +60,13 @@ pub struct PositionColumns {
 }
 
 // How many of the regexes after a regex node are its parts.
+#[tactic(auto, using(std::proofs::lemmas::Bool::Decides::nat_tests), unfolding(crate::specs::Tags::parts_of))]
 pub fn parts_of(tag: u8) -> usize
     ensures { result ≡ parts_of tag }
 {
-    if tag < 2 {
-        return 0;
+    match tag {
+        0 | 1 => 0,
+        2 | 3 => 2,
+        _ => 1,
     }
-    if tag < 4 {
-        return 2;
-    }
-    1
 }

@@ -9,6 +9,7 @@
 // `falling` is tokens left times 256 plus rank. Each call lowers it, or passes it on: `visit` to `enter` and `leave`, `enter` to the
 // node kinds. The tests of `falling` for 0, and for fewer than one token, are for a table that is no expression's: by one that is, they
 // never hold. An answer is tokens left times 2, and 1 more if the descent is stuck there.
+// An answer is one number: where it was a Result or a struct, the compiler left last calls as calls, and each took of the stack.
 #![tactic(auto)]
 
 ghost use Rattle.std.specs.Prelude.{◌≡◌, ◌+◌, ◌/◌, ◌≤◌, ◌<◌, length};
@@ -20,6 +21,7 @@ ghost use Rattle.descent.specs.Steps.{begins_with, stuck_at, Below, EnterGives, 
 const RANKS: usize = 256;
 
 // Whether the next token begins a word of the node.
+#[tactic(auto, unfolding(crate::specs::Steps::begins_with))]
 fn begins(table: &[u64; 320], tokens: &[u8; 2048], node: usize, falling: usize) -> bool
     requires { (node < 64) × (falling < 524544) }
     ensures { result ≡ begins_with table.now tokens.now node (falling / 256) }

@@ -1,16 +1,15 @@
 -- The column of the nearest nodes above as the code fills it: an entry is stored for every part of a node, and what is stored is what the
 -- expression's own column has, so that no later store spoils an earlier one.
 use mathlib.Core.Path.{◌≡◌, refl, sym, subst, ◌∙◌}
-use mathlib.Core.Bool.{Bool, true, false, cond}
+use mathlib.Core.Bool.{Bool, true, false}
 use mathlib.Core.List.{List}
 use mathlib.Core.Logic.{◌⊎◌, inl, inr, ⊎_elim}
 use Prim.Native.Nat.{ℕ, suc, ◌+◌, ◌≤◌, ◌<◌}
 use native.Mathlib.Omega.{arith}
-use native.Mathlib.Numerals.{add-one}
 use lib.Dec.{eqb}
 use lib.ListN.{get_or, length, set, replicate, length-set, length-replicate}
 use lib.Seq.{get_or-set_same, get_or-set_other}
-use borrow.Author.Tests.{eqb-true, eqb-false, ne_eqb}
+use borrow.Author.Tests.{eqb-true, eqb-false}
 use Rattle.basics.specs.Bits.{bit}
 use Rattle.basics.proofs.laws.Order.{lt-or-le}
 use Rattle.sheet.specs.Expression.{Expression, size}
@@ -26,61 +25,6 @@ use Rattle.normal_form.proofs.laws.Places.{nodes-count}
 use Rattle.descent_table.specs.TableOf.{PartsUp}
 use Rattle.descent_table.specs.Filling.{with_parts, UpColumn}
 use Rattle.descent_table.proofs.laws.Above.{PartOf, Reached, up_of, above_at, none_above_first, parts_same}
-
--- ---- the parts of one node, by its tag
-
-module _ (tag link n : ℕ) where
-  abbrev Fits : Type 0
-  Fits = (guarded : Bool) × NodeInRange most_tokens 64 (node_of tag link guarded n)
-
-  pub sequence_fits : tag ≡ 3 → Fits → (n + 1 < 64) × (link < 64)
-  unfolding node_of
-  sequence_fits e w = let x : (suc n < 64) × (link < 64) = rw e at w.1 in (omega arith, x.1)
-
-  pub alternative_fits : tag ≡ 4 → Fits → (n + 1 < 64) × (link < 64)
-  unfolding node_of
-  alternative_fits e w = let x : (suc n < 64) × (link < 64) = rw e at w.1 in (omega arith, x.1)
-
-  pub fixed_point_fits : tag ≡ 5 → Fits → n + 1 < 64
-  unfolding node_of
-  fixed_point_fits e w = let x : suc n < 64 = rw e at w.1 in omega arith
-
-  pub repetition_fits : tag ≡ 7 → Fits → n + 1 < 64
-  unfolding node_of
-  repetition_fits e w = let x : (suc n < 64) × (link < 64) = rw e at w.1 in omega arith
-
-module _ (tag link n : ℕ) (up : List ℕ) where
-  abbrev after : Bool → List ℕ
-  after guarded = with_parts (node_of tag link guarded n) n up
-
-  pub sequence_set : tag ≡ 3 → (guarded : Bool) → set (set up (n + 1) (n + 1)) link (get_or up n 0) ≡ after guarded
-  unfolding node_of with_parts
-  sequence_set e guarded = rw (e, add-one n)
-
-  pub alternative_set : tag ≡ 4 → (guarded : Bool) → set (set up (n + 1) (get_or up n 0)) link (get_or up n 0) ≡ after guarded
-  unfolding node_of with_parts
-  alternative_set e guarded = rw (e, add-one n)
-
-  pub fixed_point_set : tag ≡ 5 → (guarded : Bool) → set up (n + 1) (get_or up n 0) ≡ after guarded
-  unfolding node_of with_parts
-  fixed_point_set e guarded = rw (e, add-one n)
-
-  pub repetition_set : tag ≡ 7 → (guarded : Bool) → set up (n + 1) (n + 1) ≡ after guarded
-  unfolding node_of with_parts
-  repetition_set e guarded = rw (e, add-one n)
-
-  pub others-set : (tag ≡ 3 → ⊥) → (tag ≡ 4 → ⊥) → (tag ≡ 5 → ⊥) → (tag ≡ 7 → ⊥) → (guarded : Bool) → up ≡ after guarded
-  unfolding node_of with_parts
-  others-set a b c d guarded = rw (ne_eqb tag 3 a, ne_eqb tag 4 b, ne_eqb tag 5 c, ne_eqb tag 7 d)
-      (go (eqb tag 0) (eqb tag 1) (eqb tag 2) (eqb tag 6))
-    where
-      go : (x y z w : Bool) → up ≡ with_parts (cond x epsilon_node (cond y bottom_node (cond z (token_node link)
-          (cond w (variable_node link guarded) bottom_node)))) n up
-      go true y z w = refl
-      go false true z w = refl
-      go false false true w = refl
-      go false false false true = refl
-      go false false false false = refl
 
 -- ---- what is stored
 

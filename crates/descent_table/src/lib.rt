@@ -2,8 +2,7 @@
 // How a descent goes by it is not asked here.
 #![tactic(auto)]
 
-ghost use Rattle.std.specs.Prelude.{◌≡◌, Bool, cond, ◌<◌};
-ghost use Rattle.basics.specs.Bits.{bit};
+ghost use Rattle.std.specs.Prelude.{◌≡◌, Bool, ◌<◌};
 ghost use Rattle.sheet.specs.Expression.{Expression};
 ghost use Rattle.sheet.specs.Limits.{most_tokens};
 ghost use Rattle.types.specs.Nodes.{nodes};
@@ -18,66 +17,51 @@ use columns::{NodeLinks, TypeColumns};
 
 // Node n's entry goes on to its parts: into a left part or a repeated part the node itself is the nearest above, into any other part
 // what is nearest to the node. Other nodes have no parts.
+#[tactic(auto, unfolding(crate::specs::Filling::with_parts, columns::specs::HeldNodes::node_of))]
 fn set_parts(up: &mut [u32; 64], tag: u8, link: u8, n: usize)
     requires { (n < 64) × ((guarded : Bool) × NodeInRange most_tokens 64 (node_of tag link guarded n)) }
     ensures { (guarded : Bool) → up.new ≡ with_parts (node_of tag link guarded n) n up.old }
 {
     let above = up[n];
     let own = n as u32 + 1;
-    if tag == 3 {
-        up[n + 1] = own;
-        up[link as usize] = above; // Behind the right part the sequence ends too.
-        return;
-    }
-    if tag == 4 {
-        up[n + 1] = above;
-        up[link as usize] = above;
-        return;
-    }
-    if tag == 5 {
-        up[n + 1] = above;
-        return;
-    }
-    if tag == 7 {
-        up[n + 1] = own;
+    match tag {
+        3 => {
+            up[n + 1] = own;
+            up[usize::from(link)] = above; // Behind the right part the sequence ends too.
+        }
+        4 => {
+            up[n + 1] = above;
+            up[usize::from(link)] = above;
+        }
+        5 => up[n + 1] = above,
+        7 => up[n + 1] = own,
+        _ => {}
     }
 }
 
 // The column of the nearest nodes above. A node's parts stand behind it, so a node's entry is set before it is reached.
-fn nearest_above(links: NodeLinks) -> [u32; 64]
-    requires { LinksFit links }
-    ensures { (e : Expression) → held_nodes links ≡ nodes e → UpColumn e result }
+fn nearest_above(links: &NodeLinks) -> [u32; 64]
+    requires { LinksFit links.now }
+    ensures { (e : Expression) → held_nodes links.now ≡ nodes e → UpColumn e result }
 {
-    let mut up = [0u32; 64];
-    let mut n: usize = 0;
-    while n < links.count {
+    let mut up = [0; 64];
+    for n in 0..links.count {
         set_parts(&mut up, links.tag[n], links.link[n], n);
-        n += 1;
     }
     up
 }
 
-// 1 if n is in the set, else 0.
-fn flag_of(set: u64, n: usize) -> u32
-    requires { n < 64 }
-    ensures { result ≡ cond (bit set n) 1 0 }
-{
-    if sets::has(set, n) {
-        return 1;
-    }
-    0
-}
-
 // A node's five entries.
+#[tactic(auto, unfolding(crate::specs::Filling::with_row))]
 fn put_row(table: &mut [u64; 320], n: usize, tag: u8, link: u8, up: u32, null: u32, first: u32)
     requires { n < 64 }
     ensures { table.new ≡ with_row table.old n tag link up null first }
 {
-    table[n] = tag as u64;
-    table[64 + n] = link as u64;
-    table[128 + n] = up as u64;
-    table[192 + n] = null as u64;
-    table[256 + n] = first as u64;
+    table[n] = u64::from(tag);
+    table[64 + n] = u64::from(link);
+    table[128 + n] = u64::from(up);
+    table[192 + n] = u64::from(null);
+    table[256 + n] = u64::from(first);
 }
 
 // The table of an expression, out of the columns that checking made. FIRST is exact: a branch that denotes nothing begins with no token.
@@ -85,21 +69,19 @@ pub fn descent_table(links: NodeLinks, types: TypeColumns) -> [u64; 320]
     requires { (e : Expression) × HoldsTyped links types e }
     ensures { (e : Expression) → HoldsTyped links types e → TableOf e result }
 {
-    let up = nearest_above(links);
-    let mut table = [0u64; 320];
-    let mut n: usize = 0;
-    while n < links.count {
-        let null = flag_of(types.null, n);
+    let up = nearest_above(&links);
+    let mut table = [0; 320];
+    for n in 0..links.count {
+        let null = sets::has(types.null, n);
         put_row(
             &mut table,
             n,
             links.tag[n],
             links.link[n],
             up[n],
-            null,
+            u32::from(null),
             types.first[n],
         );
-        n += 1;
     }
     table
 }

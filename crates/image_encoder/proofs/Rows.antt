@@ -1,12 +1,13 @@
 -- A node's row: how many productions it has, its productions rule by rule, and its numbers.
 use mathlib.Core.Path.{◌≡◌, refl, sym, ap, ◌∙◌}
-use mathlib.Core.Bool.{Bool, true, false, cond}
+use mathlib.Core.Bool.{Bool}
 use mathlib.Core.List.{List, [], ◌∷◌, ◌++◌, map}
-use mathlib.Core.Option.{Option, none, some}
+use mathlib.Core.Option as maybe
+use Rattle.std.specs.Prelude.{Option, Some, None}
 use Prim.Native.Nat.{ℕ, suc, ◌+◌, ◌≤◌, ◌<◌}
 use native.Mathlib.Numerals.{add-one}
 use native.Mathlib.Omega.{arith}
-use lib.ListN.{get_or, length, take, length-append, length-map}
+use lib.ListN.{get_or, length, length-append, length-map}
 use Rattle.basics.specs.Bits.{bit}
 use Rattle.number.specs.Number.{encode}
 use Rattle.sheet.specs.Expression.{Expression, size}
@@ -44,28 +45,26 @@ pub counted-none : (rules : List Rule) (e : Expression) (node : ℕ) → 0 ≡ l
 unfolding concat_below
 counted-none rules e node = refl
 
-pub counted-more : (rules : List Rule) (e : Expression) (node r count : ℕ) (t : Tail) → tail_held t ≡ rule_tail rules (productions_of e node) r
-    → count ≡ length (concat_below (entries rules e node) r)
-    → cond t.found (count + 1) count ≡ length (concat_below (entries rules e node) (r + 1))
-counted-more rules e node r count t found so_far =
-    let one = one_entry ∙ ap (λ (o : Option (List ℕ)). length (rule_part (λ p. 0 ∷ []) r o)) found in
-    more t.found (length (entries rules e node r)) one ∙ ap (λ (k : ℕ). k + length (entries rules e node r)) so_far
-    ∙ sym (length-append (concat_below (entries rules e node) r) (entries rules e node r)) ∙ last
-    ∙ ap (λ (k : ℕ). length (concat_below (entries rules e node) k)) (sym (add-one r))
-  where
-    last : length (concat_below (entries rules e node) r ++ entries rules e node r) ≡ length (concat_below (entries rules e node) (suc r))
-    last = unfold concat_below in refl
+-- Where a rule has no production, nothing changes; where it has one, it is one more.
+module _ (rules : List Rule) (e : Expression) (node r count : ℕ) (so_far : count ≡ length (concat_below (entries rules e node) r)) where
+  rule_counted : length (concat_below (entries rules e node) (r + 1)) ≡ count + length (entries rules e node r)
+  rule_counted = unfold concat_below in
+      rw add-one (length-append (concat_below (entries rules e node) r) (entries rules e node r)
+      ∙ ap (λ (k : ℕ). k + length (entries rules e node r)) (sym so_far))
 
-    one_entry : cond t.found 1 0 ≡ length (rule_part (λ p. 0 ∷ []) r (tail_held t))
-    one_entry = unfold tail_held rule_part in cases t.found
-      where
-        cases : (b : Bool) → cond b 1 0 ≡ length {A = ℕ} (rule_part (λ p. 0 ∷ []) r (cond b (some (take t.count t.members)) none))
-        cases true = unfold rule_part in refl
-        cases false = unfold rule_part in refl
+  entry_counted : (t : Option Tail) → tail_held t ≡ rule_tail rules (productions_of e node) r
+      → length (rule_part (λ p. 0 ∷ []) r (tail_held t)) ≡ length (entries rules e node r)
+  entry_counted t found = ap (λ (o : maybe.Option (List ℕ)). length (rule_part (λ p. 0 ∷ []) r o)) found
 
-    more : (b : Bool) (n : ℕ) → cond b 1 0 ≡ n → cond b (count + 1) count ≡ count + n
-    more true n e = ap (λ (k : ℕ). count + k) e
-    more false n e = (let z : count ≡ count + 0 = omega arith in z) ∙ ap (λ (k : ℕ). count + k) e
+  pub counted_same : tail_held None ≡ rule_tail rules (productions_of e node) r
+      → count ≡ length (concat_below (entries rules e node) (r + 1))
+  unfolding rule_part
+  counted_same found = omega (arith, rule_counted, entry_counted None found)
+
+  pub counted-more : (t : Tail) → tail_held (Some t) ≡ rule_tail rules (productions_of e node) r
+      → count + 1 ≡ length (concat_below (entries rules e node) (r + 1))
+  unfolding rule_part
+  counted-more t found = omega (arith, rule_counted, entry_counted (Some t) found)
 
 entries-length : (ps : List Production) → length (all_numbers (λ p. 0 ∷ []) ps) ≡ length ps
 entries-length [] = refl
@@ -84,7 +83,7 @@ counted-all g rules e h node r count a b so_far =
 abbrev pub rule_numbers : List ℕ → List Rule → Expression → ℕ → ℕ → List ℕ
 rule_numbers all rules e node r = rule_part (λ p. production_numbers (renumbered all p)) r (rule_tail rules (productions_of e node) r)
 
-pub production-more : {a b c : List ℕ} {at n m : ℕ} (all : List ℕ) (rules : List Rule) (e : Expression) (node r : ℕ) (t : Tail)
+pub production-more : {a b c : List ℕ} {at n m : ℕ} (all : List ℕ) (rules : List Rule) (e : Expression) (node r : ℕ) (t : Option Tail)
     → tail_held t ≡ rule_tail rules (productions_of e node) r → Emitted a b at n (concat_below (rule_numbers all rules e node) r)
     → Emitted b c n m (production_part all r t) → Emitted a c at m (concat_below (rule_numbers all rules e node) (r + 1))
 production-more all rules e node r t found so_far one =

@@ -1,18 +1,17 @@
 -- What one write leaves, what a loop of writes leaves, and the parts of an image that these make.
 use mathlib.Core.Path.{◌≡◌, sym, ap, subst, ◌∙◌}
-use mathlib.Core.Bool.{Bool, true, false}
+use mathlib.Core.Bool.{Bool}
 use mathlib.Core.List.{List, [], ◌∷◌, map}
-use Prim.Native.Nat.{ℕ, ◌+◌, ◌≤◌, ◌<◌}
+use Prim.Native.Nat.{ℕ, ◌+◌, ◌≤◌}
 use native.Mathlib.Numerals.{add-one}
 use native.Mathlib.Omega.{arith}
 use lib.Dec.{eqb}
 use lib.ListN.{get_or, length, take, length-map}
-use lib.Seq.{length-take-le, get_or-take}
+use Rattle.std.specs.Prelude.{Some, None}
 use Rattle.basics.specs.Bits.{bit}
 use Rattle.basics.specs.Meeting.{number_of}
 use Rattle.number.specs.Number.{encode, used_at}
 use Rattle.number.proofs.laws.Splice.{used_at-some, used_at_fits}
-use Rattle.production_finder.specs.Columns.{tail_held}
 use Rattle.production_finder.specs.declared.Tail.{Tail}
 use Rattle.columns.specs.HeldPositions.{held_position}
 use Rattle.columns.specs.declared.PositionColumns.{PositionColumns}
@@ -30,8 +29,8 @@ use Rattle.image_encoder.specs.Parts.{skip_number, rules_part, position_part, po
 
 -- ---- one number
 
-pub used-width : (a : List ℕ) (i n u : ℕ) → u ≡ used_at a i n → 0 < u → u ≡ length (encode n)
-used-width a i n u e l = e ∙ used_at_fits a i n (used_at-some a i n (subst (λ (k : ℕ). 0 < k) e l))
+pub used-width : (a : List ℕ) (i n u : ℕ) → used_at a i n ≡ Some u → u ≡ length (encode n)
+used-width a i n u e = let same : Some u ≡ Some (length (encode n)) = sym e ∙ used_at_fits a i n (used_at-some a i n e) in cc
 
 pub same_number : {a b : List ℕ} {i j m n : ℕ} → m ≡ n → Emitted a b i j (m ∷ []) → Emitted a b i j (n ∷ [])
 same_number e x = emitted_same (ap (λ (k : ℕ). k ∷ []) e) x
@@ -81,37 +80,29 @@ positions_emitted p x y z = emitted_append x (emitted_append y z)
 
 -- ---- a production
 
-pub no_production : (d : List ℕ) (at r : ℕ) (all : List ℕ) (t : Tail) → t.found ≡ false → Emitted d d at at (production_part all r t)
-unfolding production_part tail_held rule_part
-no_production d at r all t e = rw e (emitted_none d at)
+pub no_production : (d : List ℕ) (at r : ℕ) (all : List ℕ) → Emitted d d at at (production_part all r None)
+unfolding production_part rule_part
+no_production d at r all = emitted_none d at
 
 -- The numbers of the members of a tail.
-abbrev pub member_numbers : List ℕ → Tail → ℕ → List ℕ
-member_numbers all t i = number_of all (get_or t.members i 0) ∷ []
+abbrev pub member_numbers : List ℕ → List ℕ → ℕ → List ℕ
+member_numbers all tail i = number_of all (get_or tail i 0) ∷ []
 
-members_are : (all : List ℕ) (t : Tail) → t.count ≤ length t.members
-    → concat_below (member_numbers all t) t.count ≡ map (number_of all) (take t.count t.members)
-members_are all t room =
-    let tail = take t.count t.members in
-    let size : length tail ≡ t.count = length-take-le t.count t.members room in
+members_are : (all tail : List ℕ) → concat_below (member_numbers all tail) (length tail) ≡ map (number_of all) tail
+members_are all tail =
     let numbers = map (number_of all) tail in
-    let size_mapped : length numbers ≡ length tail = length-map tail (number_of all) in
-    let same : length numbers ≡ t.count = size_mapped ∙ size in
-    ap (concat_below (member_numbers all t)) (sym same)
-    ∙ concat_below_list (member_numbers all t) just numbers 0
-    (λ k l. ap (λ (n : ℕ). n ∷ [])
-    (ap (number_of all) (sym (get_or-take t.count t.members k 0 (omega arith)))
-    ∙ sym (get_or-map-inside (number_of all) tail k 0 0 (omega arith))))
+    let same : length numbers ≡ length tail = length-map tail (number_of all) in
+    ap (concat_below (member_numbers all tail)) (sym same)
+    ∙ concat_below_list (member_numbers all tail) just numbers 0
+    (λ k l. ap (λ (n : ℕ). n ∷ []) (sym (get_or-map-inside (number_of all) tail k 0 0 (omega arith))))
     ∙ tail_is numbers
 
-pub production_emitted : {a b c d : List ℕ} {at v n m : ℕ} (r : ℕ) (all : List ℕ) (t : Tail) → t.found ≡ true
-    → t.count ≤ length t.members
-    → Emitted a b at v (r ∷ []) → Emitted b c v n (t.count ∷ []) → Emitted c d n m (concat_below (member_numbers all t) t.count)
-    → Emitted a d at m (production_part all r t)
-unfolding production_part tail_held rule_part renumbered
-production_emitted {a} {b} {c} {d} {at} {v} {n} {m} r all t e room x y z =
+pub production_emitted : {a b c d : List ℕ} {at v n m : ℕ} (r : ℕ) (all : List ℕ) (t : Tail)
+    → Emitted a b at v (r ∷ []) → Emitted b c v n (length (take t.count t.members) ∷ [])
+    → Emitted c d n m (concat_below (member_numbers all (take t.count t.members)) (length (take t.count t.members)))
+    → Emitted a d at m (production_part all r (Some t))
+unfolding production_part rule_part renumbered
+production_emitted {a} {b} {c} {d} {at} {v} {n} {m} r all t x y z =
     let tail = take t.count t.members in
-    let numbers = map (number_of all) tail in
-    let count : t.count ≡ length numbers = sym (length-map tail (number_of all) ∙ length-take-le t.count t.members room) in
-    rw e
-    (emitted_append x (emitted_append (subst (λ (k : ℕ). Emitted b c v n (k ∷ [])) count y) (emitted_same (members_are all t room) z)))
+    emitted_append x (emitted_append (subst (λ (k : ℕ). Emitted b c v n (k ∷ [])) (sym (length-map tail (number_of all))) y)
+    (emitted_same (members_are all tail) z))

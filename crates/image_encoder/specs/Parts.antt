@@ -1,5 +1,5 @@
 -- The numbers of an image, part by part, as the columns give them; and when columns are those of a sheet.
-use Rattle.std.specs.Prelude.{◌≡◌, List, [], ◌∷◌, ◌++◌, map, ℕ, eqb, get_or, length}
+use Rattle.std.specs.Prelude.{◌≡◌, List, [], ◌∷◌, ◌++◌, map, ℕ, eqb, get_or, length, Option}
 use Rattle.sheet.specs.Expression.{Expression}
 use Rattle.sheet.specs.Sheet.{Rule, Sheet}
 use Rattle.normal_form.specs.Productions.{Row, row_of}
@@ -39,7 +39,7 @@ unfoldable pub mapped_row : List ℕ → Row → Row
 mapped_row all row = record { has_epsilon = row.has_epsilon; productions = map (renumbered all) row.productions }
 
 -- A rule's production, if it has one.
-unfoldable pub production_part : List ℕ → ℕ → Tail → List ℕ
+unfoldable pub production_part : List ℕ → ℕ → Option Tail → List ℕ
 production_part all r tail = rule_part (λ p. production_numbers (renumbered all p)) r (tail_held tail)
 
 -- All productions of a node's row.

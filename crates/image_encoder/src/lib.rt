@@ -3,17 +3,16 @@
 // the first byte is written.
 #![tactic(auto)]
 
-ghost use Rattle.std.specs.Prelude.{◌≡◌, true, List, [], ◌∷◌, ◌++◌, ℕ, ◌+◌, ◌≤◌, ◌<◌, length, drop};
+ghost use Rattle.std.specs.Prelude.{◌≡◌, List, [], ◌∷◌, ◌++◌, ℕ, ◌+◌, ◌≤◌, ◌<◌, length, take, drop, Some};
 ghost use Rattle.basics.specs.Lists.{All};
 ghost use Rattle.basics.specs.Meeting.{meet_all};
 ghost use Rattle.sheet.specs.Expression.{Expression, size};
 ghost use Rattle.sheet.specs.Sheet.{Rule, Sheet};
 ghost use Rattle.normal_form.specs.Productions.{row_of};
 ghost use Rattle.normal_form.specs.NormalForm.{normal_form};
-ghost use Rattle.production_finder.specs.Columns.{tail_held};
 ghost use Rattle.image.specs.Fusion.{fused_from};
 ghost use Rattle.image.specs.Image.{flag, plain_image, image_numbers, image_bytes};
-ghost use Rattle.node_numbering.specs.Grammar.{GrammarOf, Numbers, numbering_of, members_of};
+ghost use Rattle.node_numbering.specs.Grammar.{GrammarOf, Numbers, Within};
 ghost use Rattle.node_numbering.specs.Leads.{Leads};
 ghost use Rattle.image_encoder.specs.laws.Emitted.{Emitted};
 ghost use Rattle.image_encoder.specs.Parts.{rules_part, positions_part, production_part, productions_part};
@@ -27,38 +26,36 @@ use production_finder::Tail;
 // The bounds on cursors, here and below, leave room for all numbers of an image, of ten bytes at most each.
 fn emit(image: &mut [u8], at: usize, n: u64) -> usize
     requires { at ≤ 9000000 }
-    ensures { (result ≤ at + 10) × Emitted image.old image.new at result (n ∷ []) }
+    ensures near { result ≤ at + 10 }
+    ensures emitted { Emitted image.old image.new at result (n ∷ []) }
 {
-    let used = number::write_number_at(image, at, n);
-    if 0 < used {
-        return at + used;
+    match number::write_number_at(image, at, n) {
+        Some(used) => at + used,
+        None => at + number::number_width(n),
     }
-    at + number::number_width(n)
 }
 
 // A flag, as 1 or 0.
+#[tactic(auto, unfolding(image::specs::Image::flag))]
 fn emit_flag(image: &mut [u8], at: usize, is_set: bool) -> usize
     requires { at ≤ 9000000 }
-    ensures { (result ≤ at + 10) × Emitted image.old image.new at result (flag is_set ∷ []) }
+    ensures near { result ≤ at + 10 }
+    ensures emitted { Emitted image.old image.new at result (flag is_set ∷ []) }
 {
-    if is_set {
-        return emit(image, at, 1);
-    }
-    emit(image, at, 0)
+    emit(image, at, u64::from(is_set))
 }
 
 // The version, the number of rules, and which rules skip.
-fn emit_rules(image: &mut [u8], at: usize, grammar: Grammar) -> usize
-    requires { (at ≤ 8000000) × (grammar.rules ≤ 32) }
-    ensures { (result ≤ at + 340) × Emitted image.old image.new at result (rules_part grammar) }
+fn emit_rules(image: &mut [u8], at: usize, grammar: &Grammar) -> usize
+    requires near { at ≤ 8000000 }
+    requires few { grammar.now.rules ≤ 32 }
+    ensures near { result ≤ at + 340 }
+    ensures emitted { Emitted image.old image.new at result (rules_part grammar.now) }
 {
-    let rules = grammar.rules;
     let version = emit(image, at, 1);
-    let mut next = emit(image, version, rules as u64);
-    let mut i: usize = 0;
-    while i < rules {
+    let mut next = emit(image, version, grammar.rules as u64);
+    for i in 0..grammar.rules {
         next = emit_flag(image, next, grammar.action[i] == 0);
-        i += 1;
     }
     next
 }
@@ -74,8 +71,8 @@ fn emit_position(
     follow: u64,
 ) -> usize
     requires { at ≤ 8000000 }
-    ensures { (result ≤ at + 50)
-        × Emitted image.old image.new at result (low ∷ high ∷ rule ∷ flag is_last ∷ follow ∷ []) }
+    ensures near { result ≤ at + 50 }
+    ensures emitted { Emitted image.old image.new at result (low ∷ high ∷ rule ∷ flag is_last ∷ follow ∷ []) }
 {
     let after_low = emit(image, at, low as u64);
     let after_high = emit(image, after_low, high as u64);
@@ -85,14 +82,14 @@ fn emit_position(
 }
 
 // The number of positions, each position, and the first set.
-fn emit_positions(image: &mut [u8], at: usize, positions: PositionColumns) -> usize
-    requires { (at ≤ 7000000) × (positions.count ≤ 64) }
-    ensures { (result ≤ at + 3220) × Emitted image.old image.new at result (positions_part positions) }
+fn emit_positions(image: &mut [u8], at: usize, positions: &PositionColumns) -> usize
+    requires near { at ≤ 7000000 }
+    requires few { positions.now.count ≤ 64 }
+    ensures near { result ≤ at + 3220 }
+    ensures emitted { Emitted image.old image.new at result (positions_part positions.now) }
 {
-    let count = positions.count;
-    let mut next = emit(image, at, count as u64);
-    let mut i: usize = 0;
-    while i < count {
+    let mut next = emit(image, at, positions.count as u64);
+    for i in 0..positions.count {
         next = emit_position(
             image,
             next,
@@ -102,16 +99,8 @@ fn emit_positions(image: &mut [u8], at: usize, positions: PositionColumns) -> us
             sets::has(positions.last, i),
             positions.follow[i],
         );
-        i += 1;
     }
     emit(image, next, positions.first)
-}
-
-// Where a production ends, and how many nodes have been met by then.
-#[derive(Clone, Copy)]
-struct ProductionEnd {
-    next: usize,
-    known: usize,
 }
 
 // A rule's production: the rule, the length of the tail, and the numbers of the tail's nodes. A node that has not been met gets the next
@@ -120,103 +109,68 @@ fn emit_production(
     image: &mut [u8],
     at: usize,
     rule: usize,
-    tail: Tail,
-    met: &mut [u8; 64],
-    number: &mut [u8; 64],
-    count: usize,
-) -> ProductionEnd
-    requires { (at ≤ 8000000) × (tail.count ≤ 32) × (count ≤ 64) × (tail.found ≡ true)
-        × (length met.old ≡ 64) × (length number.old ≡ 64) }
-    ensures { (result.next ≤ at + 340) × (result.known ≤ 64)
-        × (length met.new ≡ 64) × (length number.new ≡ 64)
-        × ((known all : List ℕ) → Numbers (numbering_of count met.old number.old) known
-        → Leads known (members_of (tail_held tail)) all → All (λ n. n < 64) (members_of (tail_held tail))
-        → Numbers (numbering_of result.known met.new number.new) (meet_all known (members_of (tail_held tail)))
-        × Emitted image.old image.new at result.next (production_part all rule tail)) }
+    tail: &Tail,
+    numbering: &mut Numbering,
+) -> usize
+    requires near { at ≤ 8000000 }
+    requires short { tail.now.count ≤ 32 }
+    requires few { Within numbering.old }
+    ensures near { result ≤ at + 340 }
+    ensures few { Within numbering.new }
+    ensures emitted { (known all : List ℕ) → Numbers numbering.old known → Leads known (take tail.now.count tail.now.members) all
+        → All (λ n. n < 64) (take tail.now.count tail.now.members)
+        → Numbers numbering.new (meet_all known (take tail.now.count tail.now.members))
+        × Emitted image.old image.new at result (production_part all rule (Some tail.now)) }
 {
-    let members = tail.count;
+    let members = &tail.members[..tail.count];
     let after_rule = emit(image, at, rule as u64);
-    let mut next = emit(image, after_rule, members as u64);
-    let mut known = count;
-    let mut i: usize = 0;
-    while i < members {
-        let node = tail.members[i] as usize;
-        known = node_numbering::meet(met, number, known, node);
-        let own = node_numbering::number_of(number, node);
+    let mut next = emit(image, after_rule, members.len() as u64);
+    for member in members {
+        let node = usize::from(*member);
+        numbering.meet(node);
+        let own = numbering.number_of(node);
         next = emit(image, next, own);
-        i += 1;
     }
-    ProductionEnd { next, known }
+    next
 }
 
-// Where the productions of a row end, how many there are, and the nodes met by then.
+// Where the productions of a row end, and how many there are.
 #[derive(Clone, Copy)]
 struct ProductionsEnd {
     next: usize,
     count: usize,
-    numbering: Numbering,
 }
 
-// The productions of a node's row, by rising rule. Most rules have none, and nothing is handed on for these.
+// The productions of a node's row, by rising rule. Most rules have none.
 fn emit_productions(
     image: &mut [u8],
     at: usize,
-    grammar: Grammar,
-    numbering: Numbering,
+    grammar: &Grammar,
+    numbering: &mut Numbering,
     node: usize,
 ) -> ProductionsEnd
-    requires { (rules : List Rule) × (e : Expression) × GrammarOf grammar rules e × (node < size e)
-        × (at ≤ 7000000) × (numbering.count ≤ 64) }
-    ensures { (result.next ≤ at + 10880) × (result.count ≤ 32) × (result.numbering.count ≤ 64)
-        × ((rules : List Rule) (e : Expression) → GrammarOf grammar rules e → node < size e
+    requires near { at ≤ 7000000 }
+    requires few { Within numbering.old }
+    requires held { (rules : List Rule) × (e : Expression) × GrammarOf grammar.now rules e × (node < size e) }
+    ensures near { result.next ≤ at + 10880 }
+    ensures counted { result.count ≤ 32 }
+    ensures few { Within numbering.new }
+    ensures emitted { (rules : List Rule) (e : Expression) → GrammarOf grammar.now rules e → node < size e
         → (result.count ≡ length (fused_from rules 0 (row_of (normal_form e) node).productions))
-        × ((met all : List ℕ) → Numbers numbering met → Leads met (row_nodes rules e node) all
-        → Numbers result.numbering (meet_all met (row_nodes rules e node))
-        × Emitted image.old image.new at result.next (productions_part all rules e node))) }
+        × ((met all : List ℕ) → Numbers numbering.old met → Leads met (row_nodes rules e node) all
+        → Numbers numbering.new (meet_all met (row_nodes rules e node))
+        × Emitted image.old image.new at result.next (productions_part all rules e node)) }
 {
-    let rules = grammar.rules;
     let mut next = at;
-    let mut met = numbering.met;
-    let mut number = numbering.number;
-    let mut known = numbering.count;
     let mut count: usize = 0;
-    let mut rule: usize = 0;
-    while rule < rules {
-        let action = grammar.action[rule];
-        let tail = node_numbering::rule_tail(
-            &grammar.tag,
-            &grammar.link,
-            &grammar.first,
-            node,
-            action,
-        );
-        if !tail.found {
-            rule += 1;
+    for rule in 0..grammar.rules {
+        let Some(tail) = node_numbering::rule_tail(grammar, node, grammar.action[rule]) else {
             continue;
-        }
-        let written = emit_production(image, next, rule, tail, &mut met, &mut number, known);
-        next = written.next;
-        known = written.known;
+        };
+        next = emit_production(image, next, rule, &tail, numbering);
         count += 1;
-        rule += 1;
     }
-    let joined = Numbering {
-        count: known,
-        met,
-        number,
-    };
-    ProductionsEnd {
-        next,
-        count,
-        numbering: joined,
-    }
-}
-
-// Where a row ends, and the nodes met by then.
-#[derive(Clone, Copy)]
-struct RowEnd {
-    next: usize,
-    numbering: Numbering,
+    ProductionsEnd { next, count }
 }
 
 // A node's row: its ε flag, how many productions it has, and the productions. How many there are is known once they are written, so a 0
@@ -224,46 +178,43 @@ struct RowEnd {
 fn emit_row(
     image: &mut [u8],
     at: usize,
-    grammar: Grammar,
-    numbering: Numbering,
+    grammar: &Grammar,
+    numbering: &mut Numbering,
     node: usize,
-) -> RowEnd
-    requires { (rules : List Rule) × (e : Expression) × GrammarOf grammar rules e × (node < size e)
-        × (at ≤ 6000000) × (numbering.count ≤ 64) }
-    ensures { (result.next ≤ at + 10900) × (result.numbering.count ≤ 64)
-        × ((rules : List Rule) (e : Expression) → GrammarOf grammar rules e → node < size e
-        → (met all : List ℕ) → Numbers numbering met → Leads met (row_nodes rules e node) all
-        → Numbers result.numbering (meet_all met (row_nodes rules e node))
-        × Emitted image.old image.new at result.next (row_part all rules e node)) }
+) -> usize
+    requires near { at ≤ 6000000 }
+    requires few { Within numbering.old }
+    requires held { (rules : List Rule) × (e : Expression) × GrammarOf grammar.now rules e × (node < size e) }
+    ensures near { result ≤ at + 10900 }
+    ensures few { Within numbering.new }
+    ensures emitted { (rules : List Rule) (e : Expression) → GrammarOf grammar.now rules e → node < size e
+        → (met all : List ℕ) → Numbers numbering.old met → Leads met (row_nodes rules e node) all
+        → Numbers numbering.new (meet_all met (row_nodes rules e node))
+        × Emitted image.old image.new at result (row_part all rules e node) }
 {
     let is_null = sets::has(grammar.null, node);
     let after_flag = emit_flag(image, at, is_null);
     let after_count = emit(image, after_flag, 0);
     let row = emit_productions(image, after_count, grammar, numbering, node);
     emit(image, after_flag, row.count as u64);
-    let joined = row.numbering;
-    RowEnd {
-        next: row.next,
-        numbering: joined,
-    }
+    row.next
 }
 
 // The number of nonterminals and their rows, in the order of their numbers: the nodes reached from the start, as they are met row by row.
 // How many there are is known once their rows are written, so a 0 keeps its place, as in a row.
-fn emit_rows(image: &mut [u8], at: usize, grammar: Grammar) -> usize
-    requires { (rules : List Rule) × (e : Expression) × GrammarOf grammar rules e × (at ≤ 5000000) }
-    ensures { (result ≤ at + 697610)
-        × ((rules : List Rule) (e : Expression) → GrammarOf grammar rules e
-        → Emitted image.old image.new at result (rows_part rules e)) }
+fn emit_rows(image: &mut [u8], at: usize, grammar: &Grammar) -> usize
+    requires near { at ≤ 5000000 }
+    requires held { (rules : List Rule) × (e : Expression) × GrammarOf grammar.now rules e }
+    ensures near { result ≤ at + 697610 }
+    ensures emitted { (rules : List Rule) (e : Expression) → GrammarOf grammar.now rules e
+        → Emitted image.old image.new at result (rows_part rules e) }
 {
     let mut next = emit(image, at, 0);
-    let mut numbering = node_numbering::start();
+    let mut numbering = Numbering::start();
     let mut i: usize = 0;
     while i < numbering.count {
-        let node = node_numbering::node_at(numbering, i);
-        let row = emit_row(image, next, grammar, numbering, node);
-        next = row.next;
-        numbering = row.numbering;
+        let node = numbering.node_at(i);
+        next = emit_row(image, next, grammar, &mut numbering, node);
         i += 1;
     }
     emit(image, at, i as u64);
@@ -271,9 +222,9 @@ fn emit_rows(image: &mut [u8], at: usize, grammar: Grammar) -> usize
 }
 
 // All numbers of the image, from the front of a buffer on. The answer is the width of the image, whether it fits or not.
-fn emit_image(image: &mut [u8], grammar: Grammar, positions: PositionColumns) -> usize
-    requires { (s : Sheet) × PartsOf grammar positions s × (positions.count ≤ 64) }
-    ensures { (s : Sheet) → PartsOf grammar positions s
+fn emit_image(image: &mut [u8], grammar: &Grammar, positions: &PositionColumns) -> usize
+    requires { (s : Sheet) × PartsOf grammar.now positions.now s × (positions.now.count ≤ 64) }
+    ensures { (s : Sheet) → PartsOf grammar.now positions.now s
         → Emitted image.old image.new 0 result (image_numbers (plain_image s)) }
 {
     let after_rules = emit_rules(image, 0, grammar);
@@ -287,7 +238,7 @@ pub fn image_width(grammar: Grammar, positions: PositionColumns) -> usize
     ensures { (s : Sheet) → PartsOf grammar positions s → result ≡ length (image_bytes (plain_image s)) }
 {
     let mut none = [0u8; 1];
-    emit_image(&mut none, grammar, positions)
+    emit_image(&mut none, &grammar, &positions)
 }
 
 // Writes the image over the front of a buffer that has room for it, and answers how many bytes it takes.
@@ -299,5 +250,5 @@ pub fn write_image(image: &mut [u8], grammar: Grammar, positions: PositionColumn
         → (result ≡ length (image_bytes (plain_image s)))
         × (image.new ≡ image_bytes (plain_image s) ++ drop (length (image_bytes (plain_image s))) image.old) }
 {
-    emit_image(image, grammar, positions)
+    emit_image(image, &grammar, &positions)
 }

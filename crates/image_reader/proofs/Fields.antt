@@ -12,10 +12,10 @@ use borrow.Author.Tests.{lt-ltb, le-ltb, le-leb, lt-leb, leb-true}
 use Rattle.basics.proofs.laws.Truth.{and-true-first, and-true-second}
 use Rattle.basics.proofs.laws.Order.{lt-or-le}
 use mathlib.Core.Logic.{⊎_elim}
-use Rattle.number.specs.Number.{decode_fewest, encode, encode_in}
+use Rattle.std.specs.Prelude.{Option, None, Some}
+use Rattle.number.specs.Number.{decode_fewest, encode, encode_in, read}
 use Rattle.number.proofs.laws.Laws.{fewest_within, fewest_bytes, fewest-width}
 use Rattle.number.specs.declared.Number.{Number}
-use Rattle.number.specs.declared.Number.TheVariants as number
 use Rattle.sheet.specs.Field.{Reading, stop, got, and_then, between}
 use Rattle.image.specs.ImageReading.{image_field}
 use Rattle.image_reader.proofs.Parts.{between_is, field_missing, field-number}
@@ -42,11 +42,11 @@ between_range l m v e =
 
 -- ---- what was read
 
-pub field-allowed : (p : ℕ → Bool) (bytes : List ℕ) (at : ℕ) {v n : ℕ} {f : Bool} → decode_fewest bytes at ≡ number.Read v n f → p v ≡ true
+pub field-allowed : (p : ℕ → Bool) (bytes : List ℕ) (at : ℕ) {v n : ℕ} {f : Bool} → decode_fewest bytes at ≡ read v n f → p v ≡ true
     → image_field p bytes at ≡ got v (at + n)
 field-allowed p bytes at {v} {n} e h = field-number bytes p at e ∙ ap (λ (b : Bool). cond b (got v (at + n)) (stop 13 at)) h
 
-pub field_forbidden : (p : ℕ → Bool) (bytes : List ℕ) (at : ℕ) {v n : ℕ} {f : Bool} → decode_fewest bytes at ≡ number.Read v n f → p v ≡ false
+pub field_forbidden : (p : ℕ → Bool) (bytes : List ℕ) (at : ℕ) {v n : ℕ} {f : Bool} → decode_fewest bytes at ≡ read v n f → p v ≡ false
     → image_field p bytes at ≡ stop 13 at
 field_forbidden p bytes at {v} {n} e h = field-number bytes p at e ∙ ap (λ (b : Bool). cond b (got v (at + n)) (stop 13 at)) h
 
@@ -57,23 +57,23 @@ stop_got {A} {X} {q} {p} {n} {a} e = let z : ◌≡◌ {A = ℕ} 0 1 = cc in abs
 pub record FieldGot (p : ℕ → Bool) (bytes : List ℕ) (at v next : ℕ) : Type 0 where
   pub used : ℕ
   pub fewest : Bool
-  pub number : decode_fewest bytes at ≡ number.Read v used fewest
+  pub number : decode_fewest bytes at ≡ read v used fewest
   pub allowed : p v ≡ true
   pub after : next ≡ at + used
 
 pub field_got : (p : ℕ → Bool) (bytes : List ℕ) (at : ℕ) {v next : ℕ} → image_field p bytes at ≡ got v next → FieldGot p bytes at v next
 field_got p bytes at {v} {next} h = by_number (decode_fewest bytes at) refl
   where
-    by_test : (w u : ℕ) (f b : Bool) → decode_fewest bytes at ≡ number.Read w u f → p w ≡ b → cond b (got w (at + u)) (stop 13 at) ≡ got v next
+    by_test : (w u : ℕ) (f b : Bool) → decode_fewest bytes at ≡ read w u f → p w ≡ b → cond b (got w (at + u)) (stop 13 at) ≡ got v next
         → FieldGot p bytes at v next
     by_test w u f true e k g =
         let same : w ≡ v = cc in
-        record { used = u; fewest = f; number = e ∙ ap (λ (x : ℕ). number.Read x u f) same; allowed = ap p (sym same) ∙ k; after = cc }
+        record { used = u; fewest = f; number = e ∙ ap (λ (x : ℕ). read x u f) same; allowed = ap p (sym same) ∙ k; after = cc }
     by_test w u f false e k g = stop_got g
 
-    by_number : (n : Number) → decode_fewest bytes at ≡ n → FieldGot p bytes at v next
-    by_number number.Refused e = stop_got (sym (field_missing bytes p at e) ∙ h)
-    by_number (number.Read w u f) e = by_test w u f (p w) e refl (sym (field-number bytes p at e) ∙ h)
+    by_number : (n : Option Number) → decode_fewest bytes at ≡ n → FieldGot p bytes at v next
+    by_number None e = stop_got (sym (field_missing bytes p at e) ∙ h)
+    by_number (Some n) e = by_test n.value n.used n.fewest (p n.value) e refl (sym (field-number bytes p at e) ∙ h)
 
 pub field_range : (l m : ℕ) (bytes : List ℕ) (at : ℕ) {v next : ℕ} → image_field (between l m) bytes at ≡ got v next → (l ≤ v) × (v ≤ m)
 field_range l m bytes at {v} e = between_range l m v (field_got (between l m) bytes at e).allowed
@@ -90,10 +90,10 @@ field-inside p bytes at e =
 pub field_same : (p q : ℕ → Bool) (bytes : List ℕ) (at : ℕ) → ((v : ℕ) → p v ≡ q v) → image_field p bytes at ≡ image_field q bytes at
 field_same p q bytes at h = go (decode_fewest bytes at) refl
   where
-    go : (n : Number) → decode_fewest bytes at ≡ n → image_field p bytes at ≡ image_field q bytes at
-    go number.Refused e = field_missing bytes p at e ∙ sym (field_missing bytes q at e)
-    go (number.Read v u f) e =
-        field-number bytes p at e ∙ ap (λ (b : Bool). cond b (got v (at + u)) (stop 13 at)) (h v) ∙ sym (field-number bytes q at e)
+    go : (n : Option Number) → decode_fewest bytes at ≡ n → image_field p bytes at ≡ image_field q bytes at
+    go None e = field_missing bytes p at e ∙ sym (field_missing bytes q at e)
+    go (Some n) e =
+        field-number bytes p at e ∙ ap (λ (b : Bool). cond b (got n.value (at + n.used)) (stop 13 at)) (h n.value) ∙ sym (field-number bytes q at e)
 
 -- A second test after the first: what fails it is refused at the number's place.
 pub field_both : (p q : ℕ → Bool) (bytes : List ℕ) (at : ℕ)
@@ -107,11 +107,11 @@ field_both p q bytes at = go (decode_fewest bytes at) refl
     both v next true = refl
     both v next false = refl
 
-    go : (n : Number) → decode_fewest bytes at ≡ n → image_field (λ v. p v && q v) bytes at ≡ and_then (image_field p bytes at) second
-    go number.Refused e =
+    go : (n : Option Number) → decode_fewest bytes at ≡ n → image_field (λ v. p v && q v) bytes at ≡ and_then (image_field p bytes at) second
+    go None e =
         field_missing bytes (λ v. p v && q v) at e ∙ ap (λ (r : Reading ℕ). and_then r second) (sym (field_missing bytes p at e))
-    go (number.Read v u f) e =
-        field-number bytes (λ v. p v && q v) at e ∙ both v (at + u) (p v)
+    go (Some n) e =
+        field-number bytes (λ v. p v && q v) at e ∙ both n.value (at + n.used) (p n.value)
         ∙ ap (λ (r : Reading ℕ). and_then r second) (sym (field-number bytes p at e))
 
 -- ---- small numbers

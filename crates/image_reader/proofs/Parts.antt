@@ -6,8 +6,8 @@ use mathlib.Core.List.{List, [], ◌∷◌}
 use Prim.Native.Nat.{ℕ, suc, ◌+◌, ◌^◌}
 use lib.ListN.{length, get_or}
 use lib.Dec.{leb, ltb, eqb}
-use Rattle.number.specs.Number.{decode_fewest}
-use Rattle.number.specs.declared.Number.TheVariants as number
+use Rattle.std.specs.Prelude.{None}
+use Rattle.number.specs.Number.{decode_fewest, read}
 use Rattle.sheet.specs.Field.{Reading, stop, got, and_then, between, field_of, read_field, read_many}
 use Rattle.normal_form.specs.Productions.{most_tail}
 use Rattle.image.specs.Image.{Image}
@@ -33,11 +33,11 @@ unfolding read_list
 list_is one n at = refl
 
 module _ (bytes : List ℕ) where
-  pub field_missing : (p : ℕ → Bool) (at : ℕ) → decode_fewest bytes at ≡ number.Refused → image_field p bytes at ≡ stop 13 at
+  pub field_missing : (p : ℕ → Bool) (at : ℕ) → decode_fewest bytes at ≡ None → image_field p bytes at ≡ stop 13 at
   unfolding image_field read_field field_of
   field_missing p at e = rw e
 
-  pub field-number : (p : ℕ → Bool) (at : ℕ) {v n : ℕ} {f : Bool} → decode_fewest bytes at ≡ number.Read v n f
+  pub field-number : (p : ℕ → Bool) (at : ℕ) {v n : ℕ} {f : Bool} → decode_fewest bytes at ≡ read v n f
       → image_field p bytes at ≡ cond (p v) (got v (at + n)) (stop 13 at)
   unfolding image_field read_field field_of
   field-number p at e = rw e

@@ -1,43 +1,19 @@
--- Laws of positions: the steps over a position are its reading, and tables with one position more.
-use mathlib.Core.Path.{◌≡◌, refl, sym, ap, ◌∙◌}
-use mathlib.Core.Bool.{true}
+-- Laws of positions: tables with one position more.
+use mathlib.Core.Path.{◌≡◌, refl, ap, ◌∙◌}
 use mathlib.Core.List.{List, [], ◌∷◌, ◌++◌}
-use Prim.Native.Nat.{ℕ, zero, suc, ◌+◌, ◌-◌, ◌%◌, ◌^◌, ◌≤◌, ◌<◌}
+use Prim.Native.Nat.{ℕ, zero, suc, ◌+◌, ◌%◌, ◌≤◌, ◌<◌}
 use native.Mathlib.Omega.{arith}
 use lib.ListN.{length, get_or, length-append}
-use lib.Dec.{eqb}
 use Rattle.basics.specs.Lists.{All}
 use Rattle.basics.proofs.laws.Members.{all-append}
 use Rattle.basics.specs.Bits.{bit}
-use Rattle.sheet.specs.Field.{got}
 use Rattle.lexer.specs.Positions.{Position}
 use Rattle.class_table.specs.Holding.{no_position, Holding, SweptOver}
 use Rattle.class_table.proofs.laws.HoldingLaws.{swept_prepared}
-use Rattle.image.specs.ImageReading.{read_position}
-use Rattle.image_reader.specs.Answers.{after, StepAnswers, with_flag}
+use Rattle.image_reader.specs.Answers.{with_flag}
 use Rattle.image_reader.specs.Decoded.{LexerHeld}
 use Rattle.image_reader.specs.Tables.{PositionsHeld, SameBelow}
-use Rattle.image_reader.specs.declared.Step.{Step}
-use Rattle.image_reader.proofs.Parts.{position_is}
 use Rattle.image_reader.proofs.Flags.{flags_none, flags_more}
-use Rattle.image_reader.proofs.Steps.{after_same, step_on, flag_reads, rule_reads, set_reads, number-before, number-least}
-
-module _ (bytes : List ℕ) (rules count least : ℕ) (from low high rule last follow : Step) {set : ℕ} (some : 1 ≤ rules) (e : set ≡ 2 ^ count - 1)
-    (e₁ : StepAnswers bytes from 0 255 low) (e₂ : StepAnswers bytes low low.value 255 high)
-    (e₃ : StepAnswers bytes high least (rules - 1) rule) (e₄ : StepAnswers bytes rule 0 1 last) (e₅ : StepAnswers bytes last 0 set follow) where
-  pub position-steps :
-      after follow (got (record { low = low.value; high = high.value; rule = rule.value; last = eqb last.value 1; follow = follow.value }))
-      ≡ after from (read_position bytes rules count least)
-  position-steps =
-      sym (after_same from _ _ (position_is bytes rules count least from.at)
-      ∙ step_on _ _ _ _ e₁.reads _
-      ∙ step_on _ _ _ _ e₂.reads _
-      ∙ step_on _ _ _ _ (rule_reads bytes least rules high rule some e₃.reads) _
-      ∙ step_on _ _ _ _ (flag_reads bytes rule last e₄.reads) _
-      ∙ step_on _ _ _ _ (set_reads bytes count last follow e e₅.reads) _)
-
-  pub position_ordered : follow.ok ≡ true → low.value ≤ high.value
-  position_ordered h = number-least e₂ (number-before e₃ (number-before e₄ (number-before e₅ h)))
 
 -- ---- the tables
 

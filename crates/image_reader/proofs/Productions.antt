@@ -1,4 +1,4 @@
--- Laws of productions: the steps over a production are its reading, and the table with one entry more.
+-- Laws of productions: the test of a rule, what is known of a production that was read, and the table with one entry more.
 use mathlib.Core.Path.{◌≡◌, refl, sym, ap, subst, ◌∙◌}
 use mathlib.Core.Bool.{Bool, true, false, not, cond, ◌&&◌}
 use mathlib.Core.Logic.{⊎_elim}
@@ -16,46 +16,40 @@ use Rattle.basics.proofs.laws.Order.{compare_cases, lt-or-le}
 use Rattle.basics.proofs.laws.Truth.{and-true-first}
 use Rattle.sheet.specs.Field.{Reading, stop, got, and_then, between}
 use Rattle.normal_form.specs.Productions.{Production, production_of, most_tail}
-use Rattle.image.specs.ImageReading.{image_field, read_list, read_production}
-use Rattle.image_reader.specs.Answers.{after, StepAnswers, ProductionHeld}
-use Rattle.image_reader.specs.declared.Step.{Step}
+use Rattle.image.specs.ImageReading.{image_field}
+use Rattle.image_reader.specs.Answers.{ProductionHeld}
 use Rattle.image_reader.specs.Tables.{held_flags, Members, MembersHeld, EntryTail, EntryIs, EntriesOf, Room, SameBelow}
-use Rattle.image_reader.proofs.Parts.{production_is}
-use Rattle.image_reader.proofs.Fields.{field_same, field_both, field_got, field_one_byte, between_range, between-below}
+use Rattle.image_reader.proofs.Fields.{field_same, field_both, field_got, field_range, field_one_byte, between_range, between-below}
 use Rattle.image_reader.proofs.Flags.{length-listed, get_or-listed}
-use Rattle.image_reader.proofs.Steps.{after_refused, after_taken, after_same, step_on, step_got, taken-before}
-use Rattle.image_reader.proofs.Steps.{number_got, number-before}
+use Rattle.image_reader.proofs.Steps.{read_on, read_stops}
 
 -- ---- the rule of a production
 
 -- The test of a production's rule, as the code makes it.
-abbrev rule_test : ℕ → ℕ → ℕ → ℕ → Bool
+abbrev pub rule_test : ℕ → ℕ → ℕ → ℕ → Bool
 rule_test skips rules least v = between least (rules - 1) v && not (bit skips v)
 
-module _ (bytes : List ℕ) (skips rules least : ℕ) (from rule : Step) (e : StepAnswers bytes from least (rules - 1) rule) where
+module _ (bytes : List ℕ) (skips rules least at : ℕ) where
+  -- The rule's number is read first, and then its bit.
   abbrev second : ℕ → ℕ → Reading ℕ
-  second v next = cond (not (bit skips v)) (got v next) (stop 13 from.at)
+  second v next = cond (not (bit skips v)) (got v next) (stop 13 at)
 
-  tested : {b : Bool} → bit skips rule.value ≡ b
-      → after from (image_field (rule_test skips rules least) bytes)
-      ≡ after rule (λ next. cond (not b) (got rule.value next) (stop 13 from.at))
-  tested {b} h =
-      after_same from (image_field (rule_test skips rules least) bytes) (λ at. and_then (image_field (between least (rules - 1)) bytes at) second)
-      (field_both (between least (rules - 1)) (λ v. not (bit skips v)) bytes from.at)
-      ∙ step_on _ _ _ _ e.reads second
-      ∙ after_same rule (second rule.value) (λ next. cond (not b) (got rule.value next) (stop 13 from.at))
-      (ap (λ (x : Bool). cond (not x) (got rule.value rule.at) (stop 13 from.at)) h)
+  both : image_field (rule_test skips rules least) bytes at ≡ and_then (image_field (between least (rules - 1)) bytes at) second
+  both = field_both (between least (rules - 1)) (λ v. not (bit skips v)) bytes at
 
-  pub rule_stops : rule.ok ≡ false → after rule (got rule.value) ≡ after from (image_field (rule_test skips rules least) bytes)
-  rule_stops h = sym (tested refl ∙ after_refused rule _ h ∙ sym (after_refused rule (got rule.value) h))
+  pub rule_stops : {q p : ℕ} → image_field (between least (rules - 1)) bytes at ≡ stop q p
+      → image_field (rule_test skips rules least) bytes at ≡ stop q p
+  rule_stops e = both ∙ read_stops second e
 
-  pub rule_skips : rule.ok ≡ true → bit skips rule.value ≡ true
-      → after (record { value = 0; at = from.at; ok = false }) (got 0) ≡ after from (image_field (rule_test skips rules least) bytes)
-  rule_skips h b = after_refused (record { value = 0; at = from.at; ok = false }) (got 0) refl ∙ sym (tested b ∙ after_taken rule _ h)
+  module _ {rule end : ℕ} (e : image_field (between least (rules - 1)) bytes at ≡ got rule end) where
+    tested : {b : Bool} → bit skips rule ≡ b → image_field (rule_test skips rules least) bytes at ≡ cond (not b) (got rule end) (stop 13 at)
+    tested h = both ∙ read_on second e ∙ ap (λ (x : Bool). cond (not x) (got rule end) (stop 13 at)) h
 
-  pub rule_passes : bit skips rule.value ≡ false
-      → after rule (got rule.value) ≡ after from (image_field (rule_test skips rules least) bytes)
-  rule_passes b = sym (tested b)
+    pub rule_skips : bit skips rule ≡ true → image_field (rule_test skips rules least) bytes at ≡ stop 13 at
+    rule_skips = tested
+
+    pub rule_passes : bit skips rule ≡ false → image_field (rule_test skips rules least) bytes at ≡ got rule end
+    rule_passes = tested
 
 and_assoc : (a b c : Bool) → (a && (b && c)) ≡ ((a && b) && c)
 and_assoc true b c = refl
@@ -88,50 +82,39 @@ module _ (skips rules least : ℕ) (h : 1 ≤ rules) (v : ℕ) where
 
 -- ---- reading a production
 
-module _ (bytes : List ℕ) (skips rules n least : ℕ) (from rule size end : Step) (tail : List ℕ)
-    (e₁ : after rule (got rule.value) ≡ after from (image_field (rule_test skips rules least) bytes))
-    (e₂ : StepAnswers bytes rule 0 most_tail size)
-    (e₃ : after end (got tail) ≡ after size (read_list (image_field (λ v. ltb v n) bytes) size.value)) where
-  defined : 1 ≤ rules
-      → after rule (got rule.value)
-      ≡ after from (image_field (λ v. leb least v && (ltb v (length (held_flags skips rules)) && not (get_or (held_flags skips rules) v true))) bytes)
-  defined h = e₁ ∙ after_same from _ _ (sym (field_same _ (rule_test skips rules least) bytes from.at (rule_is skips rules least h)))
+-- The code's test reads as the definition's does.
+pub field-tested : (bytes : List ℕ) (skips rules least at : ℕ) → 1 ≤ rules
+    → image_field (λ v. leb least v && (ltb v (length (held_flags skips rules)) && not (get_or (held_flags skips rules) v true))) bytes at
+    ≡ image_field (rule_test skips rules least) bytes at
+field-tested bytes skips rules least at h = field_same _ (rule_test skips rules least) bytes at (rule_is skips rules least h)
 
-  pub production-steps : 1 ≤ rules
-      → after end (got (record { head = rule.value; tail = tail })) ≡ after from (read_production bytes (held_flags skips rules) n least)
-  production-steps h =
-      sym (after_same from _ _ (production_is bytes (held_flags skips rules) n least from.at)
-      ∙ step_on _ _ _ _ (defined h) _
-      ∙ step_on _ _ _ _ e₂.reads _
-      ∙ step_on _ _ _ _ e₃ _)
-
-  -- A production has one byte for the rule, one for the tail's length and one for each member.
-  pub production_held : ((i : ℕ) → get_or bytes i 0 < 256) → rule.value < 32 → end.ok ≡ true
-      → MembersHeld bytes size.at n size.value end.at tail
-      → ProductionHeld bytes n least from.at (record { rule = rule.value; tail = rule.at; end = end })
-      (record { head = rule.value; tail = tail })
-  production_held hb b h m =
-      let k = taken-before size end (read_list (image_field (λ v. ltb v n) bytes) size.value) tail e₃ h in
-      let f₁ = step_got from rule (image_field (rule_test skips rules least) bytes) rule.value e₁ (number-before e₂ k) in
-      let f₂ = number_got e₂ k in
-      let t = and-true-first _ (not (bit skips rule.value)) (field_got _ bytes from.at f₁).allowed in
-      let r = between_range least (rules - 1) rule.value t in
-      let o₁ = field_one_byte (rule_test skips rules least) bytes from.at hb f₁ (omega arith) in
-      let s : size.value ≤ most_tail = e₂.at_most in
-      let o₂ = field_one_byte (between 0 most_tail) bytes rule.at hb f₂ (omega arith) in
-      record {
-        head = refl;
-        at_least = r.0;
-        below = b;
-        near = o₁.after;
-        onward = omega (arith, o₁.after, o₂.after, m.place);
-        short = omega (arith, o₁.after, o₂.after, m.place, s);
-        tail = record {
-          size = o₂.byte ∙ sym m.count;
-          short = omega (arith, m.count, s);
-          members = subst (λ (x : ℕ). Members bytes x n tail) o₂.after m.members;
-        };
-      }
+-- A production has one byte for the rule, one for the tail's length and one for each member.
+pub production_held : (bytes : List ℕ) (skips rules n least at : ℕ) {rule at_size size at_tail end : ℕ} {tail : List ℕ}
+    → ((i : ℕ) → get_or bytes i 0 < 256) → rules ≤ 32 → 1 ≤ rules
+    → image_field (rule_test skips rules least) bytes at ≡ got rule at_size
+    → image_field (between 0 most_tail) bytes at_size ≡ got size at_tail
+    → MembersHeld bytes at_tail n size end tail
+    → ProductionHeld bytes n least at (record { rule = rule; tail = at_size; end = end }) (record { head = rule; tail = tail })
+production_held bytes skips rules n least at {rule} {at_size} {size} {at_tail} {end} {tail} hb few h e₁ e₂ m =
+    let t = and-true-first _ (not (bit skips rule)) (field_got _ bytes at e₁).allowed in
+    let r = between_range least (rules - 1) rule t in
+    let b : rule < 32 = omega arith in
+    let o₁ = field_one_byte (rule_test skips rules least) bytes at hb e₁ (omega arith) in
+    let s : size ≤ most_tail = (field_range 0 most_tail bytes at_size e₂).1 in
+    let o₂ = field_one_byte (between 0 most_tail) bytes at_size hb e₂ (omega arith) in
+    record {
+      head = refl;
+      at_least = r.0;
+      below = b;
+      near = o₁.after;
+      onward = omega (arith, o₁.after, o₂.after, m.place);
+      short = omega (arith, o₁.after, o₂.after, m.place, s);
+      tail = record {
+        size = o₂.byte ∙ sym m.count;
+        short = omega (arith, m.count, s);
+        members = subst (λ (x : ℕ). Members bytes x n tail) o₂.after m.members;
+      };
+    }
 
 -- ---- the production of a rule
 

@@ -1,45 +1,54 @@
--- What the functions that read parts of an image answer: a step is where reading stands, and from a refused number on nothing more
--- is read. What a whole image's reading answers is said in `Decoded`.
-use Rattle.std.specs.Prelude.{◌≡◌, Bool, true, false, cond, List, ℕ, suc, ◌+◌, ◌^◌, ◌≤◌, ◌<◌, eqb}
+-- What the functions that read parts of an image answer: what was read and the place after it, or question 13 at its place. What a whole
+-- image's reading answers is said in `Decoded`.
+use Rattle.std.specs.Prelude.{◌≡◌, Bool, false, cond, List, ℕ, suc, ◌+◌, ◌^◌, ◌≤◌, ◌<◌, eqb, Result, Ok, Err}
 use Rattle.std.specs.Int.Bits.{bit_or}
-use Rattle.sheet.specs.Field.{Reading, stop, got, between, read_many}
+use Rattle.sheet.specs.Field.{Reading, stop, got, read_many}
 use Rattle.normal_form.specs.Productions.{Production, Row}
 use Rattle.lexer.specs.Positions.{Position}
-use Rattle.image.specs.ImageReading.{image_field, read_position, read_production, read_row}
-use Rattle.image_reader.specs.Tables.{held_flags, TailAt, EntriesOf, Room, SameBelow}
+use Rattle.image.specs.ImageReading.{read_position, read_production, read_row}
+use Rattle.image_reader.specs.Tables.{held_flags, FlagsOf, TailAt, EntriesOf, Room, SameBelow}
 use Rattle.image_reader.specs.declared.Bounds.{Bounds}
 use Rattle.image_reader.specs.declared.Step.{Step}
+use Rattle.image_reader.specs.declared.Unreadable.{Unreadable}
 use Rattle.image_reader.specs.declared.PositionRead.{PositionRead}
 use Rattle.image_reader.specs.declared.ProductionRead.{ProductionRead}
 
--- ---- steps
+-- ---- results
 
--- What is read from a step on: a refusal, question 13 at its place, stays.
-unfoldable pub after : {A : Type 0} → Step → (ℕ → Reading A) → Reading A
-after s one = cond s.ok (one s.at) (stop 13 s.at)
+-- A number, as the reading that it stands for.
+abbrev pub number_reading : Result Step Unreadable → Reading ℕ
+number_reading (Ok s) = got s.value s.at
+number_reading (Err e) = stop 13 e.place
 
--- The step over one number: it is the number's reading, and its value is 0 where it was refused.
-pub record StepAnswers (bytes : List ℕ) (from : Step) (least most : ℕ) (r : Step) : Type 0 where
-  pub reads : after r (got r.value) ≡ after from (image_field (between least most) bytes)
-  pub at_most : r.value ≤ most
-  pub none : r.ok ≡ false → r.value ≡ 0
-
--- The step over something else than a number: what was read, if all of it was taken, stands in a relation to what the function returns.
-pub record Answers {A : Type 0} (P : A → Type 0) (r : Step) (x : Reading A) : Type 0 where
+-- Something else than a number, read up to an end: it stands in a relation to what the function returns.
+pub record Taken {A : Type 0} (P : A → Type 0) (end : ℕ) (x : Reading A) : Type 0 where
   pub what : A
-  pub reads : after r (got what) ≡ x
-  pub holds : r.ok ≡ true → P what
+  pub reads : x ≡ got what end
+  pub holds : P what
+
+-- It was read up to the end that the function returns, or refused at one place with the definition.
+abbrev pub Answers : {T A : Type 0} → (T → ℕ) → (T → A → Type 0) → Result T Unreadable → Reading A → Type 0
+Answers end P (Ok r) x = Taken (P r) (end r) x
+Answers end P (Err e) x = x ≡ stop 13 e.place
+
+-- ---- flags
 
 -- A set with i added where a flag is set.
 unfoldable pub with_flag : ℕ → ℕ → Bool → ℕ
 with_flag s i b = cond b (bit_or s (2 ^ i)) s
 
+-- So many flags, and the set that holds them.
+pub record FlagsRead (count set : ℕ) (flags : List Bool) : Type 0 where
+  pub held : flags ≡ held_flags set count
+  pub bits : FlagsOf (λ b. b) false set flags
+
 -- ---- positions
 
--- A position's answer, as the reading that it stands for.
-abbrev pub position_reading : PositionRead → Reading Position
-position_reading p =
-    after p.follow (got (record { low = p.low; high = p.high; rule = p.rule; last = eqb p.last 1; follow = p.follow.value }))
+-- A position's answer stands for it.
+pub record PositionIs (rules : ℕ) (r : PositionRead) (p : Position) : Type 0 where
+  pub values : p ≡ record { low = r.low; high = r.high; rule = r.rule; last = eqb r.last 1; follow = r.follow.value }
+  pub below : r.rule < rules
+  pub ordered : r.low ≤ r.high
 
 -- So many positions.
 abbrev pub positions_in : List ℕ → ℕ → ℕ → ℕ → Reading (List Position)
@@ -70,8 +79,8 @@ pub record ProductionHeld (bytes : List ℕ) (n least at : ℕ) (r : ProductionR
   pub at_least : least ≤ r.rule
   pub below : r.rule < 32
   pub near : r.tail ≡ at + 1
-  pub onward : at ≤ r.end.at
-  pub short : r.end.at ≤ at + 34
+  pub onward : at ≤ r.end
+  pub short : r.end ≤ at + 34
   pub tail : TailAt bytes n r.tail p.tail
 
 -- The productions of the row that starts at a place, entered from a base on. What stands below the base stays, and what follows the

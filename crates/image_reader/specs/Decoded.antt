@@ -1,6 +1,5 @@
--- What reading an image answers: the outcome is the definition's own answer to question 13, and the tables of a readable image
--- hold it. The reading of parts is not said here.
-use Rattle.std.specs.Prelude.{◌≡◌, false, List, ℕ, ◌≤◌, ◌<◌, length, drop}
+-- What reading an image answers: the definition's own answer to question 13, and the tables of a readable image hold it. The reading of parts is not said here.
+use Rattle.std.specs.Prelude.{◌≡◌, false, List, ℕ, ◌≤◌, ◌<◌, length, drop, Result, Ok, Err}
 use Rattle.basics.specs.Lists.{All}
 use Rattle.sheet.specs.Field.{Reading, stop, got}
 use Rattle.lexer.specs.Positions.{Position}
@@ -9,7 +8,7 @@ use Rattle.scanner.specs.Meaning.{Prepared}
 use Rattle.image.specs.Image.{Image}
 use Rattle.image_reader.specs.Tables.{FlagsOf, RowsHeld}
 use Rattle.image_reader.specs.declared.ImageRead.{ImageRead}
-use Rattle.image_reader.specs.declared.Outcome.TheVariants.{Readable, Refused}
+use Rattle.image_reader.specs.declared.Unreadable.{Unreadable}
 
 -- The tables hold these positions, as the scanner relies on it, where their rules never fall.
 abbrev pub LexerHeld : List Position → ℕ → List ℕ → Type 0
@@ -53,23 +52,11 @@ tables_of r tables productions = record {
   productions = productions;
 }
 
--- What reading returns for a refused image.
-unfoldable pub refused_at : ℕ → ImageRead
-refused_at place = record {
-  outcome = Refused place;
-  rules = 0;
-  skips = 0;
-  last = 0;
-  first = 0;
-  nonterminals = 0;
-  empty = 0;
-}
-
 -- The answer to the reading of an image: all bytes were read, and the tables hold the image; or 13 at
 -- its place. The arrays keep their lengths. What their entries are after 13 is left free.
-pub record ImageAnswers (bytes : List ℕ) (r : ImageRead) (tables productions : List ℕ) (x : Reading Image) : Type 0 where
+pub record ImageAnswers (bytes : List ℕ) (r : Result ImageRead Unreadable) (tables productions : List ℕ) (x : Reading Image) : Type 0 where
   pub tables_size : length tables ≡ 448
   pub productions_size : length productions ≡ 2048
-  pub readable : r.outcome ≡ Readable
-      → (i : Image) × (x ≡ got i (length bytes)) × Decoded bytes (tables_of r tables productions) i
-  pub refusal : {place : ℕ} → r.outcome ≡ Refused place → (x ≡ stop 13 place) × (r ≡ refused_at place)
+  pub readable : {read : ImageRead} → r ≡ Ok read
+      → (i : Image) × (x ≡ got i (length bytes)) × Decoded bytes (tables_of read tables productions) i
+  pub refusal : {e : Unreadable} → r ≡ Err e → x ≡ stop 13 e.place

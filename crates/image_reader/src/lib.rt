@@ -1,28 +1,32 @@
 // The image reader: an image's bytes are read once, before the text, into tables for the machine. Question 13 is answered here,
-// and no other: the text is not looked at. A number is read only where none was refused before, so that the numbers of a part are read one
-// after the other, and whether all were taken is asked once, at the end of the part. Loops alone do not start after a refusal and stop at one.
+// and no other: the text is not looked at.
 #![tactic(auto)]
 
-ghost use Rattle.std.specs.Prelude.{◌≡◌, true, false, not, ◌&&◌, List, [], ℕ, ◌+◌, ◌-◌, ◌≤◌, ◌<◌, eqb, ltb, length, drop};
+ghost use Rattle.std.specs.Prelude.{◌≡◌, not, ◌&&◌, List, [], ℕ, ◌+◌, ◌-◌, ◌≤◌, ◌<◌, eqb, ltb, length, drop};
 ghost use Rattle.basics.specs.Bits.{bit};
-ghost use Rattle.sheet.specs.Field.{got, between};
-ghost use Rattle.image_reader.specs.Decoded.{refused_at, ImageAnswers};
+ghost use Rattle.sheet.specs.Field.{between};
+ghost use Rattle.image_reader.specs.Decoded.{ImageAnswers};
 ghost use Rattle.class_table.specs.Holding.{Holding};
 ghost use Rattle.image.specs.ImageReading.{image_field, read_flag, read_list, read_position, read_image};
-ghost use Rattle.image_reader.specs.Tables.{held_flags, FlagsOf, PositionsHeld, MembersHeld, TailAt, EntryTail};
+ghost use Rattle.image_reader.specs.Tables.{PositionsHeld, MembersHeld, TailAt, EntryTail};
 ghost use Rattle.image_reader.specs.Tables.{RowsHeld, Room, SameBelow};
-ghost use Rattle.image_reader.specs.Answers.{after, Answers, StepAnswers, with_flag, position_reading, positions_in};
+ghost use Rattle.image_reader.specs.Answers.{number_reading, Answers, with_flag, FlagsRead, PositionIs, positions_in};
 ghost use Rattle.image_reader.specs.Answers.{InBounds, production_in, productions_in, row_in};
 ghost use Rattle.image_reader.specs.Answers.{ProductionHeld, ProductionsEntered, RowEntered};
 
 use class_table::{hold_position, sweep};
 
-// A number that was read and the place after it; or, from a refused number on, its place, which is that of question 13.
+// Question 13 and its place.
+#[derive(Clone, Copy)]
+pub struct Unreadable {
+    pub place: usize,
+}
+
+// A number that was read, or a set of what was read, and the place after it.
 #[derive(Clone, Copy)]
 struct Step {
     value: u64,
     at: usize,
-    ok: bool,
 }
 
 // A position's values; its last number, the follow set, ends it.
@@ -35,19 +39,12 @@ struct PositionRead {
     follow: Step,
 }
 
-// Where positions end, and the set of those that are last. The columns hold the rest.
-#[derive(Clone, Copy)]
-struct PositionsRead {
-    end: Step,
-    last: u64,
-}
-
 // A production's rule, the place of its tail's length, and where it ends.
 #[derive(Clone, Copy)]
 struct ProductionRead {
     rule: u64,
     tail: usize,
-    end: Step,
+    end: usize,
 }
 
 // What bounds the values of productions: the number of rules, those that skip, and the number of nonterminals.
@@ -58,18 +55,11 @@ struct Bounds {
     nonterminals: u64,
 }
 
-#[derive(Clone, Copy)]
-pub enum Outcome {
-    Readable,
-    Refused(usize),
-}
-
-// The answer to question 13, and what stands in no array of a readable image's tables: the number of rules, those that skip, the number of
-// positions, the last and the first ones, the number of nonterminals, and those with ε. No code reads the two numbers of rules and of
-// nonterminals: the promise speaks of them.
+// What stands in no array of a readable image's tables: the number of rules, those that skip, the number of positions, the last and
+// the first ones, the number of nonterminals, and those with ε. No code reads the two numbers of rules and of nonterminals: the promise
+// speaks of them.
 #[derive(Clone, Copy)]
 pub struct ImageRead {
-    pub outcome: Outcome,
     pub rules: usize,
     pub skips: u64,
     pub last: u64,
@@ -78,37 +68,19 @@ pub struct ImageRead {
     pub empty: u64,
 }
 
-// A number in its fewest bytes and in a range, both ends included; nothing is read where a number was refused before.
-fn read_next(bytes: &[u8], from: Step, least: u64, most: u64) -> Step
-    ensures { StepAnswers bytes.now from least most result }
+// A number in its fewest bytes and in a range, both ends included.
+fn read_next(bytes: &[u8], at: usize, least: u64, most: u64) -> Result<Step, Unreadable>
+    ensures { number_reading result ≡ image_field (between least most) bytes.now at }
 {
-    let at = from.at;
-    let refused = Step {
-        value: 0,
-        at,
-        ok: false,
-    };
-    if !from.ok {
-        return refused;
+    let refused = Unreadable { place: at };
+    let number = number::read_number(bytes, at).ok_or(refused)?;
+    if !number.fewest || number.value < least || most < number.value {
+        return Err(refused);
     }
-    let number = number::read_number(bytes, at);
-    let number::Number::Read(value, used, fewest) = number else {
-        return refused;
-    };
-    if !fewest {
-        return refused;
-    }
-    if value < least {
-        return refused;
-    }
-    if most < value {
-        return refused;
-    }
-    Step {
-        value,
-        at: at + used,
-        ok: true,
-    }
+    Ok(Step {
+        value: number.value,
+        at: at + number.used,
+    })
 }
 
 // A set with i added where a flag is 1.
@@ -120,161 +92,137 @@ fn with_flag(set: u64, i: u64, flag: u64) -> u64
 }
 
 // As many flags as `size` says, as a set.
-fn read_flags(bytes: &[u8], size: Step) -> Step
+fn read_flags(bytes: &[u8], size: Step) -> Result<Step, Unreadable>
     requires { size.value ≤ 64 }
-    ensures { (after result (got (held_flags result.value size.value)) ≡ after size (read_list (read_flag bytes.now) size.value))
-        × (result.ok ≡ true → FlagsOf (λ b. b) false result.value (held_flags result.value size.value)) }
+    ensures { Answers (λ set. set.at) (λ set flags. FlagsRead size.value set.value flags) result
+        (read_list (read_flag bytes.now) size.value size.at) }
 {
-    if !size.ok {
-        return size;
-    }
-    let count = size.value;
     let mut set: u64 = 0;
-    let mut next = size;
-    let mut i: u64 = 0;
-    while i < count {
-        next = read_next(bytes, next, 0, 1);
-        if !next.ok {
-            return next;
-        }
-        set = with_flag(set, i, next.value);
-        i += 1;
+    let mut next = size.at;
+    for i in 0..size.value {
+        let flag = read_next(bytes, next, 0, 1)?;
+        set = with_flag(set, i, flag.value);
+        next = flag.at;
     }
-    Step {
+    Ok(Step {
         value: set,
-        at: next.at,
-        ok: next.ok,
-    }
+        at: next,
+    })
 }
 
-// As many nonterminals of a tail as `size` says. A nonterminal is below 64 and so one byte: a tail of more than two members is later read
-// from the image's bytes.
-fn read_tail(bytes: &[u8], size: Step, nonterminals: u64) -> Step
-    requires { (1 ≤ nonterminals) × (nonterminals ≤ 64) × (size.ok ≡ true → size.at ≤ length bytes.now) }
-    ensures { Answers
-        (MembersHeld bytes.now size.at nonterminals size.value result.at)
-        result
-        (after size (read_list (image_field (λ v. ltb v nonterminals) bytes.now) size.value)) }
+// Where a tail ends that has as many nonterminals as `size` says. A nonterminal is below 64 and so one byte: a tail of more than two
+// members is later read from the image's bytes.
+fn read_tail(bytes: &[u8], size: Step, nonterminals: u64) -> Result<usize, Unreadable>
+    requires { (1 ≤ nonterminals) × (nonterminals ≤ 64) × (size.at ≤ length bytes.now) }
+    ensures { Answers (λ end. end) (λ end tail. MembersHeld bytes.now size.at nonterminals size.value end tail) result
+        (read_list (image_field (λ v. ltb v nonterminals) bytes.now) size.value size.at) }
 {
-    if !size.ok {
-        return size;
+    let mut next = size.at;
+    for _i in 0..size.value {
+        let member = read_next(bytes, next, 0, nonterminals - 1)?;
+        next = member.at;
     }
-    let count = size.value;
-    let mut next = size;
-    let mut i: u64 = 0;
-    while i < count {
-        next = read_next(bytes, next, 0, nonterminals - 1);
-        if !next.ok {
-            return next;
-        }
-        i += 1;
-    }
-    next
+    Ok(next)
 }
 
 // A position. Its rule is `least` or above.
-fn read_position(bytes: &[u8], from: Step, rules: u64, count: u64, least: u64) -> PositionRead
+fn read_position(
+    bytes: &[u8],
+    at: usize,
+    rules: u64,
+    count: u64,
+    least: u64,
+) -> Result<PositionRead, Unreadable>
     requires { (1 ≤ rules) × (rules ≤ 32) × (count ≤ 64) }
-    ensures { (position_reading result ≡ after from (read_position bytes.now rules count least))
-        × (result.rule < rules) × (result.follow.ok ≡ true → result.low ≤ result.high) }
+    ensures { Answers (λ position. position.follow.at) (λ position p. PositionIs rules position p) result
+        (read_position bytes.now rules count least at) }
 {
-    let low = read_next(bytes, from, 0, 255);
-    let high = read_next(bytes, low, low.value, 255);
-    let rule = read_next(bytes, high, least, rules - 1);
-    let last = read_next(bytes, rule, 0, 1);
-    let follow = read_next(bytes, last, 0, sets::all_below(count as usize));
-    PositionRead {
+    let low = read_next(bytes, at, 0, 255)?;
+    let high = read_next(bytes, low.at, low.value, 255)?;
+    let rule = read_next(bytes, high.at, least, rules - 1)?;
+    let last = read_next(bytes, rule.at, 0, 1)?;
+    let follow = read_next(bytes, last.at, 0, sets::all_below(count as usize))?;
+    Ok(PositionRead {
         low: low.value as u8,
         high: high.value as u8,
         rule: rule.value as u8,
         last: last.value,
         follow,
-    }
+    })
 }
 
-// As many positions as `size` says, into the tables.
-fn read_positions(bytes: &[u8], size: Step, rules: u64, tables: &mut [u64; 448]) -> PositionsRead
-    requires { (0 < size.value → 1 ≤ rules) × (rules ≤ 32) × (size.value ≤ 64)
+// As many positions as `size` says, into the tables, and the set of those that are last.
+fn read_positions(
+    bytes: &[u8],
+    size: Step,
+    rules: u64,
+    tables: &mut [u64; 448],
+) -> Result<Step, Unreadable>
+    requires { (1 ≤ rules) × (rules ≤ 32) × (size.value ≤ 64)
         × (length tables.old ≡ 448) × Holding [] tables.old }
-    ensures { (length tables.new ≡ 448) × Answers
-        (PositionsHeld rules size.value result.last tables.new)
-        result.end
-        (after size (positions_in bytes.now rules size.value)) }
+    ensures { (length tables.new ≡ 448) × Answers (λ last. last.at) (λ last ps. PositionsHeld rules size.value last.value tables.new ps) result
+        (positions_in bytes.now rules size.value size.at) }
 {
-    if !size.ok {
-        return PositionsRead { end: size, last: 0 };
-    }
-    let count = size.value;
     let mut last_ones: u64 = 0;
-    let mut next = size;
+    let mut next = size.at;
     let mut least: u64 = 0;
-    let mut i: u64 = 0;
-    while i < count {
-        let position = read_position(bytes, next, rules, count, least);
-        next = position.follow;
-        if !next.ok {
-            return PositionsRead {
-                end: next,
-                last: last_ones,
-            };
-        }
+    for i in 0..size.value {
+        let position = read_position(bytes, next, rules, size.value, least)?;
+        let follow = position.follow;
         let n = i as usize;
         let one = 1u64 << i;
         hold_position(
             position.low,
             position.high,
             position.rule,
-            next.value,
+            follow.value,
             n,
             one,
             tables,
         );
         last_ones = with_flag(last_ones, i, position.last);
         least = position.rule as u64;
-        i += 1;
+        next = follow.at;
     }
-    PositionsRead {
-        end: next,
-        last: last_ones,
-    }
+    Ok(Step {
+        value: last_ones,
+        at: next,
+    })
 }
 
 // A production's rule: `least` or above, and not skipping.
-fn read_rule(bytes: &[u8], from: Step, bounds: Bounds, least: u64) -> Step
+fn read_rule(bytes: &[u8], at: usize, bounds: Bounds, least: u64) -> Result<Step, Unreadable>
     requires { InBounds bounds }
-    ensures { (result.value < 32) × (after result (got result.value)
-        ≡ after from (image_field (λ v. between least (bounds.rules - 1) v && not (bit bounds.skips v)) bytes.now)) }
+    ensures { number_reading result
+        ≡ image_field (λ v. between least (bounds.rules - 1) v && not (bit bounds.skips v)) bytes.now at }
 {
-    let rule = read_next(bytes, from, least, bounds.rules - 1);
-    if !rule.ok {
-        return rule;
-    }
+    let rule = read_next(bytes, at, least, bounds.rules - 1)?;
     if sets::has(bounds.skips, rule.value as usize) {
-        return Step {
-            value: 0,
-            at: from.at,
-            ok: false,
-        };
+        return Err(Unreadable { place: at });
     }
-    rule
+    Ok(rule)
 }
 
 // A production.
-fn read_production(bytes: &[u8], from: Step, bounds: Bounds, least: u64) -> ProductionRead
+fn read_production(
+    bytes: &[u8],
+    at: usize,
+    bounds: Bounds,
+    least: u64,
+) -> Result<ProductionRead, Unreadable>
     requires { InBounds bounds }
-    ensures { Answers
-        (ProductionHeld bytes.now bounds.nonterminals least from.at result)
-        result.end
-        (after from (production_in bytes.now bounds least)) }
+    ensures { Answers (λ production. production.end)
+        (λ production p. ProductionHeld bytes.now bounds.nonterminals least at production p) result
+        (production_in bytes.now bounds least at) }
 {
-    let rule = read_rule(bytes, from, bounds, least);
-    let size = read_next(bytes, rule, 0, normal_form::MOST_TAIL);
-    let end = read_tail(bytes, size, bounds.nonterminals);
-    ProductionRead {
+    let rule = read_rule(bytes, at, bounds, least)?;
+    let size = read_next(bytes, rule.at, 0, normal_form::MOST_TAIL)?;
+    let end = read_tail(bytes, size, bounds.nonterminals)?;
+    Ok(ProductionRead {
         rule: rule.value,
         tail: rule.at,
         end,
-    }
+    })
 }
 
 // The entry for a tail whose length stands at a place of the row that starts at `start`: its two highest bits are the number of members,
@@ -301,7 +249,8 @@ fn tail_entry(bytes: &[u8], start: usize, place: usize) -> u16
     32768 + second * 64 + first
 }
 
-// As many productions of one nonterminal as `size` says, whose row starts at `start` and whose entries start at `base`.
+// As many productions of one nonterminal as `size` says, whose row starts at `start` and whose entries start at `base`, and where they
+// end.
 fn read_productions(
     bytes: &[u8],
     start: usize,
@@ -309,148 +258,114 @@ fn read_productions(
     bounds: Bounds,
     base: usize,
     table: &mut [u16; 2048],
-) -> Step
-    requires { InBounds bounds × (size.ok ≡ true → size.at ≡ start + 2) × (size.value ≤ 32)
+) -> Result<usize, Unreadable>
+    requires { InBounds bounds × (size.at ≡ start + 2) × (size.value ≤ 32)
         × (base + 32 ≤ 2048) × Room table.old base }
-    ensures { (length table.new ≡ 2048) × Answers
-        (ProductionsEntered bytes.now start bounds.nonterminals base table.old table.new)
-        result
-        (after size (productions_in bytes.now bounds size.value)) }
+    ensures { (length table.new ≡ 2048) × Answers (λ end. end)
+        (λ end ps. ProductionsEntered bytes.now start bounds.nonterminals base table.old table.new ps) result
+        (productions_in bytes.now bounds size.value size.at) }
 {
-    let count = size.value;
-    let mut next = size;
+    let mut next = size.at;
     let mut least: u64 = 0;
-    let mut i: u64 = 0;
-    while i < count {
-        let production = read_production(bytes, next, bounds, least);
-        next = production.end;
-        if !next.ok {
-            return next;
-        }
+    for i in 0..size.value {
+        let production = read_production(bytes, next, bounds, least)?;
         let rule = production.rule;
         let entry = tail_entry(bytes, start, production.tail);
         table[base + rule as usize] = entry;
         least = rule + 1;
-        i += 1;
+        next = production.end;
     }
-    next
+    Ok(next)
 }
 
 // The row of one nonterminal, whose entries start at `base`: its ε flag is the value.
-fn read_row(bytes: &[u8], from: Step, bounds: Bounds, base: usize, table: &mut [u16; 2048]) -> Step
+fn read_row(
+    bytes: &[u8],
+    at: usize,
+    bounds: Bounds,
+    base: usize,
+    table: &mut [u16; 2048],
+) -> Result<Step, Unreadable>
     requires { InBounds bounds × (base + 32 ≤ 2048) × Room table.old base }
-    ensures { (length table.new ≡ 2048) × Answers
-        (RowEntered bytes.now from.at bounds.nonterminals base table.old table.new result.value)
-        result
-        (after from (row_in bytes.now bounds)) }
+    ensures { (length table.new ≡ 2048) × Answers (λ row. row.at)
+        (λ row r. RowEntered bytes.now at bounds.nonterminals base table.old table.new row.value r) result
+        (row_in bytes.now bounds at) }
 {
-    let empty = read_next(bytes, from, 0, 1);
-    let count = read_next(bytes, empty, 0, 32);
-    let end = read_productions(bytes, from.at, count, bounds, base, table);
-    Step {
+    let empty = read_next(bytes, at, 0, 1)?;
+    let count = read_next(bytes, empty.at, 0, 32)?;
+    let end = read_productions(bytes, at, count, bounds, base, table)?;
+    Ok(Step {
         value: empty.value,
-        at: end.at,
-        ok: end.ok,
-    }
+        at: end,
+    })
 }
 
 // The rows of all nonterminals, and where each starts: the set of those with ε is the value.
 fn read_rows(
     bytes: &[u8],
-    from: Step,
+    at: usize,
     bounds: Bounds,
     tables: &mut [u64; 448],
     table: &mut [u16; 2048],
-) -> Step
-    requires { (0 < bounds.nonterminals → InBounds bounds) × (bounds.nonterminals ≤ 64)
-        × (length tables.old ≡ 448) × Room table.old 0 }
+) -> Result<Step, Unreadable>
+    requires { InBounds bounds × (length tables.old ≡ 448) × Room table.old 0 }
     ensures { (length tables.new ≡ 448) × SameBelow 384 tables.old tables.new
-        × (length table.new ≡ 2048) × Answers
-        (RowsHeld bytes.now bounds.nonterminals (drop 384 tables.new) table.new result.value)
-        result
-        (after from (read_list (row_in bytes.now bounds) bounds.nonterminals)) }
+        × (length table.new ≡ 2048) × Answers (λ empty. empty.at)
+        (λ empty rows. RowsHeld bytes.now bounds.nonterminals (drop 384 tables.new) table.new empty.value rows) result
+        (read_list (row_in bytes.now bounds) bounds.nonterminals at) }
 {
-    let count = bounds.nonterminals;
     let mut empty: u64 = 0;
-    let mut next = from;
-    let mut base: usize = 0;
-    let mut i: u64 = 0;
-    while i < count {
+    let mut next = at;
+    for i in 0..bounds.nonterminals {
         let n = i as usize;
-        tables[384 + n] = next.at as u64;
-        next = read_row(bytes, next, bounds, base, table);
-        if !next.ok {
-            return next;
-        }
-        empty = with_flag(empty, i, next.value);
-        base += 32;
-        i += 1;
+        tables[384 + n] = next as u64;
+        let row = read_row(bytes, next, bounds, n * 32, table)?;
+        empty = with_flag(empty, i, row.value);
+        next = row.at;
     }
-    Step {
+    Ok(Step {
         value: empty,
-        at: next.at,
-        ok: next.ok,
-    }
-}
-
-// The answer of question 13 at a place.
-fn refused(place: usize) -> ImageRead
-    ensures { result ≡ refused_at place }
-{
-    ImageRead {
-        outcome: Outcome::Refused(place),
-        rules: 0,
-        skips: 0,
-        last: 0,
-        first: 0,
-        nonterminals: 0,
-        empty: 0,
-    }
+        at: next,
+    })
 }
 
 // Reads an image: question 13, and the tables for the machine, into arrays that the caller has: the
 // columns of its positions, the start of each row, and the table of productions, which is all zero
 // before. After 13 the entries of both arrays stay free, and only their lengths are promised. What is
 // required is that the arrays hold nothing, so a caller clears them before it lends them here again.
-pub fn read_image(bytes: &[u8], tables: &mut [u64; 448], productions: &mut [u16; 2048]) -> ImageRead
+pub fn read_image(
+    bytes: &[u8],
+    tables: &mut [u64; 448],
+    productions: &mut [u16; 2048],
+) -> Result<ImageRead, Unreadable>
     requires { (length tables.old ≡ 448) × Holding [] tables.old × Room productions.old 0 }
     ensures { ImageAnswers bytes.now result
         tables.new productions.new
         (read_image bytes.now) }
 {
-    let start = Step {
-        value: 0,
-        at: 0,
-        ok: true,
-    };
-    let version = read_next(bytes, start, 1, 1);
-    let rules = read_next(bytes, version, 1, 32);
-    let skips = read_flags(bytes, rules);
-    let count = read_next(bytes, skips, 1, 64);
-    let positions = read_positions(bytes, count, rules.value, tables);
-    let end = positions.end;
-    let first = read_next(bytes, end, 0, sets::all_below(count.value as usize));
-    let nonterminals = read_next(bytes, first, 1, 64);
+    let version = read_next(bytes, 0, 1, 1)?;
+    let rules = read_next(bytes, version.at, 1, 32)?;
+    let skips = read_flags(bytes, rules)?;
+    let count = read_next(bytes, skips.at, 1, 64)?;
+    let last = read_positions(bytes, count, rules.value, tables)?;
+    let first = read_next(bytes, last.at, 0, sets::all_below(count.value as usize))?;
+    let nonterminals = read_next(bytes, first.at, 1, 64)?;
     let bounds = Bounds {
         rules: rules.value,
         skips: skips.value,
         nonterminals: nonterminals.value,
     };
-    let rows = read_rows(bytes, nonterminals, bounds, tables, productions);
-    if !rows.ok {
-        return refused(rows.at);
-    }
-    if rows.at != bytes.len() {
-        return refused(rows.at);
+    let empty = read_rows(bytes, nonterminals.at, bounds, tables, productions)?;
+    if empty.at != bytes.len() {
+        return Err(Unreadable { place: empty.at });
     }
     sweep(tables);
-    ImageRead {
-        outcome: Outcome::Readable,
+    Ok(ImageRead {
         rules: rules.value as usize,
         skips: skips.value,
-        last: positions.last,
+        last: last.value,
         first: first.value,
         nonterminals: nonterminals.value as usize,
-        empty: rows.value,
-    }
+        empty: empty.value,
+    })
 }

@@ -1,2 +1,2 @@
--- The laws that the functions' proofs cite: what is lent by a flag, what is built, and what a run leaves.
+-- The laws that the functions' proofs cite: what is built of the buffers, and what a run leaves.
 pub mod Laws

@@ -1,2 +1,3 @@
--- What code lends a run and what it has of it at the end.
+-- What a run returns and leaves, and what reading an image for it answers.
 pub mod Lending
+pub mod Reading

@@ -3,6 +3,7 @@ use mathlib.Core.Path.{◌≡◌, refl, ap, ◌∙◌}
 use mathlib.Core.List.{List, ◌++◌}
 use Prim.Native.Nat.{ℕ, ◌≤◌, ◌<◌}
 use native.Mathlib.Omega.{arith}
+use Rattle.std.specs.Prelude.{Result, Ok, Err}
 use lib.ListN.{length, drop}
 use borrow.Author.Tests.{le-leb, lt-leb}
 use Rattle.sheet.specs.Sheet.{Sheet}
@@ -20,7 +21,7 @@ use Rattle.sheet_checker.specs.Answer as checker
 use Rattle.sheet_checker.proofs.laws.AnswerLaws as checker_laws
 use Rattle.sheet_checker.specs.Steps.{PassedParts}
 use Rattle.sheet_checker.specs.declared.CheckedSheet.{CheckedSheet}
-use Rattle.sheet_checker.specs.declared.Verdict.TheVariants as verdict_case
+use Rattle.sheet_reader.specs.declared.Refusal.{Refusal}
 use Rattle.node_numbering.specs.Grammar.{GrammarOf}
 use Rattle.node_numbering.specs.laws.GrammarLaws.{grammar_from}
 use Rattle.node_numbering.proofs.laws.GrammarLaws.{grammar_of}
@@ -28,8 +29,8 @@ use Rattle.node_numbering.specs.declared.Grammar.{Grammar}
 use Rattle.image_encoder.specs.Parts.{PartsOf}
 use Rattle.image_writer.specs.Answer.{answer_of, case_of, Ends}
 use Rattle.image_writer.proofs.laws.AnswerLaws.{case_answer}
-use Rattle.image_writer.specs.declared.Written.{Written}
-use Rattle.image_writer.specs.declared.Written.TheVariants.{Done, TooLong, Refused}
+use Rattle.image_writer.specs.declared.WriteError.{WriteError}
+use Rattle.image_writer.specs.declared.WriteError.TheVariants.{TooLong, Refused}
 
 -- ---- what an image is made from
 
@@ -57,7 +58,7 @@ module _ (image buffer : List ℕ) where
   fits e h = omega arith
 
   pub ends_too_long : {needed : ℕ} → needed ≡ length image → length buffer < needed
-      → Ends (fitted (length buffer) image) (TooLong needed) buffer buffer
+      → Ends (fitted (length buffer) image) (Err (TooLong needed)) buffer buffer
   unfolding fitted case_of image_after
   ends_too_long e h =
       let l = lt-leb (length image) (length buffer) (omega arith) in
@@ -65,7 +66,7 @@ module _ (image buffer : List ℕ) where
 
   pub ends_written : {written : ℕ} {exit : List ℕ} → length image ≤ length buffer
       → (written ≡ length image) × (exit ≡ image ++ drop (length image) buffer)
-      → Ends (fitted (length buffer) image) (Done written) buffer exit
+      → Ends (fitted (length buffer) image) (Ok written) buffer exit
   unfolding fitted case_of image_after
   ends_written h e =
       let l = le-leb (length image) (length buffer) h in
@@ -74,18 +75,17 @@ module _ (image buffer : List ℕ) where
 -- ---- questions 1 to 10
 
 -- Checking named a question: writing refuses by it, and leaves the image buffer.
-pub ends_failed : (v : check.Verdict) (k : CheckedSheet) {question place : ℕ} (buffer : List ℕ) → checker.Ends v k
-    → k.verdict ≡ verdict_case.Refused question place → Ends (after_checking (length buffer) v) (Refused question place) buffer buffer
+pub ends_failed : (v : check.Verdict) {k : Result CheckedSheet Refusal} {refusal : Refusal} (buffer : List ℕ) → checker.Ends v k
+    → k ≡ Err refusal → Ends (after_checking (length buffer) v) (Err (Refused refusal)) buffer buffer
 unfolding after_checking case_of image_after
-ends_failed v k {question} {place} buffer h e =
-    rw (checker_laws.failed_by v k h e) (record { answer = refl; image = refl })
+ends_failed v buffer h e = rw (checker_laws.failed_by v h e) (record { answer = refl; image = refl })
 
-pub ends_passed : (v : check.Verdict) (s : Sheet) (room : ℕ) {r : Written} {entry exit : List ℕ} → v ≡ check.passed s
+pub ends_passed : (v : check.Verdict) (s : Sheet) (room : ℕ) {r : Result ℕ WriteError} {entry exit : List ℕ} → v ≡ check.passed s
     → Ends (fitted room (image_bytes (plain_image (image_sheet s)))) r entry exit → Ends (after_checking room v) r entry exit
 unfolding after_checking image_of
 ends_passed v s room e h = rw e h
 
 -- What writing promises, with the work area that it leaves.
-pub promised : {m : page.Written} {r : Written} {entry exit after : List ℕ} (work : List ℕ) → Ends m r entry exit → after ≡ check.work_after work
+pub promised : {m : page.Written} {r : Result ℕ WriteError} {entry exit after : List ℕ} (work : List ℕ) → Ends m r entry exit → after ≡ check.work_after work
     → (r ≡ case_of m) × (exit ≡ image_after m entry) × (after ≡ check.work_after work) × (answer_of r ≡ write_answer m)
 promised {m} work h w = (h.answer, h.image, w, ap answer_of h.answer ∙ case_answer m)

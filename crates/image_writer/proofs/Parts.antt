@@ -1,5 +1,5 @@
 -- The part of the image buffer that is handed back and the three numbers, for each case of the answer.
-use mathlib.Core.Path.{◌≡◌, refl, ap, ◌∙◌}
+use mathlib.Core.Path.{◌≡◌, refl, sym, ap, ◌∙◌}
 use mathlib.Core.List.{List, [], ◌∷◌, ◌++◌}
 use Prim.Native.Nat.{ℕ, ◌≤◌}
 use native.Mathlib.Omega.{arith}
@@ -8,13 +8,20 @@ use lib.Seq.{take-append_seam}
 use Rattle.image.specs.Write as page
 use Rattle.image.specs.Answer.{numbers_of}
 use Rattle.image.specs.Write.{write_answer, image_after, written_part}
-use Rattle.image_writer.specs.Answer.{case_of}
-use Rattle.image_writer.proofs.laws.AnswerLaws.{case_done, case_too_long, case_refused}
-use Rattle.image_writer.specs.declared.Written.TheVariants.{Done, TooLong, Refused}
+use Rattle.image_writer.specs.Answer.{answer_of, case_of}
+use Rattle.image_writer.proofs.laws.AnswerLaws.{case_done, case_answer}
+use Rattle.std.specs.Prelude.{Ok, Err}
+use Rattle.image_writer.specs.declared.WriteError.{WriteError}
+
+none_written : (m : page.Written) {error : WriteError} → case_of m ≡ Err error → [] ≡ written_part m
+unfolding written_part case_of
+none_written (page.refused number place) e = refl
+none_written (page.too_long needed) e = refl
+none_written (page.written image) e = cc
 
 module _ (m : page.Written) where
   -- What was written stands at the front of the buffer.
-  pub part_done : {written : ℕ} (entry exit : List ℕ) → case_of m ≡ Done written → exit ≡ image_after m entry
+  pub part_done : {written : ℕ} (entry exit : List ℕ) → case_of m ≡ Ok written → exit ≡ image_after m entry
       → (written ≤ length exit) × (take written exit ≡ written_part m) × (0 ∷ 0 ∷ written ∷ [] ≡ numbers_of (write_answer m))
   unfolding image_after written_part write_answer numbers_of
   part_done {written} entry exit e f = let d = case_done m e in made d.0 d.1 d.2
@@ -30,12 +37,6 @@ module _ (m : page.Written) where
           )
 
   -- Otherwise nothing is handed back.
-  pub part_too_long : {needed : ℕ} → case_of m ≡ TooLong needed
-      → ([] ≡ written_part m) × (11 ∷ 0 ∷ needed ∷ [] ≡ numbers_of (write_answer m))
-  unfolding written_part write_answer numbers_of
-  part_too_long e = rw (case_too_long m e) (refl, refl)
-
-  pub part_refused : {number place : ℕ} → case_of m ≡ Refused number place
-      → ([] ≡ written_part m) × (number ∷ place ∷ 0 ∷ [] ≡ numbers_of (write_answer m))
-  unfolding written_part write_answer numbers_of
-  part_refused e = rw (case_refused m e) (refl, refl)
+  pub part_error : {error : WriteError} → case_of m ≡ Err error
+      → ([] ≡ written_part m) × (numbers_of (answer_of (Err error)) ≡ numbers_of (write_answer m))
+  part_error {error} e = (none_written m e, ap numbers_of (sym (ap answer_of e) ∙ case_answer m))

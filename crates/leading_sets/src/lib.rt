@@ -2,38 +2,17 @@
 // positions, so that a set is answered byte by byte. Which set is asked for, and what becomes of the answer, is not here.
 #![tactic(auto)]
 
-ghost use Rattle.std.specs.Prelude.{◌≡◌, cond, List, ℕ, ◌*◌, ◌/◌, ◌%◌, ◌^◌, ◌≤◌, ◌<◌, drop};
-ghost use Rattle.lexer.specs.Alive.{meets};
+ghost use Rattle.std.specs.Prelude.{◌≡◌, List, ℕ, ◌*◌, ◌/◌, ◌%◌, ◌^◌, ◌≤◌, ◌<◌, drop};
 ghost use Rattle.leading_sets.specs.Leading.{leading, following, leading_and_following, set_of_word, UnionsBelow, Unions, Singles};
-
-// Whether two sets have a common member.
-fn shares(a: u64, b: u64) -> bool
-    ensures { result ≡ meets a b }
-{
-    a & b != 0
-}
-
-// A position as a set, or the empty set.
-fn one_if(test: bool, i: usize) -> u64
-    requires { i < 64 }
-    ensures { result ≡ cond test (2 ^ i) 0 }
-{
-    if test {
-        return 1u64 << i;
-    }
-    0
-}
 
 // The positions whose follow set has a member of this set. The machine's tables have the follow sets from word 256 on.
 fn leading_to(set: u64, tables: &[u64; 448]) -> u64
     ensures { result ≡ leading (drop 256 tables.now) set }
 {
     let mut found: u64 = 0;
-    let mut i: usize = 0;
-    while i < 64 {
-        let test = shares(tables[256 + i], set);
-        found |= one_if(test, i);
-        i += 1;
+    for i in 0..64 {
+        let leads = tables[256 + i] & set != 0;
+        found = sets::with(found, i, leads);
     }
     found
 }
@@ -54,10 +33,8 @@ fn singles_of(tables: &[u64; 448]) -> [u64; 128]
     ensures { Singles (drop 256 tables.now) result }
 {
     let mut singles = [0u64; 128];
-    let mut y: usize = 0;
-    while y < 128 {
+    for y in 0..128 {
         singles[y] = single_of(y, tables);
-        y += 1;
     }
     singles
 }
@@ -82,10 +59,8 @@ pub fn fill_unions(tables: &[u64; 448], unions: &mut [u64; 4096])
     ensures { Unions (drop 256 tables.now) unions.new }
 {
     let singles = singles_of(tables);
-    let mut k: usize = 0;
-    while k < 4096 {
+    for k in 0..4096 {
         unions[k] = word_of(k, unions, &singles);
-        k += 1;
     }
 }
 

@@ -1,16 +1,17 @@
 -- Lists that are written into a buffer one after the other, as the functions write them: there is
 -- room for each, and together they are the whole. On plain numbers and lists: nothing here speaks
 -- of the code.
-use mathlib.Core.Path.{◌≡◌, refl, ap, subst, ◌∙◌}
+use mathlib.Core.Path.{◌≡◌, refl, sym, ap, ◌∙◌}
 use mathlib.Core.List.{List, [], ◌∷◌, ◌++◌}
-use Prim.Native.Nat.{ℕ, suc, ◌+◌, ◌/◌, ◌%◌, ◌≤◌, ◌<◌}
+use Prim.Native.Nat.{ℕ, ◌+◌, ◌/◌, ◌%◌, ◌≤◌, ◌<◌}
 use native.Mathlib.Omega.{arith}
 use native.Mathlib.Nat.{zero-add}
 use native.Mathlib.Numerals.{add-one}
 use lib.ListN.{length, get_or, drop, set, length-append}
-use lib.Seq.{paste, paste-suc, length-paste, set_split, take-length}
+use lib.Seq.{set_split, drop-cons}
+use Rattle.std.proofs.lemmas.List.{drop_all}
 use Rattle.number.specs.Number.{splice}
-use Rattle.number.proofs.laws.Splice.{length-splice, splice-splice}
+use Rattle.number.proofs.laws.Splice.{length-splice, splice_nothing, splice-splice}
 use Rattle.lines.specs.declared.Line.{Line}
 use Rattle.lines.specs.declared.Line.TheVariants.{Sheet, Text, Accepted}
 use Rattle.lines.specs.Decimal.{digit, decimal}
@@ -22,22 +23,6 @@ use Rattle.lines.proofs.laws.DecimalLaws.{decimal_one, decimal-more}
 pub byte_put : (d : List ℕ) (at b : ℕ) → at < length d → set d at b ≡ splice d at (b ∷ [])
 unfolding splice
 byte_put d at b h = rw (add-one at) (set_split d at b h)
-
--- e is being copied over the front of d: in p, i bytes are in place.
-module _ (d e p : List ℕ) (i : ℕ) (ep : p ≡ paste d 0 e i) (room : length e ≤ length d) where
-  pub copied_length : i ≤ length e → length p ≡ length d
-  copied_length h = ap length ep ∙ length-paste d 0 e i (omega arith) h
-
-  pub copied_more : i < length e → set p i (get_or e i 0) ≡ paste d 0 e (i + 1)
-  copied_more h =
-      let next : set p (0 + i) (get_or e i 0) ≡ paste d 0 e (suc i) =
-      rw ep (paste-suc d 0 e i 0 (omega arith) h) in
-      rw (add-one i)
-      (subst (λ (n : ℕ). set p n (get_or e i 0) ≡ paste d 0 e (suc i)) (zero-add i) next)
-
-  pub copied_all : i ≡ length e → p ≡ splice d 0 e
-  unfolding splice
-  copied_all h = ep ∙ rw (h, take-length e)
 
 -- ---- two lists
 
@@ -65,26 +50,31 @@ module _ (d : List ℕ) (at : ℕ) {e f g : List ℕ} (j : Joined e f g)
       eq ∙ rw (ep, er, splice-splice d at e f (omega (arith, first_room)), j.is),
     )
 
--- The same from the buffer's front on.
-module _ (d : List ℕ) {e f g : List ℕ} (j : Joined e f g) (room : length g ≤ length d) where
-  room_0 : 0 + length g ≤ length d
-  room_0 = omega arith
+-- g is to be over the front of d. What is left of it is written into p from a place on.
+pub record Left (d g p : List ℕ) (at : ℕ) (rest : List ℕ) : Type 0 where
+  pub counted : at + length rest ≡ length g
+  pub long : length p ≡ length d
+  pub same : splice p at rest ≡ splice d 0 g
 
-  pub front_first : length e ≤ length d
-  front_first = omega (arith, first_room d 0 j room_0)
+module _ (d g : List ℕ) (room : length g ≤ length d) where
+  pub left_room : {p : List ℕ} {at : ℕ} {e f rest : List ℕ} → Joined e f rest → Left d g p at rest → at + length e ≤ length p
+  left_room {p} {at} {e} {f} j l =
+      omega (arith, l.counted, l.long, ap length j.is ∙ length-append e f)
 
-  module _ {r : ℕ} {p : List ℕ} (er : r ≡ length e) (ep : p ≡ splice d 0 e) where
-    er_0 : r ≡ 0 + length e
-    er_0 = omega arith
+  pub left_next : {p : List ℕ} {at : ℕ} {e f rest : List ℕ} → Joined e f rest → Left d g p at rest
+      → {r : ℕ} {q : List ℕ} → r ≡ at + length e → q ≡ splice p at e → Left d g q r f
+  left_next {p} {at} {e} {f} j l er eq =
+      let within = left_room j l in record {
+        counted = omega (arith, l.counted, ap length j.is ∙ length-append e f);
+        long = ap length eq ∙ length-splice p at e within ∙ l.long;
+        same = rw (eq, er, splice-splice p at e f (omega (arith, within))) (ap (splice p at) (sym j.is) ∙ l.same);
+      }
 
-    pub front_second : r + length f ≤ length p
-    front_second = second_room d 0 j room_0 er_0 ep
+  pub left_none : {p : List ℕ} {at : ℕ} → Left d g p at [] → (at ≡ length g) × (p ≡ splice d 0 g)
+  left_none {p} {at} l = (omega (arith, l.counted), sym (splice_nothing p at) ∙ l.same)
 
-    pub front_both : {s : ℕ} {q : List ℕ} → s ≡ r + length f → q ≡ splice p r f
-        → (s ≡ length g) × (q ≡ splice d 0 g)
-    front_both {s} {q} es eq =
-        let put = both_put d 0 j room_0 er_0 ep es eq in
-        (omega (arith, put.0), put.1)
+pub left_all : (d g : List ℕ) → Left d g d 0 g
+left_all d g = record { counted = omega arith; long = refl; same = refl }
 
 -- ---- what the functions join
 
@@ -94,14 +84,16 @@ higher_digits n h = record { is = decimal-more n h }
 pub blank_first : (n : ℕ) → Joined (32 ∷ []) (decimal n) (32 ∷ decimal n)
 blank_first n = record { is = refl }
 
-pub end_last : (n : ℕ) → Joined (32 ∷ decimal n) (10 ∷ []) (numbers_bytes (n ∷ []))
+-- At the i-th number of a list, what it makes and what the numbers after it make are left.
+pub number_at : (numbers : List ℕ) (i : ℕ) → i < length numbers
+    → Joined (32 ∷ decimal (get_or numbers i 0)) (numbers_bytes (drop (i + 1) numbers)) (numbers_bytes (drop i numbers))
 unfolding numbers_bytes
-end_last n = record { is = refl }
+number_at numbers i h = record { is = rw (drop-cons numbers i 0 h, add-one i) refl }
 
-pub number-first : (n : ℕ) (rest : List ℕ)
-    → Joined (32 ∷ decimal n) (numbers_bytes rest) (numbers_bytes (n ∷ rest))
+-- Past the last, the line end is left.
+pub end_at : (numbers : List ℕ) (i : ℕ) → length numbers ≤ i → Joined (10 ∷ []) [] (numbers_bytes (drop i numbers))
 unfolding numbers_bytes
-number-first n rest = record { is = refl }
+end_at numbers i h = record { is = rw (drop_all i numbers h) refl }
 
 pub word_first : (word rest : List ℕ) → Joined word rest (word ++ rest)
 word_first word rest = record { is = refl }
@@ -130,15 +122,15 @@ pub line_put : (l : Line) (e d : List ℕ) {r : ℕ} {p : List ℕ}
     → (r ≡ length (line_bytes l)) × (p ≡ line_bytes l ++ drop (length (line_bytes l)) d)
 line_put l e d is er ep = rw is (er, ep ∙ front_put d e)
 
-pub sheet_line : (l : Line) (number place : ℕ) → l ≡ Sheet number place
-    → line_bytes l ≡ sheet_word ++ numbers_bytes (number ∷ place ∷ [])
+pub sheet_line : (l : Line) (number place : ℕ) → l ≡ Sheet number place → {n : ℕ} → n ≡ number
+    → line_bytes l ≡ sheet_word ++ numbers_bytes (n ∷ place ∷ [])
 unfolding line_bytes
-sheet_line l number place e = rw e
+sheet_line l number place e same = rw (e, same)
 
-pub text_line : (l : Line) (number place : ℕ) → l ≡ Text number place
-    → line_bytes l ≡ text_word ++ numbers_bytes (number ∷ place ∷ [])
+pub text_line : (l : Line) (number place : ℕ) → l ≡ Text number place → {n : ℕ} → n ≡ number
+    → line_bytes l ≡ text_word ++ numbers_bytes (n ∷ place ∷ [])
 unfolding line_bytes
-text_line l number place e = rw e
+text_line l number place e same = rw (e, same)
 
 pub accepted_line : (l : Line) (count : ℕ) → l ≡ Accepted count
     → line_bytes l ≡ accepted_word ++ numbers_bytes (count ∷ [])

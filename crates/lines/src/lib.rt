@@ -34,12 +34,8 @@ fn put_word(buffer: &mut [u8], word: &[u8]) -> usize
     ensures { (result ≡ length word.now)
         × (buffer.new ≡ splice buffer.old 0 word.now) }
 {
-    let mut i: usize = 0;
-    while i < word.len() {
-        buffer[i] = word[i];
-        i += 1;
-    }
-    i
+    buffer[..word.len()].copy_from_slice(word);
+    word.len()
 }
 
 // And for the digits of a number.
@@ -66,37 +62,18 @@ fn put_number(buffer: &mut [u8], at: usize, n: u64) -> usize
     put_decimal(buffer, next, n)
 }
 
-// The same, and the line end.
-fn put_last(buffer: &mut [u8], at: usize, n: u64) -> usize
-    requires { at + length (numbers_bytes (n ∷ [])) ≤ length buffer.old }
-    ensures { (result ≡ at + length (numbers_bytes (n ∷ [])))
-        × (buffer.new ≡ splice buffer.old at (numbers_bytes (n ∷ []))) }
-{
-    let end = put_number(buffer, at, n);
-    put_byte(buffer, end, b'\n')
-}
-
-// A line of a word and a number, from the buffer's front on.
-fn put_one(buffer: &mut [u8], word: &[u8], n: u64) -> usize
-    requires { length (word.now ++ numbers_bytes (n ∷ [])) ≤ length buffer.old }
-    ensures { (result ≡ length (word.now ++ numbers_bytes (n ∷ [])))
+// A line of a word and numbers, from the buffer's front on.
+fn put_line(buffer: &mut [u8], word: &[u8], numbers: &[u64]) -> usize
+    requires { length (word.now ++ numbers_bytes numbers.now) ≤ length buffer.old }
+    ensures { (result ≡ length (word.now ++ numbers_bytes numbers.now))
         × (buffer.new ≡ splice buffer.old 0
-        (word.now ++ numbers_bytes (n ∷ []))) }
+        (word.now ++ numbers_bytes numbers.now)) }
 {
-    let at = put_word(buffer, word);
-    put_last(buffer, at, n)
-}
-
-// And of a word and two numbers.
-fn put_two(buffer: &mut [u8], word: &[u8], first: u64, second: u64) -> usize
-    requires { length (word.now ++ numbers_bytes (first ∷ second ∷ [])) ≤ length buffer.old }
-    ensures { (result ≡ length (word.now ++ numbers_bytes (first ∷ second ∷ [])))
-        × (buffer.new ≡ splice buffer.old 0
-        (word.now ++ numbers_bytes (first ∷ second ∷ []))) }
-{
-    let at = put_word(buffer, word);
-    let next = put_number(buffer, at, first);
-    put_last(buffer, next, second)
+    let mut at = put_word(buffer, word);
+    for n in numbers {
+        at = put_number(buffer, at, *n);
+    }
+    put_byte(buffer, at, b'\n')
 }
 
 // Writes a line over the front of a buffer in which every line has room, and answers how many bytes
@@ -107,8 +84,12 @@ pub fn write_line(line: Line, buffer: &mut [u8; MOST_LINE]) -> usize
         ++ drop (length (line_bytes line)) buffer.old) }
 {
     match line {
-        Line::Sheet(number, place) => put_two(buffer, b"sheet", number as u64, place as u64),
-        Line::Text(number, place) => put_two(buffer, b"text", number as u64, place as u64),
-        Line::Accepted(count) => put_one(buffer, b"accepted", count as u64),
+        Line::Sheet(number, place) => {
+            put_line(buffer, b"sheet", &[u64::from(number), place as u64])
+        }
+        Line::Text(number, place) => {
+            put_line(buffer, b"text", &[u64::from(number), place as u64])
+        }
+        Line::Accepted(count) => put_line(buffer, b"accepted", &[count as u64]),
     }
 }

@@ -1,4 +1,5 @@
 -- What is found by the rows of an image's table is the image's longest match. And turns by matches found ahead need no table.
+use Rattle.std.specs.Prelude.{Option, None, IsSome}
 use mathlib.Core.Path.{◌≡◌, sym, ap₂, subst, ◌∙◌}
 use mathlib.Core.Bool.{Bool, true, false}
 use mathlib.Core.List.{List, [], ◌∷◌, ◌++◌}
@@ -14,20 +15,44 @@ use Rattle.lexer.specs.Walk.{longest_match}
 use Rattle.table_scanner.specs.Rows.{RowsIn}
 use Rattle.table_scanner.proofs.laws.BuiltRows.{built-rows}
 use Rattle.scanner.specs.Meaning.{match_of}
-use Rattle.scanner.specs.declared.Found.{Found}
+use Rattle.scanner.specs.declared.Match.{Match}
 use Rattle.image.specs.Image.{Image}
 use Rattle.image.specs.ImageRanges.{InRange}
 use Rattle.machine.specs.Lent.{winners_of}
-use Rattle.image_reader.specs.Decoded.{ImageTables}
 use Rattle.machine_loop.specs.Built.{Built}
-use Rattle.machine_loop.specs.Prepared.{WithTables}
+use Rattle.machine_loop.specs.declared.Machine.{Machine}
+use Rattle.machine.specs.Trace.{Ended}
+use Rattle.machine_turn.specs.declared.State.{State}
+use Rattle.machine_turn.specs.laws.Going.{Going}
+use Rattle.machine_loop.specs.declared.Turns.{Turns}
+use Rattle.machine_loop.specs.declared.Turns.TheVariants.{Done, Reached, InVain}
+use Rattle.machine_loop.specs.Prepared.{tables_in, WithTables}
+use Rattle.machine_loop.specs.Turning.{TurnsLead}
 
-pub not-rows : ◌≡◌ {A = Bool} false true → ⊥
-not-rows e = let z : ◌≡◌ {A = ℕ} 0 1 = cc in absurd (omega arith)
+-- The same image without the scanner's table: it goes by no rows, and turns leave the same.
+module _ (m n : Machine) (e : n ≡ record m { scanner = None }) where
+  pub no_rows : IsSome n.scanner → ⊥
+  no_rows some = let z : ◌≡◌ {A = Bool} false true = subst (λ (x : Machine). IsSome x.scanner) e some in cc
 
-pub without_rows : {bytes table winners : List ℕ} {t : ImageTables} {by_rows : Bool} {i : Image} → WithTables bytes t by_rows table winners i
-    → WithTables bytes t false table winners i
-without_rows w = record { decoded = w.decoded; in_range = w.in_range; built = λ e. absurd (not-rows e) }
+  pub without_rows : {i : Image} → WithTables m i → WithTables n i
+  without_rows {i} w =
+      subst (λ (x : Machine). WithTables x i) (sym e) (record { decoded = w.decoded; in_range = w.in_range; built = λ h. cc })
+
+  module _ (i : Image) (text : List ℕ) (whole : Ended) where
+    pub same_going : {stack : List ℕ} {s : State} → Going i m.image.now (tables_in m) text stack s whole
+        → Going i n.image.now (tables_in n) text stack s whole
+    same_going {stack} {s} g = subst (λ (x : Machine). Going i x.image.now (tables_in x) text stack s whole) (sym e) g
+
+    pub same_lead : (place : ℕ) (matches : List ℕ) (to stop : ℕ) (stack : List ℕ) (turned : Turns)
+        → TurnsLead i n text place matches to stop whole stack turned → TurnsLead i m text place matches to stop whole stack turned
+    same_lead place matches to stop stack turned l =
+        go turned (subst (λ (x : Machine). TurnsLead i x text place matches to stop whole stack turned) e l)
+      where
+        go : (turned : Turns) → TurnsLead i (record m { scanner = None }) text place matches to stop whole stack turned
+            → TurnsLead i m text place matches to stop whole stack turned
+        go (Done a) l = l
+        go (Reached s) l = l
+        go (InVain s k) l = l
 
 all_entries : (bound : ℕ) (l : List ℕ) → ((j : ℕ) → get_or l j 0 < bound) → All (λ b. b < bound) l
 all_entries bound [] f = tt
@@ -48,7 +73,7 @@ module _ (i : Image) (range : InRange i) (table winners : List ℕ) (built : Bui
       (subst (λ (l : List ℕ). 65536 ≤ length l) built.entries built.long_table)
       (subst (λ (l : List ℕ). 256 ≤ length l) built.row_winners built.long_winners)))
 
-  pub found_by_rows : (text : List ℕ) → ((j : ℕ) → get_or text j 0 < row_entries) → (f : Found) → match_of f ≡ match_by_rows table winners text
+  pub found_by_rows : (text : List ℕ) → ((j : ℕ) → get_or text j 0 < row_entries) → (f : Option Match) → match_of f ≡ match_by_rows table winners text
       → match_of f ≡ longest_match i.positions i.first text
   found_by_rows text bytes f e =
       e

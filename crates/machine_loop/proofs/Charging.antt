@@ -1,4 +1,5 @@
 -- Turns by walks that are made again where they are in vain, as the code goes: at the start, and after one more walk in vain.
+use Rattle.std.specs.Prelude.{Option, Some, None}
 use mathlib.Core.Path.{◌≡◌, refl, sym, ap, subst, ◌∙◌}
 use mathlib.Core.Bool.{Bool, true, false, cond}
 use mathlib.Core.List.{List, [], ◌∷◌}
@@ -12,8 +13,7 @@ use Rattle.lexer.proofs.laws.AliveLaws.{walk_bytes_most, walk-front}
 use Rattle.lexer.proofs.laws.VainLaws.{match_or-vain}
 use Rattle.lexer.proofs.laws.LongestMatchLaws.{match_within}
 use Rattle.scanner.specs.Meaning.{match_of}
-use Rattle.scanner.specs.declared.Found.{Found}
-use Rattle.scanner.specs.declared.Found.TheVariants as found
+use Rattle.scanner.specs.declared.Match.{Match}
 use Rattle.image.specs.Image.{Image}
 use Rattle.machine.specs.Trace.{match_at}
 use Rattle.machine.specs.Work.{charge, budget, TurnsTo, none_yet, one_more}
@@ -37,11 +37,11 @@ unfolding vain_bytes vain walk_bytes longest_match walk match_bytes
 none-at_end i text p h = rw (drop_of_length-le text {i = p} h)
 
 -- A match within a text of at most so many bytes has its word.
-pub word_fits : (i : Image) (text : List ℕ) (f : Found) → match_of f ≡ longest_match i.positions i.first text → length text ≤ 1048576 → WordFits f
+pub word_fits : (i : Image) (text : List ℕ) (f : Option Match) → match_of f ≡ longest_match i.positions i.first text → length text ≤ 1048576 → WordFits f
 unfolding match_of
-word_fits i text found.Nothing e h = tt
-word_fits i text (found.Rule rule n) e h =
-    let w = match_within i.positions i.first text rule n (sym e) in
+word_fits i text None e h = tt
+word_fits i text (Some m) e h =
+    let w = match_within i.positions i.first text m.rule m.length (sym e) in
     (omega (arith, w.0), omega (arith, w.1))
 
 module _ (i : Image) (text : List ℕ) where

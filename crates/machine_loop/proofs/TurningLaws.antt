@@ -14,9 +14,9 @@ use Rattle.image.specs.Image.{Image}
 use Rattle.machine.specs.Trace.{match_at, Ended}
 use Rattle.machine.specs.Work.{charge, TurnsTo, one_more}
 use Rattle.alive_scanner.specs.Ahead.{Ahead}
-use Rattle.image_reader.specs.Decoded.{ImageTables}
 use Rattle.machine_loop.specs.declared.Turns.{Turns}
 use Rattle.machine_loop.specs.declared.Turns.TheVariants.{Done, Reached, InVain}
+use Rattle.machine_loop.specs.declared.Machine.{Machine}
 use Rattle.machine_loop.specs.Turning.{ChargedAt, Charged, TurnsLead, NotInVain}
 
 module _ (i : Image) (text matches : List ℕ) where
@@ -65,8 +65,8 @@ module _ (i : Image) (text matches : List ℕ) where
   charged_at p v (word ∷ words) z c = c.0
 
 -- Matches found ahead that lead to where the turns end leave no walk to be made, so that none is in vain.
-pub no_walk : (i : Image) (bytes : List ℕ) (t : ImageTables) (text : List ℕ) (place : ℕ) (matches : List ℕ) (stop : ℕ) (whole : Ended) (stack : List ℕ)
-    (turned : Turns) → TurnsLead i bytes t text place matches stop stop whole stack turned → NotInVain turned
-no_walk i bytes t text place matches stop whole stack (Done a) l = tt
-no_walk i bytes t text place matches stop whole stack (Reached s) l = tt
-no_walk i bytes t text place matches stop whole stack (InVain s n) l = absurd (omega (arith, l.1, l.2))
+pub no_walk : (i : Image) (m : Machine) (text : List ℕ) (place : ℕ) (matches : List ℕ) (stop : ℕ) (whole : Ended) (stack : List ℕ)
+    (turned : Turns) → TurnsLead i m text place matches stop stop whole stack turned → NotInVain turned
+no_walk i m text place matches stop whole stack (Done a) l = tt
+no_walk i m text place matches stop whole stack (Reached s) l = tt
+no_walk i m text place matches stop whole stack (InVain s n) l = absurd (omega (arith, l.1, l.2))

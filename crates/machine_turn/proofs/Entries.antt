@@ -1,4 +1,5 @@
 -- What the functions that go through the pending nonterminals answer, from the first on: the taker, and whether all are nullable.
+use Rattle.std.specs.Prelude.{Option, Some, None}
 use mathlib.Core.Path.{◌≡◌, refl, sym, ap, ◌∙◌}
 use mathlib.Core.Bool.{Bool, true, false, ◌&&◌}
 use mathlib.Core.List.{List}
@@ -11,24 +12,26 @@ use Rattle.machine_turn.specs.Stack.{pending}
 use Rattle.machine_turn.proofs.laws.StackLaws.{pending-stacked}
 use Rattle.machine_turn.specs.Steps.{taker, all_members}
 use Rattle.machine_turn.specs.declared.Taker.{Taker}
-use Rattle.machine_turn.specs.declared.Taker.TheVariants.{Nothing, At}
 
 -- ---- the taker, from the first on
 
 module _ (productions : List ℕ) (empty : ℕ) (stack : List ℕ) (rule : ℕ) where
+  abbrev taker_at : ℕ → ℕ → Taker
+  taker_at below n = record { below = below; nonterminal = n; entry = get_or productions (n * 32 + rule) 0 }
+
   abbrev entry_of : ℕ → ℕ
   entry_of n = get_or productions (n * 32 + rule) 0
 
-  found_first : (below n : ℕ) → (entry_of n ≡ 0 → ⊥) → At below n (entry_of n) ≡ taker productions empty stack (suc below) n rule
+  found_first : (below n : ℕ) → (entry_of n ≡ 0 → ⊥) → Some (taker_at below n) ≡ taker productions empty stack (suc below) n rule
   unfolding taker
   found_first below n e = rw (ne_eqb (entry_of n) 0 e)
 
-  stops_first : (below n : ℕ) → entry_of n ≡ 0 → bit empty n ≡ false → Nothing ≡ taker productions empty stack (suc below) n rule
+  stops_first : (below n : ℕ) → entry_of n ≡ 0 → bit empty n ≡ false → None ≡ taker productions empty stack (suc below) n rule
   unfolding taker
   stops_first below n e f = rw (eq-eqb (entry_of n) 0 e, f)
 
   passes_first : (below n : ℕ) → entry_of n ≡ 0 → bit empty n ≡ true
-      → (t : Taker) → taker productions empty stack below (get_or stack below 0) rule ≡ t
+      → (t : Option Taker) → taker productions empty stack below (get_or stack below 0) rule ≡ t
       → taker productions empty stack (suc below) n rule ≡ t
   unfolding taker
   passes_first below n e f t g = rw (eq-eqb (entry_of n) 0 e, f) g
@@ -38,18 +41,18 @@ module _ (productions : List ℕ) (empty : ℕ) (stack : List ℕ) (rule : ℕ) 
   before_first depth n k = let e : suc (depth - 1) ≡ depth = omega arith in ap (λ (d : ℕ). taker productions empty stack d n rule) e
 
   pub taker_found : (depth n : ℕ) → 0 < depth → (entry_of n ≡ 0 → ⊥)
-      → At (depth - 1) n (entry_of n) ≡ taker productions empty stack depth n rule
+      → Some (taker_at (depth - 1) n) ≡ taker productions empty stack depth n rule
   taker_found depth n k e = found_first (depth - 1) n e ∙ before_first depth n k
 
   pub taker_stops : (depth n : ℕ) → 0 < depth → entry_of n ≡ 0 → bit empty n ≡ false
-      → Nothing ≡ taker productions empty stack depth n rule
+      → None ≡ taker productions empty stack depth n rule
   taker_stops depth n k e f = stops_first (depth - 1) n e f ∙ before_first depth n k
 
   pub taker_passes : (depth n : ℕ) → 0 < depth → entry_of n ≡ 0 → bit empty n ≡ true
       → taker productions empty stack (depth - 1) (get_or stack (depth - 1) 0) rule ≡ taker productions empty stack depth n rule
   taker_passes depth n k e f = sym (passes_first (depth - 1) n e f _ refl) ∙ before_first depth n k
 
-  pub taker-none : (depth n : ℕ) → depth ≤ 0 → Nothing ≡ taker productions empty stack depth n rule
+  pub taker-none : (depth n : ℕ) → depth ≤ 0 → None ≡ taker productions empty stack depth n rule
   unfolding taker
   taker-none zero n k = refl
   taker-none (suc depth) n k = absurd (omega arith)

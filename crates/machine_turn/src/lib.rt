@@ -11,10 +11,10 @@ ghost use Rattle.image_reader.specs.Tables.{part, entry_tail, EntryTail};
 ghost use Rattle.machine_turn.specs.Steps.{run_answer, state_at, MatchFits};
 ghost use Rattle.machine_turn.specs.Steps.{taker, replaced, all_members, end_answer, take_step, turn_step};
 
-use scanner::Found;
+use scanner::Match;
 
 // What a run returns.
-#[derive(Clone, Copy)]
+#[derive(Clone, Copy, PartialEq, Eq)]
 pub struct RunAnswer {
     pub number: u8,
     pub place: usize,
@@ -23,9 +23,10 @@ pub struct RunAnswer {
 
 // The pending nonterminal that takes a rule: how many are pending behind it, itself, and its entry in the table of productions.
 #[derive(Clone, Copy)]
-enum Taker {
-    Nothing,
-    At(usize, u8, u16),
+struct Taker {
+    below: usize,
+    nonterminal: u8,
+    entry: u16,
 }
 
 // What a take leaves: so many pending nonterminals, and the first; or no pending nonterminal takes the rule; or the stack does not hold
@@ -45,13 +46,6 @@ pub struct State {
     pub depth: usize,
     pub first: u8,
     pub count: usize,
-}
-
-// What a turn leaves: the state from which to go on, or the answer.
-#[derive(Clone, Copy)]
-pub enum Turn {
-    Next(State),
-    Done(RunAnswer),
 }
 
 pub fn answer(number: u8, place: usize, count: usize) -> RunAnswer
@@ -84,24 +78,26 @@ fn find_taker(
     depth: usize,
     first: u8,
     rule: u8,
-) -> Taker
+) -> Option<Taker>
     requires { (rule < 32) × (depth ≤ length stack.now) × All (λ m. m < 64) (pending stack.now depth first) }
     ensures { result ≡ taker productions.now empty stack.now depth first rule }
 {
-    let mut left = depth;
     let mut nonterminal = first;
-    while 0 < left {
-        left -= 1;
+    for below in (0..depth).rev() {
         let entry = productions[nonterminal as usize * 32 + rule as usize];
         if entry != 0 {
-            return Taker::At(left, nonterminal, entry);
+            return Some(Taker {
+                below,
+                nonterminal,
+                entry,
+            });
         }
         if !sets::has(empty, nonterminal as usize) {
-            return Taker::Nothing;
+            return None;
         }
-        nonterminal = stack[left];
+        nonterminal = stack[below];
     }
-    Taker::Nothing
+    None
 }
 
 // Writes a tail of so many members over the entries from `base` on, its first member on top.
@@ -109,10 +105,8 @@ fn push_tail(image: &[u8], at: usize, size: usize, stack: &mut [u8], base: usize
     requires { (at + size ≤ length image.now) × (base + size ≤ length stack.old) }
     ensures { stack.new ≡ pushed stack.old base (part image.now at size) }
 {
-    let mut left = size;
     let mut top = base;
-    while 0 < left {
-        left -= 1;
+    for left in (0..size).rev() {
         stack[top] = image[at + left];
         top += 1;
     }
@@ -182,15 +176,15 @@ fn take_rule(
         depth first rule).stack) }
 {
     let found = find_taker(productions, empty, stack, depth, first, rule);
-    let Taker::At(below, nonterminal, entry) = found else {
+    let Some(taker) = found else {
         return Taken::NoTaker;
     };
-    let n = nonterminal as usize;
+    let n = taker.nonterminal as usize;
     let start = tables[384 + n];
-    replace_taker(image, start as usize, entry, stack, below)
+    replace_taker(image, start as usize, taker.entry, stack, taker.below)
 }
 
-// One turn: what matched at the state's place is skipped, taken or refused.
+// One turn: what matched at the state's place is skipped, taken or refused. A refusal is an Err, and is the run's answer.
 pub fn one_turn(
     image: &[u8],
     tables: &[u64; 448],
@@ -198,9 +192,9 @@ pub fn one_turn(
     empty: u64,
     skips: u64,
     stack: &mut [u8],
-    found: Found,
+    found: Option<Match>,
     state: State,
-) -> Turn
+) -> Result<State, RunAnswer>
     requires { MatchFits found state
         × ((rows : List Row) × (k : ℕ)
         × Ready image.now (drop 384 tables.now) productions.now empty rows k stack.old state.depth state.first) }
@@ -210,12 +204,12 @@ pub fn one_turn(
         ≡ (turn_step image.now (drop 384 tables.now) productions.now empty skips stack.old
         found state).stack) }
 {
-    let Found::Rule(rule, n) = found else {
-        return Turn::Done(answer(14, state.place, state.count));
+    let Some(matched) = found else {
+        return Err(answer(14, state.place, state.count));
     };
-    if sets::has(skips, rule as usize) {
-        return Turn::Next(State {
-            place: state.place + n,
+    if sets::has(skips, matched.rule as usize) {
+        return Ok(State {
+            place: state.place + matched.length,
             depth: state.depth,
             first: state.first,
             count: state.count,
@@ -229,14 +223,14 @@ pub fn one_turn(
         stack,
         state.depth,
         state.first,
-        rule,
+        matched.rule,
     );
     match taken {
-        Taken::NoTaker => return Turn::Done(answer(15, state.place, state.count)),
-        Taken::TooDeep => return Turn::Done(answer(17, state.place, state.count)),
+        Taken::NoTaker => return Err(answer(15, state.place, state.count)),
+        Taken::TooDeep => return Err(answer(17, state.place, state.count)),
         Taken::Pending(depth, first) => {
-            return Turn::Next(State {
-                place: state.place + n,
+            return Ok(State {
+                place: state.place + matched.length,
                 depth,
                 first,
                 count: state.count + 1,
@@ -250,14 +244,12 @@ fn all_nullable(empty: u64, stack: &[u8], depth: usize, first: u8) -> bool
     requires { (depth ≤ length stack.now) × All (λ m. m < 64) (pending stack.now depth first) }
     ensures { result ≡ all_members empty (pending stack.now depth first) }
 {
-    let mut left = depth;
     let mut nonterminal = first;
-    while 0 < left {
-        left -= 1;
+    for below in (0..depth).rev() {
         if !sets::has(empty, nonterminal as usize) {
             return false;
         }
-        nonterminal = stack[left];
+        nonterminal = stack[below];
     }
     true
 }

@@ -1,7 +1,6 @@
 -- The first turn and the end of the pass: what holds before it begins, and that its links are then the definition's.
 use mathlib.Core.Path.{◌≡◌, refl, sym, ap, subst, ◌∙◌}
 use mathlib.Core.List.{List, [], ◌∷◌, append-nil, map}
-use mathlib.Core.Logic.{inr}
 use Prim.Native.Nat.{ℕ, ◌+◌, ◌<◌}
 use native.Mathlib.Numerals.{add-one}
 use native.Mathlib.Omega.{arith}
@@ -52,7 +51,7 @@ unfolding nodes
 walking_first c s = record {
   parts = s.expression ∷ [];
   walked = record {
-    fit = (record { closed = s.closed; guarded_open = omega arith; within = omega arith; parent_past = inr (omega arith) }, tt);
+    fit = (record { closed = s.closed; guarded_open = omega arith; within = omega arith; parent_past = tt }, tt);
     items_left = sym (append-nil (expression_items_of s.expression));
     nodes_left = sym (append-nil (nodes_from s.expression 0 []));
     done = λ q l. absurd (omega arith);

@@ -1,5 +1,4 @@
 -- Laws that the proofs of the functions cite.
-pub mod Stored
 pub mod Turn
 pub mod Parts
 pub mod Completed

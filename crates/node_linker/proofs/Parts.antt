@@ -2,9 +2,9 @@
 -- expressions: it has their open fixed points, and the stack.
 use mathlib.Core.Path.{◌≡◌, refl, ap, ap₂, ◌∙◌}
 use mathlib.Core.List.{List, [], ◌∷◌, ◌++◌, map}
-use mathlib.Core.Logic.{◌⊎◌, inl, inr, ⊎_elim}
 use Prim.Native.Nat.{ℕ, zero, suc, ◌+◌, ◌-◌, ◌≤◌, ◌<◌}
 use native.Mathlib.Omega.{arith}
+use Rattle.std.specs.Prelude.{Option, Some, None}
 use lib.Dec.{ltb}
 use lib.ListN.{get_or, set, length}
 use lib.Seq.{get_or-set_same, get_or-set_other}
@@ -15,22 +15,22 @@ use Rattle.sheet.specs.laws.ExpressionItems.{expression_items_of}
 use Rattle.sheet.specs.WellFormed.{Closed}
 use Rattle.types.specs.Nodes.{Node, Binder, no_binder, guard, nodes_from}
 use Rattle.node_linker.specs.declared.Due.{Due}
-use Rattle.node_linker.specs.Walking.{due}
+use Rattle.node_linker.specs.Walking.{due, ParentBelow}
 
 -- ---- the stack
 
 -- The lowest so many entries, the top first.
 abbrev pub pending : List Due → ℕ → List Due
 pending stack zero = []
-pending stack (suc k) = get_or stack k (due 0 0 0) ∷ pending stack k
+pending stack (suc k) = get_or stack k (due 0 0 None) ∷ pending stack k
 
 pending-set : (stack : List Due) (k h : ℕ) (x : Due) → k ≤ h → pending (set stack h x) k ≡ pending stack k
 pending-set stack zero h x l = refl
 pending-set stack (suc k) h x l =
-    ap₂ ◌∷◌ (get_or-set_other stack h k x (due 0 0 0) (λ e. omega arith)) (pending-set stack k h x (omega arith))
+    ap₂ ◌∷◌ (get_or-set_other stack h k x (due 0 0 None) (λ e. omega arith)) (pending-set stack k h x (omega arith))
 
 pub pending_push : (stack : List Due) (h : ℕ) (x : Due) → h < length stack → pending (set stack h x) (suc h) ≡ x ∷ pending stack h
-pending_push stack h x l = ap₂ ◌∷◌ (get_or-set_same stack h x (due 0 0 0) l) (pending-set stack h h x (omega arith))
+pending_push stack h x l = ap₂ ◌∷◌ (get_or-set_same stack h x (due 0 0 None) l) (pending-set stack h h x (omega arith))
 
 -- ---- open fixed points
 
@@ -76,7 +76,11 @@ pub record DueFits (tokens i most : ℕ) (g : Expression) (d : Due) : Type 0 whe
   pub closed : Closed tokens d.depth g
   pub guarded_open : d.guarded ≤ d.depth
   pub within : d.depth ≤ most
-  pub parent_past : (d.parent < i) ⊎ (64 ≤ d.parent)
+  pub parent_past : ParentBelow i d.parent
+
+pub parent_more : (parent : Option ℕ) (i j : ℕ) → i ≤ j → ParentBelow i parent → ParentBelow j parent
+parent_more None i j l h = tt
+parent_more (Some p) i j l h = omega arith
 
 -- All of them, none inside fewer open fixed points than those that come later.
 abbrev pub DuesFit : ℕ → ℕ → ℕ → List Expression → List Due → Type 0
@@ -93,7 +97,7 @@ dues_on tokens i j most more (g ∷ gs) (d ∷ ds) l m h = (
     closed = h.0.closed;
     guarded_open = h.0.guarded_open;
     within = omega (arith, h.0.within);
-    parent_past = ⊎_elim (λ p. inl (omega arith)) inr h.0.parent_past;
+    parent_past = parent_more d.parent i j l h.0.parent_past;
   },
   dues_on tokens i j d.depth d.depth gs ds l (omega arith) h.1,
 )

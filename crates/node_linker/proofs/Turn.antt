@@ -3,6 +3,7 @@ use mathlib.Core.Path.{◌≡◌, ap}
 use mathlib.Core.List.{List}
 use Prim.Native.Nat.{ℕ, suc, ◌+◌, ◌-◌, ◌<◌}
 use native.Mathlib.Omega.{arith}
+use Rattle.std.specs.Prelude.{None}
 use lib.ListN.{get_or, set, replicate}
 use Rattle.node_linker.specs.declared.Due.{Due}
 use Rattle.node_linker.specs.declared.NodeParts.{NodeParts}
@@ -26,11 +27,11 @@ first_walk d = walk (replicate 64 0) 0 (replicate 64 0) (replicate 64 d) 1
 
 -- It is the whole: no fixed point is open, and it is no right part.
 abbrev pub whole : Due
-whole = due 0 0 64
+whole = due 0 0 None
 
 -- The entry at this place of the stack, and the expression that comes next.
 abbrev pub due_at : Walk → ℕ → Due
-due_at w top = get_or w.stack top (due 0 0 0)
+due_at w top = get_or w.stack top (due 0 0 None)
 
 abbrev pub next_due : Walk → Due
 next_due w = due_at w (w.height - 1)

@@ -2,15 +2,15 @@
 use mathlib.Core.Path.{◌≡◌, refl, sym, ap, ap₂, ◌∙◌}
 use mathlib.Core.Bool.{false}
 use mathlib.Core.List.{List, ◌∷◌, ◌++◌, append_assoc, map}
-use mathlib.Core.Logic.{inl, inr}
 use Prim.Native.Nat.{ℕ, suc, ◌+◌, ◌-◌, ◌^◌, ◌≤◌, ◌<◌}
 use native.Mathlib.Numerals.{add-one}
 use native.Mathlib.Omega.{arith}
+use Rattle.std.specs.Prelude.{Some, None}
 use native.Mathlib.Nat.{pow-suc}
 use lib.Dec.{ltb}
 use lib.ListN.{get_or, set, length-set}
 use lib.Seq.{get_or-set_same}
-use borrow.Author.Tests.{lt-ltb, le-ltb}
+use borrow.Author.Tests.{le-ltb}
 use Rattle.sheet.specs.Expression.{Expression, epsilon, bottom, token, sequence, alternative, fixed_point, variable, repetition, size}
 use Rattle.sheet.specs.Items.{ExpressionItem, epsilon_item, bottom_item, token_item, sequence_item, alternative_item, fixed_point_item, variable_item, repetition_item}
 use Rattle.sheet.specs.laws.ExpressionItems.{expression_items_of}
@@ -70,7 +70,7 @@ module _ (tokens : ℕ) (tag : List ℕ) (items : List ExpressionItem) (ns : Lis
 
   -- The left part and the right part, of whose open fixed points so many are guarded.
   abbrev parts : ℕ → List Due
-  parts right_guarded = due d.depth d.guarded 64 ∷ due d.depth right_guarded i ∷ ds
+  parts right_guarded = due d.depth d.guarded None ∷ due d.depth right_guarded (Some i) ∷ ds
 
   parts_fit : (whole g h : Expression) (right_guarded : ℕ) → Before whole → Closed tokens d.depth g → Closed tokens d.depth h
       → right_guarded ≤ d.depth → DuesFit tokens (suc i) (suc i) (g ∷ h ∷ gs) (parts right_guarded)
@@ -79,16 +79,16 @@ module _ (tokens : ℕ) (tag : List ℕ) (items : List ExpressionItem) (ns : Lis
       closed = left;
       guarded_open = before.fit.0.guarded_open;
       within = omega (arith, before.fit.0.within);
-      parent_past = inr (omega arith);
+      parent_past = tt;
     },
-    (record { closed = right; guarded_open = l; within = omega arith; parent_past = inl (omega arith) }, rest_fit whole before),
+    (record { closed = right; guarded_open = l; within = omega arith; parent_past = omega arith }, rest_fit whole before),
   )
 
   parts_completed : (g h : Expression) (right_guarded : ℕ) → completed here_linked (suc i) (g ∷ h ∷ gs) (parts right_guarded)
       ≡ completed (set here_linked i (suc i + size g)) (i + (1 + (size g + size h))) gs ds
   unfolding linked
   parts_completed g h right_guarded =
-      rw (lt-ltb i 64 small) (ap (λ (n : ℕ). completed (set here_linked i (suc i + size g)) n gs ds) (omega arith))
+      (ap (λ (n : ℕ). completed (set here_linked i (suc i + size g)) n gs ds) (omega arith))
 
   parts_nodes : (x : Node) (g h : Expression) (right_guarded : ℕ) (bs : List Binder) → bs ≡ binders owner d.depth right_guarded
       → (x ∷ (nodes_from g (suc i) (binders owner d.depth d.guarded) ++ nodes_from h (suc i + size g) bs))
@@ -130,10 +130,10 @@ module _ (tokens : ℕ) (tag : List ℕ) (items : List ExpressionItem) (ns : Lis
       (sym (binders-set owner d.depth d.guarded d.depth i (omega arith)))
 
   pub walked_fixed_point : (g : Expression) → Before (fixed_point g) → get_or tag i 0 ≡ 5
-      → After here_linked guarded (set owner d.depth i) (due (suc d.depth) d.guarded 64 ∷ ds) (g ∷ gs)
+      → After here_linked guarded (set owner d.depth i) (due (suc d.depth) d.guarded None ∷ ds) (g ∷ gs)
   unfolding expression_items_of nodes_from size node_of linked
   walked_fixed_point g before t = unlinked tokens tag items ns i link guarded owner d ds (fixed_point g) gs before small fixed_point_item
-      (fixed_point_node (suc i)) (set owner d.depth i) (due (suc d.depth) d.guarded 64 ∷ ds) (g ∷ gs)
+      (fixed_point_node (suc i)) (set owner d.depth i) (due (suc d.depth) d.guarded None ∷ ds) (g ∷ gs)
       refl
       (ap (λ (l : List Node). fixed_point_node (suc i) ∷ l) (ap₂ ◌++◌ (ap (nodes_from g (suc i)) (body_binders g before))
       (ap (λ (n : ℕ). nodes_due owner n gs ds) (omega arith)
@@ -142,7 +142,7 @@ module _ (tokens : ℕ) (tag : List ℕ) (items : List ExpressionItem) (ns : Lis
           closed = before.fit.0.closed;
           guarded_open = omega (arith, before.fit.0.guarded_open);
           within = omega (arith, before.fit.0.within);
-          parent_past = inr (omega arith);
+          parent_past = tt;
         },
         dues_on tokens i (suc i) d.depth (suc d.depth) gs ds (omega arith) (omega arith) before.fit.1,
       )
@@ -167,17 +167,17 @@ module _ (tokens : ℕ) (tag : List ℕ) (items : List ExpressionItem) (ns : Lis
 
   -- The part, with the same fixed points open, as many of them guarded.
   pub walked_repetition : (g : Expression) → Before (repetition g) → get_or tag i 0 ≡ 7
-      → After (set here_linked i i) guarded owner (due d.depth d.guarded 64 ∷ ds) (g ∷ gs)
+      → After (set here_linked i i) guarded owner (due d.depth d.guarded None ∷ ds) (g ∷ gs)
   unfolding expression_items_of nodes_from size node_of linked
   walked_repetition g before t = relinked tokens tag items ns i link guarded owner d ds (repetition g) gs before small repetition_item
-      (repetition_node (suc i) i) i guarded (set here_linked i i) (due d.depth d.guarded 64 ∷ ds) (g ∷ gs)
+      (repetition_node (suc i) i) i guarded (set here_linked i i) (due d.depth d.guarded None ∷ ds) (g ∷ gs)
       refl
       (ap (λ (n : ℕ). (repetition_node (suc i) i ∷ nodes_from g (suc i) (binders owner d.depth d.guarded)) ++ nodes_due owner n gs ds) (omega arith)) (
         record {
           closed = before.fit.0.closed;
           guarded_open = before.fit.0.guarded_open;
           within = omega (arith, before.fit.0.within);
-          parent_past = inr (omega arith);
+          parent_past = tt;
         },
         rest_fit (repetition g) before,
       )

@@ -3,6 +3,9 @@ use mathlib.Core.Path.{◌≡◌, refl, sym, ap, subst, ◌∙◌}
 use mathlib.Core.List.{List, [], ◌∷◌, ◌++◌}
 use Prim.Native.Nat.{ℕ, zero, suc, ◌-◌, ◌≤◌, ◌<◌}
 use native.Mathlib.Omega.{arith}
+use Rattle.std.specs.Prelude.{Some, None}
+use Rattle.node_linker.specs.Walking.{ParentBelow}
+use Rattle.node_linker.proofs.Parts.{parent_more}
 use lib.ListN.{get_or, set, drop, length, length-set, length-append, length-drop}
 use Rattle.sheet.specs.Expression.{Expression, epsilon, bottom, token, sequence, alternative, fixed_point, variable, repetition}
 use Rattle.sheet.specs.Items.{ExpressionItem, epsilon_item, bottom_item, token_item, sequence_item, alternative_item, fixed_point_item, variable_item, repetition_item}
@@ -116,12 +119,12 @@ module _ (tokens : ℕ) (tag : List ℕ) (items : List ExpressionItem) (ns : Lis
       -- A node with a left part and a right part.
       two_turned : (right_guarded : ℕ) (a b : Expression)
           → Walked tokens tag items ns (suc i) linked_here w.guarded w.owner
-          (due top.depth top.guarded 64 ∷ due top.depth right_guarded i ∷ pending w.stack k) (a ∷ b ∷ gs)
+          (due top.depth top.guarded None ∷ due top.depth right_guarded (Some i) ∷ pending w.stack k) (a ∷ b ∷ gs)
           → Walking (suc i) (walk linked_here w.guarded w.owner
-          (set (set w.stack k (due top.depth right_guarded i)) (suc k) (due top.depth top.guarded 64)) (suc (suc k)))
+          (set (set w.stack k (due top.depth right_guarded (Some i))) (suc k) (due top.depth top.guarded None)) (suc (suc k)))
       two_turned right_guarded a b h =
-          let left = due top.depth top.guarded 64 in
-          let right = due top.depth right_guarded i in
+          let left = due top.depth top.guarded None in
+          let right = due top.depth right_guarded (Some i) in
           record {
             parts = a ∷ b ∷ gs;
             walked = subst (λ (l : List Due). Walked tokens tag items ns (suc i) linked_here w.guarded w.owner l (a ∷ b ∷ gs))
@@ -167,7 +170,7 @@ module _ (tokens : ℕ) (tag : List ℕ) (items : List ExpressionItem) (ns : Lis
           (walked_sequence tokens tag items ns i w.link w.guarded w.owner top (pending w.stack k) gs small a b h t)
       turned (alternative a b) h t = two_turned top.guarded a b
           (walked_alternative tokens tag items ns i w.link w.guarded w.owner top (pending w.stack k) gs small a b h t)
-      turned (fixed_point a) h t = one_turned linked_here (set w.owner top.depth i) (due (suc top.depth) top.guarded 64) a
+      turned (fixed_point a) h t = one_turned linked_here (set w.owner top.depth i) (due (suc top.depth) top.guarded None) a
           (walked_fixed_point tokens tag items ns i w.link w.guarded w.owner top (pending w.stack k) gs small a h t)
       turned (variable n) h t = record {
         parts = gs;
@@ -175,7 +178,7 @@ module _ (tokens : ℕ) (tag : List ℕ) (items : List ExpressionItem) (ns : Lis
         stack_long = long;
         height_small = omega arith;
       }
-      turned (repetition a) h t = one_turned (set linked_here i i) w.owner (due top.depth top.guarded 64) a
+      turned (repetition a) h t = one_turned (set linked_here i i) w.owner (due top.depth top.guarded None) a
           (walked_repetition tokens tag items ns i w.link w.guarded w.owner top (pending w.stack k) gs small a h t)
 
       variable_bound : (g : Expression) → At (g ∷ gs)
@@ -239,6 +242,8 @@ module _ (tokens : ℕ) (tag : List ℕ) (items : List ExpressionItem) (ns : Lis
               can_link = record {
                 node_fits = omega (arith, columns.most);
                 depth_fits = subst (λ (t : Due). t.depth < 64) is_top (omega (arith, d.fit.0.within, columns.most));
+                parent_fits = subst (λ (t : Due). ParentBelow 64 t.parent) is_top
+                    (parent_more (due_at w k).parent i 64 (omega (arith, columns.most)) d.fit.0.parent_past);
                 variable_open = λ t. subst (λ (x : Due). get_or number i 0 < x.depth) is_top
                     (rw (number_at g gs d.items_left) (variable_bound i w k gs (omega (arith, columns.most))
                     h.stack_long (omega (arith, h.height_small)) (omega (arith, height_left i w h, h.height_small, columns.most)) g d

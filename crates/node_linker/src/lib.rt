@@ -3,19 +3,19 @@
 #![tactic(auto)]
 
 ghost use Rattle.std.specs.Prelude.{◌≡◌, ◌<◌};
-ghost use Rattle.node_linker.specs.Walking.{due, linked, links_after, owners_after, guarded_after};
+ghost use Rattle.node_linker.specs.Walking.{due, ParentBelow, linked, links_after, owners_after, guarded_after};
 ghost use Rattle.node_linker.specs.Walking.{parts_due, CanLink};
 ghost use Rattle.columns.specs.Linked.{SheetExpression, LinksOf};
 
 use columns::{NodeColumns, NodeLinks};
 
 // An expression that is still to come: how many fixed points are open there, how many of these are guarded, counted from the
-// outermost, and the node whose right part it is, or 64.
+// outermost, and the node whose right part it is, if it is one.
 #[derive(Clone, Copy)]
 struct Due {
     depth: u8,
     guarded: u8,
-    parent: u8,
+    parent: Option<u8>,
 }
 
 // The parts of a node, which are then still to come: none, one, or the left and the right.
@@ -26,7 +26,7 @@ enum NodeParts {
     Two(Due, Due),
 }
 
-fn still_due(depth: u8, guarded: u8, parent: u8) -> Due
+fn still_due(depth: u8, guarded: u8, parent: Option<u8>) -> Due
     ensures { result ≡ due depth guarded parent }
 {
     Due {
@@ -37,45 +37,37 @@ fn still_due(depth: u8, guarded: u8, parent: u8) -> Due
 }
 
 // A right part's node is its parent's link.
-fn put_right(link: &mut [u8; 64], parent: u8, node: u8)
+#[tactic(auto, unfolding(crate::specs::Walking::linked))]
+fn put_right(link: &mut [u8; 64], parent: Option<u8>, node: u8)
+    requires { ParentBelow 64 parent }
     ensures { link.new ≡ linked link.old parent node }
 {
-    let at = parent as usize;
-    if at < 64 {
-        link[at] = node;
+    if let Some(at) = parent {
+        link[at as usize] = node;
     }
 }
 
 // Stores the link of node i, which has this tag and number and was due so, and the node itself where it is the link of another:
 // of its parent, or of the variables of the fixed point that it opens.
+#[tactic(auto, unfolding(crate::specs::Walking::links_after, crate::specs::Walking::owners_after))]
 fn put_links(link: &mut [u8; 64], owner: &mut [u8; 64], tag: u8, number: u8, i: usize, d: Due)
     requires { CanLink tag number i d }
     ensures link_after { link.new ≡ links_after tag number i d owner.old link.old }
     ensures owner_after { owner.new ≡ owners_after tag i d owner.old }
 {
     let node = i as u8;
-    let depth = d.depth;
     put_right(link, d.parent, node);
-    if tag == 2 {
-        link[i] = number;
-        return;
-    }
-    if tag == 5 {
-        let opened = depth as usize;
-        owner[opened] = node;
-        return;
-    }
-    if tag == 6 {
-        let place = (depth - 1 - number) as usize;
-        link[i] = owner[place];
-        return;
-    }
-    if tag == 7 {
-        link[i] = node;
+    match tag {
+        2 => link[i] = number,
+        5 => owner[d.depth as usize] = node,
+        6 => link[i] = owner[(d.depth - 1 - number) as usize],
+        7 => link[i] = node,
+        _ => {}
     }
 }
 
 // The guarded variables after node i. A variable is one of them if its fixed point is among those that are guarded where it stands.
+#[tactic(auto, using(basics::proofs::laws::BitLaws::shl_one), unfolding(crate::specs::Walking::guarded_after))]
 fn with_guarded(guarded: u64, tag: u8, number: u8, i: usize, d: Due) -> u64
     requires { CanLink tag number i d }
     ensures { result ≡ guarded_after tag number i d guarded }
@@ -91,6 +83,7 @@ fn with_guarded(guarded: u64, tag: u8, number: u8, i: usize, d: Due) -> u64
 }
 
 // The parts of node i, which has this tag and was due so.
+#[tactic(auto, unfolding(crate::specs::Walking::parts_due))]
 fn parts_due(tag: u8, i: usize, d: Due) -> NodeParts
     requires { (i < 64) × (d.depth < 64) }
     ensures { result ≡ parts_due tag i d }
@@ -98,24 +91,16 @@ fn parts_due(tag: u8, i: usize, d: Due) -> NodeParts
     let depth = d.depth;
     let guarded = d.guarded;
     let node = i as u8;
-    let left = still_due(depth, guarded, 64);
-    if tag == 3 {
+    let left = still_due(depth, guarded, None);
+    match tag {
         // In the right part every open fixed point is guarded.
-        let right = still_due(depth, depth, node);
-        return NodeParts::Two(left, right);
-    }
-    if tag == 4 {
-        let right = still_due(depth, guarded, node);
-        return NodeParts::Two(left, right);
-    }
-    if tag == 5 {
-        return NodeParts::One(still_due(depth + 1, guarded, 64));
-    }
-    if tag == 7 {
+        3 => NodeParts::Two(left, still_due(depth, depth, Some(node))),
+        4 => NodeParts::Two(left, still_due(depth, guarded, Some(node))),
+        5 => NodeParts::One(still_due(depth + 1, guarded, None)),
         // No fixed point opens, and none is guarded by it.
-        return NodeParts::One(still_due(depth, guarded, 64));
+        7 => NodeParts::One(still_due(depth, guarded, None)),
+        _ => NodeParts::Leaf,
     }
-    NodeParts::Leaf
 }
 
 // The links of the expression that the columns hold. `owner` has the node of each open fixed point, the outermost first, and
@@ -129,26 +114,23 @@ pub fn link_nodes(nodes: NodeColumns) -> NodeLinks
     let mut link = [0u8; 64];
     let mut guarded = 0;
     let mut owner = [0u8; 64];
-    let whole = still_due(0, 0, 64);
+    let whole = still_due(0, 0, None);
     let mut stack = [whole; 64];
     let mut height = 1;
-    let mut i = 0;
-    while i < count {
+    for i in 0..count {
         let tag = nodes.tag[i];
         let number = nodes.number[i];
         let top = height - 1;
         let d = stack[top];
         put_links(&mut link, &mut owner, tag, number, i, d);
         guarded = with_guarded(guarded, tag, number, i, d);
-        let parts = parts_due(tag, i, d);
-        i += 1;
-        match parts {
+        match parts_due(tag, i, d) {
             NodeParts::Leaf => height = top,
             NodeParts::One(part) => stack[top] = part,
             NodeParts::Two(left, right) => {
                 stack[top] = right;
                 stack[height] = left;
-                height = height + 1;
+                height += 1;
             }
         }
     }

@@ -1,15 +1,16 @@
 -- The nodes of a tail and of a row that join those met, and their numbers among all nodes reached.
 -- What one node changes is in specs/laws/JoinLaws.antt.
 use mathlib.Core.Path.{◌≡◌, refl, sym, ap, subst, ◌∙◌}
-use mathlib.Core.Bool.{Bool, true, false, cond}
+use mathlib.Core.Bool.{Bool, cond}
 use mathlib.Core.List.{List, [], ◌∷◌, ◌++◌, append_assoc, Memᴰ}
 use mathlib.Core.Option.{Option, none, some}
-use Prim.Native.Nat.{ℕ, zero, suc, ◌+◌, ◌≤◌, ◌<◌}
+use Prim.Native.Nat.{ℕ, zero, suc, ◌+◌, ◌<◌}
 use native.Mathlib.Decide.{ℕ_discrete}
 use native.Mathlib.Omega.{arith}
 use native.Mathlib.Numerals.{add-one}
 use lib.ListN.{get_or, length, take, drop, length-append, take-append-drop}
-use lib.Seq.{get_or-take, take-suc, take-take, length-take-le}
+use lib.Seq.{get_or-take, take-suc, length-take-le}
+use Rattle.std.specs.Prelude.{Some, None}
 use Rattle.basics.specs.Lists.{All}
 use Rattle.basics.proofs.laws.Truth.{holds_true}
 use Rattle.production_finder.specs.Columns.{tail_held}
@@ -64,60 +65,50 @@ meet-last met l i b =
     ∙ meet_one (meet_all met (take i l)) (get_or l i 0))
 
 -- One member more joins, and has the number that it will have.
-module _ (d e : Numbering) (members : List ℕ) (count i : ℕ) (l : i < count) (b : count ≤ length members) (met all : List ℕ)
-    (leads : Leads met (take count members) all) (nodes : All (λ n. n < 64) (take count members))
-    (so_far : Numbers d (meet_all met (take i members))) (met_long : length d.met ≡ 64) (number_long : length d.number ≡ 64)
-    (joins : e ≡ numbering_after d (get_or members i 0)) where
-  member_small : get_or members i 0 < 64
-  member_small =
-      let size = length-take-le count members b in
-      subst (λ (n : ℕ). n < 64) (get_or-take count members i 0 l) (all-at (λ n. n < 64) (take count members) nodes i 0 (omega arith))
+module _ (d e : Numbering) (tail : List ℕ) (i : ℕ) (l : i < length tail) (met all : List ℕ) (leads : Leads met tail all)
+    (nodes : All (λ n. n < 64) tail) (so_far : Numbers d (meet_all met (take i tail))) (met_long : length d.met ≡ 64)
+    (number_long : length d.number ≡ 64) (joins : e ≡ numbering_after d (get_or tail i 0)) where
+  member_small : get_or tail i 0 < 64
+  member_small = all-at (λ n. n < 64) tail nodes i 0 l
 
-  member_leads : Leads met (take (i + 1) members) all
-  member_leads =
-      let whole = take count members in
-      let parts : whole ≡ take (i + 1) members ++ drop (i + 1) whole =
-      sym (take-append-drop (i + 1) whole) ∙ ap (λ (k : List ℕ). k ++ drop (i + 1) whole) (take-take (i + 1) count members (omega arith)) in
-      leads_front met (take (i + 1) members) (drop (i + 1) whole) all (subst (λ (k : List ℕ). Leads met k all) parts leads)
+  member_leads : Leads met (take (i + 1) tail) all
+  member_leads = leads_front met (take (i + 1) tail) (drop (i + 1) tail) all
+      (subst (λ (k : List ℕ). Leads met k all) (sym (take-append-drop (i + 1) tail)) leads)
 
-  pub member_met : Numbers e (meet_all met (take (i + 1) members))
+  pub member_met : Numbers e (meet_all met (take (i + 1) tail))
   member_met =
-      let next = meet-last met members i (omega arith) in
-      subst (Numbers e) (sym next) (subst (λ (n : Numbering). Numbers n (meet (meet_all met (take i members)) (get_or members i 0))) (sym joins)
-      (node_met d (meet_all met (take i members)) so_far (get_or members i 0) member_small
+      let next = meet-last met tail i l in
+      subst (Numbers e) (sym next) (subst (λ (n : Numbering). Numbers n (meet (meet_all met (take i tail)) (get_or tail i 0))) (sym joins)
+      (node_met d (meet_all met (take i tail)) so_far (get_or tail i 0) member_small
       (omega (
         arith,
         ap length next,
         ap length member_leads.continues,
-        length-append (meet_all met (take (i + 1) members)) member_leads.rest,
+        length-append (meet_all met (take (i + 1) tail)) member_leads.rest,
         member_leads.few,
       ))
       met_long number_long))
 
-  pub member_number : get_or e.number (get_or members i 0) 0 ≡ number_of all (get_or members i 0)
+  pub member_number : get_or e.number (get_or tail i 0) 0 ≡ number_of all (get_or tail i 0)
   member_number =
-      let size : length (take (i + 1) members) ≡ i + 1 = length-take-le (i + 1) members (omega arith) in
-      let there : Memᴰ (get_or members i 0) (take (i + 1) members) =
-      subst (λ (n : ℕ). Memᴰ n (take (i + 1) members)) (get_or-take (i + 1) members i 0 (omega arith))
-      (member_at (take (i + 1) members) i 0 (omega arith)) in
-      number_there e (meet_all met (take (i + 1) members)) member_leads.rest all member_met member_leads.continues
-      (get_or members i 0) member_small (meet_all_has (get_or members i 0) met (take (i + 1) members) there)
+      let size : length (take (i + 1) tail) ≡ i + 1 = length-take-le (i + 1) tail (omega arith) in
+      let there : Memᴰ (get_or tail i 0) (take (i + 1) tail) =
+      subst (λ (n : ℕ). Memᴰ n (take (i + 1) tail)) (get_or-take (i + 1) tail i 0 (omega arith))
+      (member_at (take (i + 1) tail) i 0 (omega arith)) in
+      number_there e (meet_all met (take (i + 1) tail)) member_leads.rest all member_met member_leads.continues
+      (get_or tail i 0) member_small (meet_all_has (get_or tail i 0) met (take (i + 1) tail) there)
 
 pub nothing_met : (c : Numbering) (met : List ℕ) → Numbers c met → Numbers c (meet_all met [])
 unfolding meet_all
 nothing_met c met h = h
 
-pub found_members : (t : Tail) → t.found ≡ true → members_of (tail_held t) ≡ take t.count t.members
-unfolding tail_held members_of
-found_members t e = rw e
+pub found_members : (t : Tail) → members_of (tail_held (Some t)) ≡ take t.count t.members
+unfolding members_of
+found_members t = refl
 
-pub no_members : (t : Tail) → t.found ≡ false → members_of (tail_held t) ≡ []
-unfolding tail_held members_of
-no_members t e = rw e
-
-pub none-met : (met : List ℕ) (t : Tail) → t.found ≡ false → meet_all met (members_of (tail_held t)) ≡ met
-unfolding meet_all
-none-met met t e = ap (meet_all met) (no_members t e)
+pub none-met : (met : List ℕ) → meet_all met (members_of (tail_held None)) ≡ met
+unfolding meet_all members_of
+none-met met = refl
 
 -- ---- the members of a row
 

@@ -1,6 +1,7 @@
 -- The rows one after the other: the members of one row, rule by rule, and the rows of the nodes met, until none is left.
 use mathlib.Core.Path.{◌≡◌, refl, sym, ap, subst, ◌∙◌}
 use mathlib.Core.List.{List, [], ◌∷◌, ◌++◌}
+use Rattle.std.specs.Prelude.{Option}
 use Prim.Native.Nat.{ℕ, suc, ◌+◌, ◌-◌, ◌≤◌, ◌<◌}
 use native.Mathlib.Omega.{arith}
 use native.Mathlib.Numerals.{add-one}
@@ -49,12 +50,12 @@ row-whole rules e node =
     fused-parts (λ p. p.tail) (productions_of e node) rules ∙ members_are (fused_from rules 0 (productions_of e node))
 
 -- The members of the tail that was found for a rule are the rule's, and nodes.
-pub tail_members-here : (rules : List Rule) (e : Expression) (node r : ℕ) (t : Tail)
+pub tail_members-here : (rules : List Rule) (e : Expression) (node r : ℕ) (t : Option Tail)
     → tail_held t ≡ rule_tail rules (productions_of e node) r → row_members rules e node r ≡ members_of (tail_held t)
 tail_members-here rules e node r t found =
     part-members r (rule_tail rules (productions_of e node) r) ∙ ap members_of (sym found)
 
-pub tail_nodes : (g : Grammar) (rules : List Rule) (e : Expression) → GrammarOf g rules e → (node r : ℕ) (t : Tail)
+pub tail_nodes : (g : Grammar) (rules : List Rule) (e : Expression) → GrammarOf g rules e → (node r : ℕ) (t : Option Tail)
     → tail_held t ≡ rule_tail rules (productions_of e node) r → All (λ n. n < 64) (members_of (tail_held t))
 tail_nodes g rules e h node r t found = rw found (members-nodes h node r)
 

@@ -1,7 +1,9 @@
 -- A rule's tail: what the code finds is what the rule has in the node's row, and its members are nodes.
 use mathlib.Core.Path.{◌≡◌, refl, sym, ap, ◌∙◌}
 use mathlib.Core.List.{List, map}
-use mathlib.Core.Option.{Option, none, some}
+use mathlib.Core.Option as maybe
+use mathlib.Core.Option.{none, some}
+use Rattle.std.specs.Prelude.{Option}
 use Prim.Native.Nat.{ℕ, zero, suc, ◌-◌, ◌<◌}
 use native.Mathlib.Omega.{arith}
 use lib.ListN.{get_or}
@@ -23,14 +25,14 @@ use Rattle.node_numbering.specs.laws.RuleTails.{action_tail}
 use Rattle.node_numbering.proofs.laws.RuleTails.{rule_tail}
 use Rattle.node_numbering.specs.declared.Grammar.{Grammar}
 
-with_head-tail : (t : ℕ) (o : Option (List ℕ)) → tail_of (with_head t o) ≡ o
+with_head-tail : (t : ℕ) (o : maybe.Option (List ℕ)) → tail_of (with_head t o) ≡ o
 with_head-tail t none = refl
 with_head-tail t (some tail) = refl
 
 pub skipping_tail : (a : ℕ) (ps : List Production) → a ≡ 0 → none ≡ action_tail a ps
 skipping_tail a ps z = sym (ap (λ (k : ℕ). action_tail k ps) z ∙ (unfold action_tail in refl))
 
-pub returning-tail : (a : ℕ) (ps : List Production) → (a ≡ 0 → ⊥) → (r : Tail) → production_held (a - 1) r ≡ production_of (a - 1) ps
+pub returning-tail : (a : ℕ) (ps : List Production) → (a ≡ 0 → ⊥) → (r : Option Tail) → production_held (a - 1) r ≡ production_of (a - 1) ps
     → tail_held r ≡ action_tail a ps
 unfolding production_held
 returning-tail a ps some_token r found =
@@ -41,7 +43,7 @@ returning-tail a ps some_token r found =
 
 -- The action that the columns have for a rule gives the rule's tail.
 pub tail_by_action : (g : Grammar) (rules : List Rule) (e : Expression) → GrammarOf g rules e → (rule : ℕ) → rule < g.rules
-    → (ps : List Production) (o : Option (List ℕ)) → o ≡ action_tail (get_or g.action rule 0) ps → o ≡ rule_tail rules ps rule
+    → (ps : List Production) (o : maybe.Option (List ℕ)) → o ≡ action_tail (get_or g.action rule 0) ps → o ≡ rule_tail rules ps rule
 unfolding rule_tail
 tail_by_action g rules e h rule below ps o found =
     found ∙ sym (ap (λ (a : ℕ). action_tail a ps)
@@ -56,7 +58,7 @@ members-nodes {g} {rules} {e} h n rule = go (get_or (map (λ r. r.action) rules)
     ps : List Production
     ps = (row_of (normal_form e) n).productions
 
-    found : (t : ℕ) (o : Option Production) → Found t ps o → All (λ m. m < 64) (members_of (tail_of o))
+    found : (t : ℕ) (o : maybe.Option Production) → Found t ps o → All (λ m. m < 64) (members_of (tail_of o))
     found t none f = unfold members_of in tt
     found t (some p) f = unfold members_of in
         all_of (λ m. m < 64) p.tail

@@ -32,6 +32,12 @@ pub record Numbers (c : Numbering) (met : List ℕ) : Type 0 where
   pub nodes : take c.count c.met ≡ met
   pub numbers : (n : ℕ) → n < 64 → get_or c.number n 0 ≡ cond (is_met n met) (number_of met n) 64
 
+-- A numbering has room for 64 nodes, and no more have been met.
+pub record Within (c : Numbering) : Type 0 where
+  pub count : c.count ≤ 64
+  pub met : length c.met ≡ 64
+  pub number : length c.number ≡ 64
+
 -- The columns of a numbering together.
 abbrev pub numbering_of : ℕ → List ℕ → List ℕ → Numbering
 numbering_of count met number = record { count = count; met = met; number = number }

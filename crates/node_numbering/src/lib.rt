@@ -2,17 +2,17 @@
 // kept in no table. In which order the nodes are met, and how an image is written, is not said here.
 #![tactic(auto)]
 
-ghost use Rattle.std.specs.Prelude.{◌≡◌, ◌<◌, get_or, length};
+ghost use Rattle.std.specs.Prelude.{◌≡◌, ◌<◌, get_or};
 ghost use Rattle.sheet.specs.Expression.{Expression, size};
 ghost use Rattle.normal_form.specs.Productions.{row_of};
 ghost use Rattle.normal_form.specs.NormalForm.{normal_form};
 ghost use Rattle.production_finder.specs.Columns.{ColumnsOf, TailCounted, tail_held};
-ghost use Rattle.node_numbering.specs.Grammar.{numbering_of, start_numbering, numbering_after};
+ghost use Rattle.node_numbering.specs.Grammar.{start_numbering, numbering_after};
 ghost use Rattle.node_numbering.specs.laws.GrammarLaws.{grammar_from};
 ghost use Rattle.node_numbering.specs.laws.RuleTails.{action_tail};
 
 use columns::{NodeLinks, RuleColumns, TypeColumns};
-use production_finder::Tail;
+use production_finder::{Tail, WalkColumns};
 
 // The rules' actions; the expression's tags, links and FIRST sets by node; the nullable nodes as a set.
 #[derive(Clone, Copy)]
@@ -51,86 +51,69 @@ pub fn grammar_from(rules: RuleColumns, links: NodeLinks, types: TypeColumns) ->
     }
 }
 
-// The tail that the production of a rule with this action has in a node's row. A rule that skips has none. The columns are lent and not
+// The tail that the production of a rule with this action has in a node's row. A rule that skips has none. The grammar is lent and not
 // copied, since this is asked for each node and rule.
-pub fn rule_tail<'a>(
-    tag: &'a [u8; 64],
-    link: &'a [u8; 64],
-    first: &'a [u32; 64],
-    node: usize,
-    action: u8,
-) -> Tail
-    requires { (e : Expression) × ColumnsOf tag.now link.now first.now e × (node < size e) }
-    ensures { TailCounted result
-        × ((e : Expression) → ColumnsOf tag.now link.now first.now e → node < size e
-        → tail_held result ≡ action_tail action (row_of (normal_form e) node).productions) }
+pub fn rule_tail(grammar: &Grammar, node: usize, action: u8) -> Option<Tail>
+    requires { (e : Expression) × ColumnsOf grammar.now.tag grammar.now.link grammar.now.first e × (node < size e) }
+    ensures counted { TailCounted result }
+    ensures same { (e : Expression) → ColumnsOf grammar.now.tag grammar.now.link grammar.now.first e → node < size e
+        → tail_held result ≡ action_tail action (row_of (normal_form e) node).productions }
 {
     if action == 0 {
-        return Tail {
-            found: false,
-            count: 0,
-            members: [0; 32],
-        };
+        return None;
     }
-    production_finder::production(tag, link, first, node, action - 1)
+    let columns = WalkColumns {
+        tag: &grammar.tag,
+        link: &grammar.link,
+        first: &grammar.first,
+    };
+    production_finder::production(columns, node, action - 1)
 }
 
-// A node joins those met, unless it has been met. The answer is how many have been met. The columns
-// are lent, since a copy of what was just stored byte by byte makes the processor wait. The law
-// `node_met` says what the columns then hold of the nodes met.
-pub fn meet(met: &mut [u8; 64], number: &mut [u8; 64], count: usize, n: usize) -> usize
-    ensures { numbering_of result met.new number.new
-        ≡ numbering_after (numbering_of count met.old number.old) n }
-{
-    if 64 <= n {
-        return count;
+impl Numbering {
+    // Only the start has been met.
+    #[tactic(auto, unfolding(crate::specs::Grammar::start_numbering))]
+    pub fn start() -> Numbering
+        ensures { result ≡ start_numbering }
+    {
+        let mut number = [64; 64];
+        number[0] = 0;
+        Numbering {
+            count: 1,
+            met: [0; 64],
+            number,
+        }
     }
-    if number[n] < 64 {
-        return count;
-    }
-    if 64 <= count {
-        return count;
-    }
-    met[count] = n as u8;
-    number[n] = count as u8;
-    count + 1
-}
 
-// Only the start has been met.
-pub fn start() -> Numbering
-    ensures { result ≡ start_numbering }
-{
-    let mut number = [64u8; 64];
-    number[0] = 0;
-    Numbering {
-        count: 1,
-        met: [0; 64],
-        number,
+    // A node joins those met, unless it has been met. The numbering is lent, since a copy of what was just stored byte by byte makes the
+    // processor wait. The law `node_met` says what it then holds of the nodes met.
+    #[tactic(auto, unfolding(crate::specs::Grammar::numbering_after))]
+    pub fn meet(&mut self, n: usize)
+        ensures { self.new ≡ numbering_after self.old n }
+    {
+        if 64 <= n || self.number[n] < 64 || 64 <= self.count {
+            return;
+        }
+        self.met[self.count] = n as u8;
+        self.number[n] = self.count as u8;
+        self.count += 1;
     }
-}
 
-// The node that was met as the i-th.
-pub fn node_at(numbering: Numbering, i: usize) -> usize
-    requires { i < 64 }
-    ensures { result ≡ get_or numbering.met i 0 }
-{
-    numbering.met[i] as usize
-}
-
-// An entry as a number of an image.
-fn widened(entry: u8) -> u64
-    ensures { result ≡ entry }
-{
-    entry as u64
-}
-
-// A node's number. No node from 64 on has one.
-pub fn number_of(number: &[u8; 64], n: usize) -> u64
-    requires { length number.now ≡ 64 }
-    ensures { result ≡ get_or number.now n 0 }
-{
-    if 64 <= n {
-        return 0;
+    // The node that was met as the i-th.
+    pub fn node_at(&self, i: usize) -> usize
+        requires { i < 64 }
+        ensures { result ≡ get_or self.now.met i 0 }
+    {
+        usize::from(self.met[i])
     }
-    widened(number[n])
+
+    // A node's number. No node from 64 on has one.
+    pub fn number_of(&self, n: usize) -> u64
+        ensures { result ≡ get_or self.now.number n 0 }
+    {
+        match self.number.get(n) {
+            Some(entry) => u64::from(*entry),
+            None => 0,
+        }
+    }
 }

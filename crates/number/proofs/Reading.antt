@@ -14,23 +14,23 @@ use lib.ListN.{length, get_or, drop, drop_of_length-le}
 use lib.Seq.{drop-cons}
 use borrow.Author.Tests.{lt-ltb, le-ltb, lt-leb}
 use Rattle.number.specs.Number.{count, value, highest}
-use Rattle.number.specs.Number.{Front, cut, whole, followed, front, fewest, judged, number_from, decode}
+use Rattle.number.specs.Number.{Front, cut, whole, followed, front, fewest, judged, number_from, decode, read}
 use Rattle.number.proofs.laws.Groups.{count_positive, judged-read}
 use Rattle.number.specs.declared.Number.{Number}
-use Rattle.number.specs.declared.Number.TheVariants.{Read, Refused}
+use Rattle.std.specs.Prelude.{Option, None}
 
 -- ---- the tests, failed
 
-both : (p : Bool) → cond p Refused Refused ≡ Refused
+both : (p : Bool) → cond {A = Option Number} p None None ≡ None
 both true = refl
 both false = refl
 
 module _ (groups top n : ℕ) where
-  pub judged_over : 2 ^ 64 ≤ n → judged groups top n ≡ Refused
+  pub judged_over : 2 ^ 64 ≤ n → judged groups top n ≡ None
   unfolding judged
   judged_over h = rw (le-ltb n (2 ^ 64)) (both (leb groups 10))
 
-  judged_eleven : 10 < groups → judged groups top n ≡ Refused
+  judged_eleven : 10 < groups → judged groups top n ≡ None
   unfolding judged
   judged_eleven h = rw (lt-leb groups 10)
 
@@ -65,10 +65,13 @@ value-more {scale} v b h =
     let g : b % 128 < 128 = omega arith in
     omega (arith, digits_lt {q = b % 128} {m = 128} {r = v} {c = scale} g h)
 
+pub value_fits : {scale : ℕ} (v b u : ℕ) → v < scale → scale ≡ 2 ^ (7 * u) → u < 9 → v + b % 128 * scale < 2 ^ 64
+value_fits {scale} v b u h e l = omega (arith, value-more v b h, scale_fits u e l)
+
 -- ---- groups to come, after `u` others of value v, the next one counting for `scale`
 
-unfoldable pub after : ℕ → ℕ → ℕ → Front → Number
-after u scale v cut = Refused
+unfoldable pub after : ℕ → ℕ → ℕ → Front → Option Number
+after u scale v cut = None
 after u scale v (whole gs) = judged (u + count gs) (highest gs) (v + value gs * scale)
 
 after-none : (f : Front) → number_from f ≡ after 0 1 0 f
@@ -91,7 +94,7 @@ after-followed u scale v g (whole gs) =
     let b : v + (g + 128 * x) * scale ≡ v + g * scale + x * (scale * 128) = omega arith in
     ap₂ (λ (y z : ℕ). judged y (highest gs) z) a b
 
-after_ten : (u scale v g : ℕ) (f : Front) → u ≡ 9 → after u scale v (followed g f) ≡ Refused
+after_ten : (u scale v g : ℕ) (f : Front) → u ≡ 9 → after u scale v (followed g f) ≡ None
 unfolding after followed count
 after_ten u scale v g cut e = refl
 after_ten u scale v g (whole gs) e = judged_eleven _ _ _ (omega (arith, count_positive gs))
@@ -102,32 +105,32 @@ decode-after s at = after-none (front (drop at s))
 
 -- one turn at a place of a list
 module _ (u scale v : ℕ) (s : List ℕ) (i : ℕ) where
-  pub turn_end : length s ≤ i → after u scale v (front (drop i s)) ≡ Refused
+  pub turn_end : length s ≤ i → after u scale v (front (drop i s)) ≡ None
   unfolding after front
   turn_end h = rw (drop_of_length-le s h)
 
-  front_at : i < length s → front (drop i s) ≡ front (get_or s i 0 ∷ drop (i + 1) s)
-  front_at h = rw (add-one i, drop-cons s i 0)
+  -- and the byte there
+  module _ {b : ℕ} (h : i < length s) (is : b ≡ get_or s i 0) where
+    front_at : front (drop i s) ≡ front (b ∷ drop (i + 1) s)
+    front_at = rw (is, add-one i, drop-cons s i 0)
 
-  pub turn-last : i < length s → get_or s i 0 < 128 → after u scale v (front (drop i s)) ≡ judged (u + 1) (get_or s i 0) (v + get_or s i 0 * scale)
-  unfolding after front count value highest
-  turn-last h l = ap (after u scale v) (front_at h) ∙ rw (lt-ltb (get_or s i 0) 128)
+    pub turn-last : b < 128 → after u scale v (front (drop i s)) ≡ judged (u + 1) b (v + b * scale)
+    unfolding after front count value highest
+    turn-last l = ap (after u scale v) front_at ∙ rw (lt-ltb b 128)
 
-  front_follows : i < length s → 128 ≤ get_or s i 0 → front (drop i s) ≡ followed (get_or s i 0 % 128) (front (drop (i + 1) s))
-  unfolding front
-  front_follows h l = front_at h ∙ rw (le-ltb (get_or s i 0) 128)
+    front_follows : 128 ≤ b → front (drop i s) ≡ followed (b % 128) (front (drop (i + 1) s))
+    unfolding front
+    front_follows l = front_at ∙ rw (le-ltb b 128)
 
-  pub turn-more : i < length s → 128 ≤ get_or s i 0
-      → after u scale v (front (drop i s)) ≡ after (u + 1) (scale * 128) (v + get_or s i 0 % 128 * scale) (front (drop (i + 1) s))
-  turn-more h l = ap (after u scale v) (front_follows h l) ∙ after-followed u scale v (get_or s i 0 % 128) (front (drop (i + 1) s))
+    pub turn-more : 128 ≤ b → after u scale v (front (drop i s)) ≡ after (u + 1) (scale * 128) (v + b % 128 * scale) (front (drop (i + 1) s))
+    turn-more l = ap (after u scale v) (front_follows l) ∙ after-followed u scale v (b % 128) (front (drop (i + 1) s))
 
-  pub turn_ten : i < length s → 128 ≤ get_or s i 0 → u ≡ 9 → after u scale v (front (drop i s)) ≡ Refused
-  turn_ten h l e = ap (after u scale v) (front_follows h l) ∙ after_ten u scale v (get_or s i 0 % 128) (front (drop (i + 1) s)) e
+    pub turn_ten : 128 ≤ b → u ≡ 9 → after u scale v (front (drop i s)) ≡ None
+    turn_ten l e = ap (after u scale v) (front_follows l) ∙ after_ten u scale v (b % 128) (front (drop (i + 1) s)) e
 
 -- One group alone is the value, in the fewest bytes.
-pub one_group : (s : List ℕ) (at : ℕ) → at < length s → get_or s at 0 < 128 → Read (get_or s at 0) 1 true ≡ decode s at
+pub one_group : (s : List ℕ) (at : ℕ) {b : ℕ} → at < length s → b ≡ get_or s at 0 → b < 128 → read b 1 true ≡ decode s at
 unfolding fewest
-one_group s at h l =
-    let b = get_or s at 0 in
+one_group s at {b} h e l =
     let n : 0 + b * 1 ≡ b = omega arith in
-    sym (decode-after s at ∙ turn-last 0 1 0 s at h l ∙ ap (judged 1 b) n ∙ judged-read 1 b b (omega arith) (omega arith))
+    sym (decode-after s at ∙ turn-last 0 1 0 s at h e l ∙ ap (judged 1 b) n ∙ judged-read 1 b b (omega arith) (omega arith))

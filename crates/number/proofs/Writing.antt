@@ -11,6 +11,7 @@ use lib.Pow.{shr_lt}
 use lib.ListN.{length, get_or, take, drop, set, length-append, length-take, length-drop, drop_of_length-le}
 use lib.Seq.{take_all, take-length, take-suc, drop-cons, set_at, append_snoc, length-take-le}
 use borrow.Author.Tests.{lt-ltb, le-ltb}
+use Rattle.std.specs.Prelude.{Option, Some, None}
 use Rattle.number.specs.Number.{encode_in, encode, used, written, used_at, written_at}
 use Rattle.number.proofs.laws.Splice.{written_fits, used_fits, written_short, used_short, written_at_short, used_at_short}
 
@@ -106,12 +107,12 @@ write-last d e p i h hp fits = write-more d e p i h hp fits ∙ rw (next-last e 
 
 module _ (part : List ℕ) (n : ℕ) {w : ℕ} (e : w ≡ length (encode n)) where
   pub number_fits : {p : List ℕ} → p ≡ encode n ++ drop (length (encode n)) part → w ≤ length part
-      → (w ≡ used part n) × (p ≡ written part n)
+      → (Some w ≡ used part n) × (p ≡ written part n)
   number_fits {p} h l =
       let k : length (encode n) ≤ length part = omega arith in
-      (e ∙ sym (used_fits part n k), h ∙ sym (written_fits part n k))
+      (ap Some e ∙ sym (used_fits part n k), h ∙ sym (written_fits part n k))
 
-  pub number_short : length part < w → (0 ≡ used part n) × (part ≡ written part n)
+  pub number_short : length part < w → (None ≡ used part n) × (part ≡ written part n)
   number_short l =
       let k : length part < length (encode n) = omega arith in
       (sym (used_short part n k), sym (written_short part n k))
@@ -119,10 +120,10 @@ module _ (part : List ℕ) (n : ℕ) {w : ℕ} (e : w ≡ length (encode n)) whe
 -- ---- the part from a cursor on, lent and given back
 
 module _ (d : List ℕ) (at n : ℕ) where
-  pub cursor_past : length d < at → (0 ≡ used_at d at n) × (d ≡ written_at d at n)
+  pub cursor_past : length d < at → (None ≡ used_at d at n) × (d ≡ written_at d at n)
   cursor_past h = (sym (used_at_short d at n (omega arith)), sym (written_at_short d at n (omega arith)))
 
-  pub cursor_within : {r : ℕ} {p : List ℕ} → at ≤ length d → r ≡ used (take (length d - at) (drop at d)) n
+  pub cursor_within : {r : Option ℕ} {p : List ℕ} → at ≤ length d → r ≡ used (take (length d - at) (drop at d)) n
       → p ≡ written (take (length d - at) (drop at d)) n
       → (r ≡ used_at d at n) × (take at d ++ (p ++ drop (length d - at) (drop at d)) ≡ written_at d at n)
   unfolding used_at written_at

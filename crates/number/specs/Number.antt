@@ -1,9 +1,8 @@
 -- What a number is, as bytes, and what writing one leaves. Definitions only: the laws are in `Laws` and `Splice`.
 -- The page: "A number is written in groups of seven bits, lowest group first, one byte a group, with bit 7 set when another
 -- group follows. It uses the fewest bytes and lies below 2^64 (ten groups at most)." From request [3] on it need not use the fewest in a sheet.
-use Rattle.std.specs.Prelude.{ℕ, zero, suc, ◌+◌, ◌*◌, ◌^◌, ◌/◌, ◌%◌, ◌<◌, List, [], ◌∷◌, ◌++◌, Bool, cond, ◌||◌, length, take, drop, leb, ltb, eqb}
+use Rattle.std.specs.Prelude.{ℕ, zero, suc, ◌+◌, ◌*◌, ◌^◌, ◌/◌, ◌%◌, ◌<◌, List, [], ◌∷◌, ◌++◌, Bool, cond, ◌||◌, length, take, drop, leb, ltb, eqb, Option, Some, None}
 use Rattle.number.specs.declared.Number.{Number}
-use Rattle.number.specs.declared.Number.TheVariants.{Read, Refused}
 
 -- "written in groups of seven bits, lowest group first, one byte a group, with bit 7 set when another group follows": these bytes are
 -- groups of this number. High groups may be empty, and how many there are is not asked.
@@ -50,26 +49,30 @@ front (b ∷ rest) = cond (ltb b 128) (whole (last b)) (followed (b % 128) (fron
 unfoldable pub fewest : ℕ → ℕ → Bool
 fewest groups highest = eqb groups 1 || ltb 0 highest
 
+-- A number that is read: its value, how many bytes it has and whether they are the fewest.
+abbrev pub read : ℕ → ℕ → Bool → Option Number
+read v n are_fewest = Some (record { value = v; used = n; fewest = are_fewest })
+
 -- "ten groups at most", "below 2^64": two tests of the number of groups and the value. "The number reader now also tells its callers how
 -- many bytes it read and whether they were the fewest."
-unfoldable pub judged : ℕ → ℕ → ℕ → Number
-judged groups highest n = cond (leb groups 10) (cond (ltb n (2 ^ 64)) (Read n groups (fewest groups highest)) Refused) Refused
+unfoldable pub judged : ℕ → ℕ → ℕ → Option Number
+judged groups highest n = cond (leb groups 10) (cond (ltb n (2 ^ 64)) (read n groups (fewest groups highest)) None) None
 
 -- The number that the groups at the front make.
-unfoldable pub number_from : Front → Number
-number_from cut = Refused
+unfoldable pub number_from : Front → Option Number
+number_from cut = None
 number_from (whole gs) = judged (count gs) (highest gs) (value gs)
 
 -- The number at a place of some bytes: its value, how many bytes were read and whether they were the fewest; or no number.
-unfoldable pub decode : List ℕ → ℕ → Number
+unfoldable pub decode : List ℕ → ℕ → Option Number
 decode bytes at = number_from (front (drop at bytes))
 
 -- The same where a number "uses the fewest bytes", as in an image: a padded number is none.
-unfoldable pub unpadded : Number → Number
-unpadded (Read n groups are_fewest) = cond are_fewest (Read n groups are_fewest) Refused
-unpadded Refused = Refused
+unfoldable pub unpadded : Option Number → Option Number
+unpadded (Some n) = cond n.fewest (Some n) None
+unpadded None = None
 
-unfoldable pub decode_fewest : List ℕ → ℕ → Number
+unfoldable pub decode_fewest : List ℕ → ℕ → Option Number
 decode_fewest bytes at = unpadded (decode bytes at)
 
 -- The bytes of a number, in at most so many groups: the lowest seven bits with bit 7 set, then what is above them.
@@ -86,15 +89,15 @@ unfoldable pub splice : List ℕ → ℕ → List ℕ → List ℕ
 splice d at e = take at d ++ (e ++ drop (at + length e) d)
 
 -- How many bytes writing a number into a part uses: those of the number, or none where the part is too short.
-unfoldable pub used : List ℕ → ℕ → ℕ
-used part n = cond (leb (length (encode n)) (length part)) (length (encode n)) 0
+unfoldable pub used : List ℕ → ℕ → Option ℕ
+used part n = cond (leb (length (encode n)) (length part)) (Some (length (encode n))) None
 
 -- What writing a number leaves in a part: the number's bytes, then what was there; a part that is too short stays as it is.
 unfoldable pub written : List ℕ → ℕ → List ℕ
 written part n = cond (leb (length (encode n)) (length part)) (encode n ++ drop (length (encode n)) part) part
 
 -- "Each number is written into what remains of the image buffer": the same for the part from a cursor on.
-unfoldable pub used_at : List ℕ → ℕ → ℕ → ℕ
+unfoldable pub used_at : List ℕ → ℕ → ℕ → Option ℕ
 used_at d at n = used (drop at d) n
 
 unfoldable pub written_at : List ℕ → ℕ → ℕ → List ℕ

@@ -8,40 +8,42 @@ ghost use Rattle.number.specs.Number.{fewest, judged, decode, encode, written, u
 // The largest number: 2^64 - 1.
 const LARGEST: u64 = 18446744073709551615;
 
-// What stands at a place: a value, how many bytes were read and whether they were the fewest; or no number.
+// A number that stands at a place: its value, how many bytes were read and whether they were the fewest.
 #[derive(Clone, Copy)]
-pub enum Number {
-    Read(u64, usize, bool),
-    Refused,
+pub struct Number {
+    pub value: u64,
+    pub used: usize,
+    pub fewest: bool,
 }
 
 // Whether a number with this many groups and this last group takes the fewest bytes: otherwise its last group is empty, and it is padded.
 fn is_fewest(count: usize, last: u64) -> bool
     ensures { result ≡ fewest count last }
 {
-    if count == 1 {
-        return true;
-    }
-    0 < last
+    count == 1 || 0 < last
 }
 
 // The number that a last group ends, after so many earlier groups of the given value. The last one counts for `scale`.
 // The test by division is the one that can't overflow.
-fn with_last(earlier: usize, scale: u64, value: u64, last: u64) -> Number
+fn with_last(earlier: usize, scale: u64, value: u64, last: u64) -> Option<Number>
     requires { (earlier < 10) × (0 < scale) }
     ensures { result ≡ judged (earlier + 1) last (value + last * scale) }
 {
     if (LARGEST - value) / scale < last {
-        return Number::Refused;
+        return None;
     }
-    let count = earlier + 1;
-    let fewest = is_fewest(count, last);
-    Number::Read(value + last * scale, count, fewest)
+    let used = earlier + 1;
+    let fewest = is_fewest(used, last);
+    Some(Number {
+        value: value + last * scale,
+        used,
+        fewest,
+    })
 }
 
 // The groups at a place of some bytes. The place may lie past the end: then no number is there.
 // The next group counts for `scale`. No more than ten groups are looked at, so nothing overflows.
-fn read_groups(bytes: &[u8], at: usize) -> Number
+fn read_groups(bytes: &[u8], at: usize) -> Option<Number>
     ensures { result ≡ decode bytes.now at }
 {
     let mut i = at;
@@ -49,15 +51,12 @@ fn read_groups(bytes: &[u8], at: usize) -> Number
     let mut scale: u64 = 1;
     let mut value: u64 = 0;
     loop {
-        if bytes.len() <= i {
-            return Number::Refused;
-        }
-        let byte = bytes[i] as u64;
+        let byte = u64::from(*bytes.get(i)?);
         if byte < 128 {
             return with_last(count, scale, value, byte);
         }
         if count == 9 {
-            return Number::Refused;
+            return None;
         }
         value += byte % 128 * scale;
         scale *= 128;
@@ -67,15 +66,16 @@ fn read_groups(bytes: &[u8], at: usize) -> Number
 }
 
 // The number at a place of some bytes. Most numbers have one group, which is the value.
-pub fn read_number(bytes: &[u8], at: usize) -> Number
+pub fn read_number(bytes: &[u8], at: usize) -> Option<Number>
     ensures { result ≡ decode bytes.now at }
 {
-    if bytes.len() <= at {
-        return Number::Refused;
-    }
-    let byte = bytes[at] as u64;
+    let byte = u64::from(*bytes.get(at)?);
     if byte < 128 {
-        return Number::Read(byte, 1, true);
+        return Some(Number {
+            value: byte,
+            used: 1,
+            fewest: true,
+        });
     }
     read_groups(bytes, at)
 }
@@ -109,25 +109,25 @@ fn write_groups(part: &mut [u8], n: u64)
 }
 
 // Writes a number over the front of a part, and answers how many bytes it used.
-// A part that is too short stays as it is, and the answer is 0, which no number takes.
-pub fn write_number(part: &mut [u8], n: u64) -> usize
+// A part that is too short stays as it is, and the answer is none.
+pub fn write_number(part: &mut [u8], n: u64) -> Option<usize>
     ensures { (result ≡ used part.old n) × (part.new ≡ written part.old n) }
 {
     let width = number_width(n);
     if part.len() < width {
-        return 0;
+        return None;
     }
     write_groups(part, n);
-    width
+    Some(width)
 }
 
 // Writes a number into what remains of a buffer from a cursor on, and answers how many bytes it used.
-// Where it does not fit, or the cursor lies past the end, the buffer stays as it is, and the answer is 0.
-pub fn write_number_at(image: &mut [u8], at: usize, n: u64) -> usize
+// Where it does not fit, or the cursor lies past the end, the buffer stays as it is, and the answer is none.
+pub fn write_number_at(image: &mut [u8], at: usize, n: u64) -> Option<usize>
     ensures { (result ≡ used_at image.old at n) × (image.new ≡ written_at image.old at n) }
 {
     if image.len() < at {
-        return 0;
+        return None;
     }
     write_number(&mut image[at..], n)
 }

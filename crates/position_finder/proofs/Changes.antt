@@ -1,22 +1,25 @@
--- Laws of a list changed in place: what stands at a place, and that one place more is one store more.
+-- Laws of a list changed in place: what stands at a place, and that a part that is filled is such a change.
 use mathlib.Core.Path.{◌≡◌, refl, sym, ap, subst, ◌∙◌}
 use mathlib.Core.Bool.{Bool, true, false, not, ◌&&◌, cond}
 use mathlib.Core.List.{List, [], ◌∷◌}
-use mathlib.Core.Logic.{◌⊎◌, inl, inr, ⊎_elim}
+use mathlib.Core.Logic.{◌⊎◌, inl, inr}
 use Prim.Native.Nat.{ℕ, zero, suc, ◌+◌, ◌-◌, ◌^◌, ◌≤◌, ◌<◌}
 use native.Mathlib.Decide.{ℕ_discrete}
 use native.Mathlib.Omega.{arith}
 use lib.Bits.{bit_and, bit_or, or_zero_r}
 use lib.Count.{count_trailing_zeros}
 use lib.Dec.{eqb, leb, ltb}
-use lib.ListN.{length, get_or, set, length-set}
+use lib.ListN.{length, get_or, set, length-set, replicate}
 use lib.Seq.{ext_get_or, get_or-set_same, get_or-set_other}
 use borrow.Author.Tests.{lt-ltb, le-ltb, le-leb, lt-leb, eq-eqb, ne_eqb}
 use Rattle.basics.specs.Bits.{bit, ◌∈◌}
 use Rattle.basics.proofs.laws.BitLaws.{bit-zero}
 use Rattle.basics.proofs.laws.LowestMember.{Lowest, lowest, lowest_in, bit-cleared}
-use Rattle.basics.proofs.laws.Order.{compare_cases, lt-or-le}
-use Rattle.position_finder.specs.Forests.{changed, joined}
+use Rattle.basics.proofs.laws.Order.{lt-or-le}
+use Rattle.position_finder.specs.Forests.{changed, joined, filled}
+use borrow.Author.Rules.{rules}
+use borrow.Rule.Slice.PartMut.{mid_of, put_mid}
+use Rattle.std.proofs.lemmas.List.{places}
 
 pub changed-length : (a e : ℕ) (f : ℕ → ℕ → ℕ) (i : ℕ) (l : List ℕ) → length (changed a e f i l) ≡ length l
 unfolding changed
@@ -39,46 +42,6 @@ module _ (a e : ℕ) (f : ℕ → ℕ → ℕ) (l : List ℕ) (p : ℕ) where
 
   pub changed_above : p < length l → a ≤ p → e ≤ p → get_or (changed a e f 0 l) p 0 ≡ get_or l p 0
   changed_above h g k = changed-at a e f 0 l p p (omega arith) h ∙ rw (le-leb a p g, le-ltb p e k)
-
--- No place changed yet.
-pub changed-none : (a : ℕ) (f : ℕ → ℕ → ℕ) (l : List ℕ) → l ≡ changed a a f 0 l
-changed-none a f l =
-    ext_get_or 0 _ _ (sym (changed-length a a f 0 l))
-    (λ p h. ⊎_elim (λ g. sym (changed-below a a f l p h g)) (λ g. sym (changed_above a a f l p h g g)) (lt-or-le p a))
-
--- One store more.
-pub changed-more : (a i : ℕ) (f : ℕ → ℕ → ℕ) (l : List ℕ) → a ≤ i → i < length l
-    → set (changed a i f 0 l) i (f i (get_or (changed a i f 0 l) i 0)) ≡ changed a (i + 1) f 0 l
-changed-more a i f l h k =
-    ext_get_or 0 _ _ (length-set d i v ∙ changed-length a i f 0 l ∙ sym (changed-length a (i + 1) f 0 l))
-    (λ p b. at p (rw (length-set d i v, changed-length a i f 0 l) at b) (compare_cases p i) (lt-or-le p a))
-  where
-    d : List ℕ
-    d = changed a i f 0 l
-
-    v : ℕ
-    v = f i (get_or d i 0)
-
-    at : (p : ℕ) → p < length l → (p < i) ⊎ ((p ≡ i) ⊎ (i < p)) → (p < a) ⊎ (a ≤ p)
-        → get_or (set d i v) p 0 ≡ get_or (changed a (i + 1) f 0 l) p 0
-    at p b (inl g) (inl m) =
-        get_or-set_other d i p v 0 (λ z. omega arith) ∙ changed-below a i f l p b m ∙ sym (changed-below a (i + 1) f l p b m)
-    at p b (inl g) (inr m) =
-        get_or-set_other d i p v 0 (λ z. omega arith) ∙ changed-inside a i f l p b m g
-        ∙ sym (changed-inside a (i + 1) f l p b m (omega arith))
-    at p b (inr (inl e)) m =
-        ap (λ (q : ℕ). get_or (set d i v) q 0) e ∙ get_or-set_same d i v 0 (omega (arith, changed-length a i f 0 l))
-        ∙ ap (f i) (changed_above a i f l i k h (omega arith))
-        ∙ sym (changed-inside a (i + 1) f l i k h (omega arith))
-        ∙ ap (λ (q : ℕ). get_or (changed a (i + 1) f 0 l) q 0) (sym e)
-    at p b (inr (inr g)) m =
-        get_or-set_other d i p v 0 (λ z. omega arith) ∙ changed_above a i f l p b (omega arith) (omega arith)
-        ∙ sym (changed_above a (i + 1) f l p b (omega arith) (omega arith))
-
-pub changed_store : (a i : ℕ) (f : ℕ → ℕ → ℕ) (l r : List ℕ) (v : ℕ) → a ≤ i → i < length l → r ≡ changed a i f 0 l
-    → v ≡ f i (get_or r i 0) → set r i v ≡ changed a (i + 1) f 0 l
-changed_store a i f l r v h k e g =
-    ap (set r i) g ∙ ap (λ (d : List ℕ). set d i (f i (get_or d i 0))) e ∙ changed-more a i f l h k
 
 -- The follow set of a position after a join.
 pub joined-at : (from next : ℕ) (l : List ℕ) → length l ≡ 64 → (p : ℕ) → p < 64
@@ -175,3 +138,20 @@ module _ (from next : ℕ) (l : List ℕ) (sixty_four : length l ≡ 64) where
       and_true : (a : Bool) → (a && true) ≡ a
       and_true true = refl
       and_true false = refl
+
+-- A part filled with one number.
+pub filled_part : (a e k : ℕ) (l part : List ℕ) → a ≤ e → e ≤ length l → part ≡ replicate (length (mid_of a (e - a) l)) k → put_mid a (e - a) l part ≡ filled a e k l
+filled_part a e k l part h g p =
+    rw (p, long) (ext_get_or 0 _ _ (size ∙ sym (changed-length a e (λ i x. k) 0 l)) (λ q b. at q (omega (arith, size)) (lt-or-le q a) (lt-or-le q e)))
+  where
+    long : length (mid_of a (e - a) l) ≡ e - a
+    long = search (rules, places)
+
+    size : length (put_mid a (e - a) l (replicate (e - a) k)) ≡ length l
+    size = search (rules, places)
+
+    at : (q : ℕ) → q < length l → (q < a) ⊎ (a ≤ q) → (q < e) ⊎ (e ≤ q)
+        → get_or (put_mid a (e - a) l (replicate (e - a) k)) q 0 ≡ get_or (filled a e k l) q 0
+    at q b (inl m) n = search (rules, places) ∙ sym (changed-below a e (λ i x. k) l q b m)
+    at q b (inr m) (inl n) = search (rules, places) ∙ sym (changed-inside a e (λ i x. k) l q b m n)
+    at q b (inr m) (inr n) = search (rules, places) ∙ sym (changed_above a e (λ i x. k) l q b m n)

@@ -6,6 +6,7 @@ use mathlib.Core.Option.{Option, some}
 use Prim.Native.Nat.{ℕ, suc, ◌+◌}
 use native.Mathlib.Omega.{arith}
 use lib.Bits.{bit_or}
+use Rattle.std.specs.Prelude as Prelude
 use lib.ListN.{length, length-map, take, drop, take-append-drop}
 use Rattle.basics.specs.Bits.{bit}
 use Rattle.basics.specs.Lists.{sum}
@@ -20,7 +21,6 @@ use Rattle.lexer.proofs.laws.PositionBounds.{class_total, positions-length}
 use Rattle.columns.specs.declared.PositionColumns.{PositionColumns}
 use Rattle.columns.specs.HeldPositions.{held_from, held_positions}
 use Rattle.position_finder.specs.declared.Forest.{Forest}
-use Rattle.position_finder.specs.declared.EmptyRule.{EmptyRule}
 use Rattle.position_finder.specs.Stacks.{TagsHeld, Stacked, first_up}
 use Rattle.position_finder.specs.Forests.{all_first, RegexesHeld, ForestOf}
 use Rattle.position_finder.specs.Answer.{empty_rule, PositionsOf}
@@ -68,7 +68,7 @@ module _ (c : RuleColumns) (rules : List Rule) (places : List ℕ) (held : Rules
   rules-counted = held.rules ∙ length-map rules (λ r. r.action) ∙ sym (length-map rules (λ r. r.regex))
 
   -- Question 7, where the stack has the rules' flags.
-  pub empty_answered : (flags : List Bool) (e : EmptyRule) → Stacked false flags (map nullable (regexes_of rules))
+  pub empty_answered : (flags : List Bool) (e : Prelude.Option ℕ) → Stacked false flags (map nullable (regexes_of rules))
       → ((up : List Bool) → Stacked false flags up → c.count ≡ length up → empty_rule e ≡ first_up up 0) → empty_rule e ≡ empty_match rules 0
   empty_answered flags e s f =
       f (map nullable (regexes_of rules)) s (rules-counted ∙ sym (length-map (regexes_of rules) nullable)) ∙ empty_same rules 0

@@ -114,19 +114,23 @@ module _ (tags : List ℕ) (items classes : ℕ) (rs : List Regex) (at : ℕ) (s
         classes_left = made_base i.0 r s base ∙ omega (arith, i.1.classes, w.classes_left);
       })
 
-module _ (rs : List Regex) (stack : List Sets) (flow : List ℕ) (top base : ℕ) (w : Swept rs 0 stack flow top base) where
-  pub swept_stack : (tags : List ℕ) (items classes count : ℕ) → RegexesHeld tags items classes rs → count ≡ length rs
-      → RulesStacked stack count rs
-  swept_stack tags items classes count held counted = record {
-    stacked = subst (λ (l : List Regex). Stacked unused stack (all_sets l 0)) (regexes-all rs)
-        (subst (λ (b : ℕ). Stacked unused stack (all_sets (regexes (flat_map regex_items_of rs)) b)) w.classes_left w.state.piled.stacked);
-    rules = counted;
-    classes_fit = omega (arith, held.classes_counted, held.classes_fit);
-  }
+module _ (rs : List Regex) (at : ℕ) (stack : List Sets) (flow : List ℕ) (top base : ℕ) (done : at ≤ 0) (w : Swept rs at stack flow top base)
+  where
+    all_swept : Swept rs 0 stack flow top base
+    all_swept = let e : at ≡ 0 = omega arith in subst (λ (n : ℕ). Swept rs n stack flow top base) e w
 
-  pub swept_end : (sets : RuleSets) → RuleSetsOf rs sets → ForestOf rs (record { sets = sets; follow = flow })
-  swept_end sets g = record {
-    gathered = g;
-    follows = λ p h. w.state.follows p h ∙ ap (λ (b : ℕ). all_follow (regexes (flat_map regex_items_of rs)) b p) w.classes_left
-        ∙ ap (λ (l : List Regex). all_follow l 0 p) (regexes-all rs);
-  }
+    pub swept_stack : (tags : List ℕ) (items classes count : ℕ) → RegexesHeld tags items classes rs → count ≡ length rs
+        → RulesStacked stack count rs
+    swept_stack tags items classes count held counted = record {
+      stacked = subst (λ (l : List Regex). Stacked unused stack (all_sets l 0)) (regexes-all rs)
+          (subst (λ (b : ℕ). Stacked unused stack (all_sets (regexes (flat_map regex_items_of rs)) b)) all_swept.classes_left all_swept.state.piled.stacked);
+      rules = counted;
+      classes_fit = omega (arith, held.classes_counted, held.classes_fit);
+    }
+
+    pub swept_end : (sets : RuleSets) → RuleSetsOf rs sets → ForestOf rs (record { sets = sets; follow = flow })
+    swept_end sets g = record {
+      gathered = g;
+      follows = λ p h. all_swept.state.follows p h ∙ ap (λ (b : ℕ). all_follow (regexes (flat_map regex_items_of rs)) b p) all_swept.classes_left
+          ∙ ap (λ (l : List Regex). all_follow l 0 p) (regexes-all rs);
+    }

@@ -48,25 +48,18 @@ struct Forest {
     follow: [u64; 64],
 }
 
-// Question 7: the first rule that matches the empty word, if there is one.
-#[derive(Clone, Copy)]
-pub enum EmptyRule {
-    Nothing,
-    Rule(u8),
-}
-
 // Whether the regex of an item matches the empty word, if the next two regexes match it or do not. The empty one and a star do in any
 // case, and a class does not.
+#[tactic(auto, unfolding(crate::specs::Stacks::flag_of))]
 fn flag_of(tag: u8, r: bool, s: bool) -> bool
     ensures { result ≡ flag_of tag r s }
 {
-    if tag == 2 {
-        return r & s;
+    match tag {
+        1 => false,
+        2 => r & s,
+        3 => r | s,
+        _ => true,
     }
-    if tag == 3 {
-        return r | s;
-    }
-    tag != 1
 }
 
 // Of regexes that stand one after the other in prefix order, which ones match the empty word: a stack with the first regex's flag on
@@ -78,9 +71,7 @@ fn flags_of(tag: &[u8; 256], items: usize) -> [bool; 258]
 {
     let mut flags = [false; 258];
     let mut top: usize = 1;
-    let mut at = items;
-    while 0 < at {
-        at -= 1;
+    for at in (0..items).rev() {
         let flag = flag_of(tag[at], flags[top], flags[top - 1]);
         top = top + 1 - columns::parts_of(tag[at]);
         flags[top] = flag;
@@ -89,38 +80,26 @@ fn flags_of(tag: &[u8; 256], items: usize) -> [bool; 258]
 }
 
 // The number of the first flag that is up, from the top of the stack down.
-fn first_up(flags: &[bool; 258], count: u8) -> EmptyRule
+fn first_up(flags: &[bool; 258], count: u8) -> Option<u8>
     ensures { (up : List Bool) → Stacked false flags.now up → count ≡ length up → empty_rule result ≡ first_up up 0 }
 {
-    let mut k: u8 = 0;
-    while k < count {
+    for k in 0..count {
         let top = (count - k) as usize + 1;
         if flags[top] {
-            return EmptyRule::Rule(k);
+            return Some(k);
         }
-        k += 1;
     }
-    EmptyRule::Nothing
+    None
 }
 
 // Question 7: the first rule that matches the empty word. No position is made.
-pub fn empty_rule(rules: RuleColumns) -> EmptyRule
+pub fn empty_rule(rules: RuleColumns) -> Option<u8>
     requires { (held : List Rule) × (places : List ℕ) × RulesOf rules held places }
     ensures { (held : List Rule) (places : List ℕ) → RulesOf rules held places → empty_rule result ≡ empty_match held 0 }
 {
     let count = rules.count as u8;
     let flags = flags_of(&rules.tag, rules.items);
     first_up(&flags, count)
-}
-
-// A set if a flag is up, else the empty set.
-fn only_if(flag: bool, set: u64) -> u64
-    ensures { result ≡ cond flag set 0 }
-{
-    if flag {
-        return set;
-    }
-    0
 }
 
 fn empty_node(base: usize) -> Node
@@ -165,8 +144,8 @@ fn concat_node(r: Sets, s: Sets, base: usize) -> Node
 {
     let sets = Sets {
         nullable: r.nullable & s.nullable,
-        first: r.first | only_if(r.nullable, s.first),
-        last: only_if(s.nullable, r.last) | s.last,
+        first: r.first | sets::only_if(s.first, r.nullable),
+        last: sets::only_if(r.last, s.nullable) | s.last,
         end: s.end,
     };
     Node {
@@ -212,23 +191,18 @@ fn star_node(r: Sets, base: usize) -> Node
 }
 
 // The node of a tag, over the next two regexes, whose positions start at a base.
+#[tactic(auto, unfolding(crate::specs::Nodes::node_of))]
 fn node_of(tag: u8, r: Sets, s: Sets, base: usize) -> Node
     requires { (base ≤ 64) × (tag ≡ 1 → 0 < base) }
     ensures { result ≡ node_of tag r s base }
 {
-    if tag == 0 {
-        return empty_node(base);
+    match tag {
+        0 => empty_node(base),
+        1 => class_node(base),
+        2 => concat_node(r, s, base),
+        3 => union_node(r, s, base),
+        _ => star_node(r, base),
     }
-    if tag == 1 {
-        return class_node(base);
-    }
-    if tag == 2 {
-        return concat_node(r, s, base);
-    }
-    if tag == 3 {
-        return union_node(r, s, base);
-    }
-    star_node(r, base)
 }
 
 // Lets the positions `next` follow each of the positions `from`, from the lowest of these to the next, until none is left. The lowest
@@ -245,36 +219,22 @@ fn join_follow(follow: &mut [u64; 64], from: u64, next: u64)
     }
 }
 
-// Writes a rule's number over the positions from `base` to `end`.
-fn fill(rule: &mut [u8; 64], base: usize, end: usize, k: u8)
-    requires { (length rule.old ≡ 64) × (base ≤ end) × (end ≤ 64) }
-    ensures { rule.new ≡ filled base end k rule.old }
-{
-    let mut i = base;
-    while i < end {
-        rule[i] = k;
-        i += 1;
-    }
-}
-
 // The rules' own sets together. Rule 0 is on top of the stack.
-fn rule_sets(stack: [Sets; 258], count: u8) -> RuleSets
-    requires { (rs : List Regex) × RulesStacked stack count rs }
-    ensures { (rs : List Regex) → RulesStacked stack count rs → RuleSetsOf rs result }
+fn rule_sets(stack: &[Sets; 258], count: u8) -> RuleSets
+    requires { (rs : List Regex) × RulesStacked stack.now count rs }
+    ensures { (rs : List Regex) → RulesStacked stack.now count rs → RuleSetsOf rs result }
 {
     let mut rule = [0u8; 64];
     let mut first: u64 = 0;
     let mut last: u64 = 0;
     let mut base: usize = 0;
-    let mut k: u8 = 0;
-    while k < count {
+    for k in 0..count {
         let top = (count - k) as usize + 1;
         let sets = stack[top];
-        fill(&mut rule, base, sets.end, k);
+        rule[base..sets.end].fill(k);
         first |= sets.first;
         last |= sets.last;
         base = sets.end;
-        k += 1;
     }
     RuleSets { rule, first, last }
 }
@@ -295,9 +255,7 @@ fn sweep(tag: &[u8; 256], items: usize, classes: usize, count: u8) -> Forest
     let mut follow = [0u64; 64];
     let mut top: usize = 1;
     let mut base = classes;
-    let mut at = items;
-    while 0 < at {
-        at -= 1;
+    for at in (0..items).rev() {
         let node = node_of(tag[at], stack[top], stack[top - 1], base);
         join_follow(&mut follow, node.from, node.next);
         top = top + 1 - columns::parts_of(tag[at]);
@@ -305,7 +263,7 @@ fn sweep(tag: &[u8; 256], items: usize, classes: usize, count: u8) -> Forest
         stack[top] = sets;
         base = node.base;
     }
-    let sets = rule_sets(stack, count);
+    let sets = rule_sets(&stack, count);
     Forest { sets, follow }
 }
 

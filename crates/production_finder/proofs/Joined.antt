@@ -3,7 +3,9 @@
 use mathlib.Core.Path.{◌≡◌, refl, sym, ap, ap₂, subst, ◌∙◌}
 use mathlib.Core.Bool.{false, cond}
 use mathlib.Core.List.{List, [], ◌∷◌}
-use mathlib.Core.Option.{Option, none, some}
+use mathlib.Core.Option as maybe
+use mathlib.Core.Option.{none, some}
+use Rattle.std.specs.Prelude.{Option, None}
 use Prim.Native.Nat.{ℕ, zero, suc, ◌≤◌, ◌<◌}
 use native.Mathlib.Omega.{arith}
 use lib.ListN.{get_or, length, drop, length-drop}
@@ -31,13 +33,13 @@ use Rattle.production_finder.specs.declared.Tail.{Tail}
 use Rattle.production_finder.specs.declared.Walked.{Walked}
 
 module _ (tag link first : List ℕ) (e : Expression) (c : ColumnsOf tag link first e) (t : ℕ) where
-  abbrev walks : ℕ → ℕ → List ℕ → Option (List ℕ)
+  abbrev walks : ℕ → ℕ → List ℕ → maybe.Option (List ℕ)
   walks = column_walk tag link c.guarded first t
 
-  abbrev column_step : (ℕ → List ℕ → Option (List ℕ)) → Node → List ℕ → Option (List ℕ)
+  abbrev column_step : (ℕ → List ℕ → maybe.Option (List ℕ)) → Node → List ℕ → maybe.Option (List ℕ)
   column_step = walk_step (column_node tag link c.guarded) (column_first first) t
 
-  abbrev own_step : (ℕ → List ℕ → Option (List ℕ)) → Node → List ℕ → Option (List ℕ)
+  abbrev own_step : (ℕ → List ℕ → maybe.Option (List ℕ)) → Node → List ℕ → maybe.Option (List ℕ)
   own_step = walk_step (node_at (nodes e)) (λ n. (type_of (least_types e) n).first) t
 
   node_same : (n : ℕ) → n < size e → column_node tag link c.guarded n ≡ node_at (nodes e) n
@@ -79,13 +81,13 @@ module _ (tag link first : List ℕ) (e : Expression) (c : ColumnsOf tag link fi
   solves = least_solves c.tokens c.tokens_most e c.closed
 
   module _ (n : ℕ) (l : n < size e) where
-    abbrev Right : Option Production → Type 0
+    abbrev Right : maybe.Option Production → Type 0
     Right o = o ≡ production_of t (row_of (normal_form e) n).productions
 
     -- No production, since the token is outside FIRST.
-    pub right_outside : (r : Tail) → r.found ≡ false → bit (column_first first n) t ≡ false → Right (production_held t r)
-    unfolding production_held tail_held
-    right_outside r f b = rw f (sym (first_has_not typed solves t n (ap (λ s. bit s t) (sym (first_same n l)) ∙ b)))
+    pub right_outside : bit (column_first first n) t ≡ false → Right (production_held t None)
+    unfolding production_held
+    right_outside b = sym (first_has_not typed solves t n (ap (λ s. bit s t) (sym (first_same n l)) ∙ b))
 
     -- A token of FIRST.
     module _ (b : t ∈ column_first first n) where
@@ -99,7 +101,7 @@ module _ (tag link first : List ℕ) (e : Expression) (c : ColumnsOf tag link fi
       found : (tail : List ℕ) × (walks 64 n [] ≡ some tail)
       found = go (walks 64 n []) refl walk_right
         where
-          go : (o : Option (List ℕ)) → walks 64 n [] ≡ o → Right (with_head t o) → (tail : List ℕ) × (walks 64 n [] ≡ some tail)
+          go : (o : maybe.Option (List ℕ)) → walks 64 n [] ≡ o → Right (with_head t o) → (tail : List ℕ) × (walks 64 n [] ≡ some tail)
           go none z h =
               let q = (first_has_production typed solves n t).0 in_first in
               let f : Found t (row_of (normal_form e) n).productions none =
@@ -108,7 +110,7 @@ module _ (tag link first : List ℕ) (e : Expression) (c : ColumnsOf tag link fi
           go (some tail) z h = (tail, z)
 
       -- The production that the walk found. Its tail is no longer than any tail, so it fits.
-      pub right_found : (r : Tail) (w : Walked) → ((tail : List ℕ) → walks 64 n [] ≡ some tail → drop w.start w.rights ≡ tail)
+      pub right_found : (r : Option Tail) (w : Walked) → ((tail : List ℕ) → walks 64 n [] ≡ some tail → drop w.start w.rights ≡ tail)
           → length w.rights ≡ 64 → (32 ≤ w.start → tail_held r ≡ some (drop w.start w.rights)) → Right (production_held t r)
       unfolding production_held
       right_found r w h f m = ap (with_head t) (m fits ∙ sym given) ∙ walk_right

@@ -1,7 +1,8 @@
 -- What columns hold of a typed expression, and what the results of the code stand for. That the results are right is proved
 -- elsewhere.
-use Rattle.std.specs.Prelude.{◌≡◌, false, cond, List, ℕ, ◌≤◌, ◌<◌, get_or, take}
-use Rattle.std.proofs.Math.Option.{Option, none, some}
+use Rattle.std.specs.Prelude.{◌≡◌, List, ℕ, ◌≤◌, ◌<◌, get_or, take, Option, Some, None, ⊤}
+use Rattle.std.proofs.Math.Option as maybe
+use Rattle.std.proofs.Math.Option.{none, some}
 use Rattle.sheet.specs.Expression.{Expression, size}
 use Rattle.sheet.specs.Limits.{most_tokens, most_expression_nodes}
 use Rattle.sheet.specs.WellFormed.{Closed}
@@ -25,15 +26,16 @@ pub record ColumnsOf (tag link first : List ℕ) (e : Expression) : Type 0 where
   pub nodes_held : (n : ℕ) → n < size e → held_node tag link guarded n ≡ node_at (nodes e) n
   pub first_held : (n : ℕ) → n < size e → get_or first n 0 ≡ (type_of (least_types e) n).first
 
--- What holds of every tail: its count is within the array, and 0 where nothing was found. The members past the count are free.
-pub record TailCounted (r : Tail) : Type 0 where
-  pub fits : r.count ≤ 32
-  pub none_counted : r.found ≡ false → r.count ≡ 0
+-- What holds of every tail: its count is within the array. The members past the count are free.
+abbrev pub TailCounted : Option Tail → Type 0
+TailCounted None = ⊤
+TailCounted (Some r) = r.count ≤ 32
 
 -- The tail that the code has found, if any.
-unfoldable pub tail_held : Tail → Option (List ℕ)
-tail_held r = cond r.found (some (take r.count r.members)) none
+abbrev pub tail_held : Option Tail → maybe.Option (List ℕ)
+tail_held None = none
+tail_held (Some r) = some (take r.count r.members)
 
 -- The same as a production for a token.
-unfoldable pub production_held : ℕ → Tail → Option Production
+unfoldable pub production_held : ℕ → Option Tail → maybe.Option Production
 production_held t r = with_head t (tail_held r)

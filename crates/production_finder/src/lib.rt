@@ -2,7 +2,7 @@
 // numbers that nodes get in an image are not spoken of here.
 #![tactic(auto)]
 
-ghost use Rattle.std.specs.Prelude.{◌≡◌, false, List, [], ℕ, ◌≤◌, ◌<◌, drop};
+ghost use Rattle.std.specs.Prelude.{◌≡◌, List, [], ℕ, ◌≤◌, ◌<◌, drop, get_or};
 ghost use Rattle.std.proofs.Math.Option.{some};
 ghost use Rattle.basics.specs.Bits.{bit};
 ghost use Rattle.sheet.specs.Expression.{Expression, size};
@@ -18,7 +18,15 @@ fn has_token(set: u32, token: u8) -> bool
     if 32 <= token {
         return false;
     }
-    sets::has(set as u64, token as usize)
+    sets::has(u64::from(set), usize::from(token))
+}
+
+// The columns that a walk reads, by node: tags, links and FIRST sets. They are lent and not copied.
+#[derive(Clone, Copy)]
+pub struct WalkColumns<'a> {
+    pub tag: &'a [u8; 64],
+    pub link: &'a [u8; 64],
+    pub first: &'a [u32; 64],
 }
 
 // The end of a walk: the right nodes remembered, the last one first, from `start` on.
@@ -28,36 +36,15 @@ struct Walked {
     rights: [u8; 64],
 }
 
-// A node's production for a token, if it has one: the first `count` members are its tail.
+// The tail of a node's production for a token: the first `count` members.
 #[derive(Clone, Copy)]
 pub struct Tail {
-    pub found: bool,
     pub count: usize,
     pub members: [u8; 32],
 }
 
-// A walk that has not begun.
-fn first_walked() -> Walked
-    ensures { result.start ≡ 64 }
-{
-    Walked {
-        start: 64,
-        rights: [0; 64],
-    }
-}
-
-// No production.
-fn no_tail() -> Tail
-    ensures { (result.found ≡ false) × (result.count ≡ 0) }
-{
-    Tail {
-        found: false,
-        count: 0,
-        members: [0; 32],
-    }
-}
-
 // Whether node n can begin with a token. No node from 64 on can.
+#[tactic(auto, unfolding(crate::specs::ColumnWalk::column_first))]
 fn begins(first: &[u32; 64], n: usize, token: u8) -> bool
     ensures { result ≡ bit (column_first first.now n) token }
 {
@@ -68,106 +55,92 @@ fn begins(first: &[u32; 64], n: usize, token: u8) -> bool
 }
 
 // The node after an alternative, a fixed point or a variable: an alternative leads into the left part if that can begin with
-// the token. After any other there is none, and 64 is none.
-fn next_node(tag: u8, link: u8, n: usize, first: &[u32; 64], token: u8) -> usize
+// the token. After any other there is none.
+#[tactic(auto, unfolding(crate::specs::ColumnWalk::next_node))]
+fn next_node(columns: WalkColumns, n: usize, token: u8) -> Option<usize>
     requires { n < 64 }
-    ensures { result ≡ next_node tag link n first.now token }
+    ensures { result ≡ next_node (get_or columns.entry.tag.now n 0) (get_or columns.entry.link.now n 0) n columns.entry.first.now token }
 {
-    if tag == 4 {
-        if begins(first, n + 1, token) {
-            return n + 1;
-        }
-        return link as usize;
+    let link = usize::from(columns.link[n]);
+    match columns.tag[n] {
+        4 => Some(if begins(columns.first, n + 1, token) {
+            n + 1
+        } else {
+            link
+        }),
+        5 => Some(n + 1),
+        6 => Some(link),
+        _ => None,
     }
-    if tag == 5 {
-        return n + 1;
-    }
-    if tag == 6 {
-        return link as usize;
-    }
-    64
 }
 
 // The walk for a token from a node. It ends at ε, ⊥ or a token, and does not ask which token. A sequence remembers its right node and
 // leads into its left part. A repetition does the same, and what it remembers is itself. No typed expression needs more steps than it
 // has nodes.
-fn walk<'a>(
-    tag: &'a [u8; 64],
-    link: &'a [u8; 64],
-    first: &'a [u32; 64],
-    node: usize,
-    token: u8,
-) -> Walked
-    ensures { (result.start ≤ 64)
-        × ((guarded : ℕ) (tail : List ℕ)
-        → column_walk tag.now link.now guarded first.now token 64 node [] ≡ some tail
-        → drop result.start result.rights ≡ tail) }
+fn walk(columns: WalkColumns, node: usize, token: u8) -> Walked
+    ensures within { result.start ≤ 64 }
+    ensures same { (guarded : ℕ) (tail : List ℕ)
+        → column_walk columns.entry.tag.now columns.entry.link.now guarded columns.entry.first.now token 64 node [] ≡ some tail
+        → drop result.start result.rights ≡ tail }
 {
-    let mut w = first_walked();
+    let mut w = Walked {
+        start: 64,
+        rights: [0; 64],
+    };
     let mut at = node;
-    let mut left: usize = 64;
-    while 0 < left {
+    for _ in 0..64usize {
         if 64 <= at {
             return w;
         }
-        let kind = tag[at];
-        let to = link[at];
+        let kind = columns.tag[at];
         if kind < 3 {
             return w;
         }
-        left -= 1;
         if (kind == 3) | (kind == 7) {
             let start = w.start - 1;
             w.start = start;
-            w.rights[start] = to;
+            w.rights[start] = columns.link[at];
             at += 1;
             continue;
         }
-        at = next_node(kind, to, at, first, token);
+        let Some(next) = next_node(columns, at, token) else {
+            return w;
+        };
+        at = next;
     }
     w
 }
 
 // The remembered nodes as a tail. A tail has at most 32 members, so more are none.
-fn tail_of(rights: [u8; 64], start: usize) -> Tail
-    requires { start ≤ 64 }
-    ensures { TailCounted result × (32 ≤ start → tail_held result ≡ some (drop start rights)) }
+fn tail_of(walked: &Walked) -> Option<Tail>
+    requires { walked.now.start ≤ 64 }
+    ensures counted { TailCounted result }
+    ensures same { 32 ≤ walked.now.start → tail_held result ≡ some (drop walked.now.start walked.now.rights) }
 {
-    let mut tail = no_tail();
-    if start < 32 {
-        return tail;
+    if walked.start < 32 {
+        return None;
     }
-    let count = 64 - start;
-    let mut i: usize = 0;
-    while i < count {
-        tail.members[i] = rights[start + i];
-        i += 1;
-    }
-    tail.found = true;
-    tail.count = count;
-    tail
+    let found = &walked.rights[walked.start..];
+    let count = found.len();
+    let mut members = [0; 32];
+    members[..count].copy_from_slice(found);
+    Some(Tail { count, members })
 }
 
 // A node's production for a token in the normal form. A token outside FIRST has none. This is asked first, since the walk does not ask
 // at which token it ends, nor whether the right nodes that it remembers derive a token sequence: in N·⊥ it would end at N. A token of
 // FIRST always has one, and the walk ends at it.
-pub fn production<'a>(
-    tag: &'a [u8; 64],
-    link: &'a [u8; 64],
-    first: &'a [u32; 64],
-    node: usize,
-    token: u8,
-) -> Tail
-    requires { (e : Expression) × ColumnsOf tag.now link.now first.now e × (node < size e) }
-    ensures { TailCounted result
-        × ((e : Expression) → ColumnsOf tag.now link.now first.now e
+pub fn production(columns: WalkColumns, node: usize, token: u8) -> Option<Tail>
+    requires { (e : Expression) × ColumnsOf columns.tag.now columns.link.now columns.first.now e × (node < size e) }
+    ensures counted { TailCounted result }
+    ensures same { (e : Expression)
+        → ColumnsOf columns.entry.tag.now columns.entry.link.now columns.entry.first.now e
         → node < size e
-        → production_held token result ≡ production_of token (row_of (normal_form e) node).productions) }
+        → production_held token result ≡ production_of token (row_of (normal_form e) node).productions }
 {
-    if !begins(first, node, token) {
-        return no_tail();
+    if !begins(columns.first, node, token) {
+        return None;
     }
-    let w = walk(tag, link, first, node, token);
-    let rights = w.rights;
-    tail_of(rights, w.start)
+    let walked = walk(columns, node, token);
+    tail_of(&walked)
 }

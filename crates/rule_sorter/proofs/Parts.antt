@@ -1,12 +1,13 @@
--- A part of a column, and how it is appended entry by entry. Which parts are wanted is not asked here.
-use mathlib.Core.Path.{◌≡◌, refl, sym, ap, ◌∙◌, subst}
-use mathlib.Core.Bool.{Bool, true, false, not, false≢true}
-use mathlib.Core.List.{List, [], ◌∷◌, ◌++◌, append_assoc, append-nil}
-use Prim.Native.Nat.{ℕ, suc, ◌+◌, ◌-◌, ◌≤◌, ◌<◌}
+-- A part of a column, and how it is appended. Which parts are wanted is not asked here.
+use mathlib.Core.Path.{◌≡◌, refl, sym, ap, ◌∙◌}
+use mathlib.Core.Bool.{Bool, true, false, not, beq, cond, false≢true}
+use mathlib.Core.List.{List, [], ◌++◌}
+use Prim.Native.Nat.{ℕ, ◌+◌, ◌-◌, ◌≤◌}
 use native.Mathlib.Omega.{arith}
-use native.Mathlib.Numerals.{add-one}
-use lib.ListN.{length, take, drop, get_or, set, length-drop}
-use lib.Seq.{take-suc, take-suc-set, get_or-drop, length-take-le}
+use lib.ListN.{length, take, drop, length-drop}
+use lib.Seq.{length-take-le}
+use borrow.Rule.Slice.PartMut.{put_mid}
+use Rattle.std.proofs.lemmas.Slice.{take-put_mid}
 use Rattle.rule_sorter.specs.Kinds.{part}
 
 pub part_unwanted : (wanted : Bool) (begin end : ℕ) (l : List ℕ) → not wanted ≡ true → part wanted begin end l ≡ []
@@ -25,22 +26,18 @@ pub part-length : (wanted : Bool) (begin end : ℕ) (l : List ℕ) → not wante
 part-length wanted begin end l e h k =
     ap length (part_wanted wanted begin end l e) ∙ length-take-le (end - begin) (drop begin l) (omega (arith, length-drop begin l))
 
-module _ (begin : ℕ) (from front : List ℕ) where
-  pub part-start : front ≡ front ++ take (begin - begin) (drop begin from)
-  part-start =
-      let e : 0 ≡ begin - begin = omega arith in
-      subst (λ (n : ℕ). front ≡ front ++ take n (drop begin from)) e (sym (append-nil front))
+-- The column in which the part has been copied behind what it held.
+pub appended : (begin end at : ℕ) (from to copy : List ℕ) → begin ≤ end → end ≤ length from → at ≤ length to
+    → copy ≡ take (end - begin) (drop begin from)
+    → take (at + (end - begin)) (put_mid at (at + (end - begin) - at) to copy) ≡ take at to ++ take (end - begin) (drop begin from)
+appended begin end at from to copy h k room e =
+    let long : length (take (end - begin) (drop begin from)) ≡ end - begin =
+    length-take-le (end - begin) (drop begin from) (omega (arith, length-drop begin from)) in
+    take-put_mid at _ to copy (at + (end - begin)) (omega (arith, ap length e)) room ∙ ap (λ (l : List ℕ). take at to ++ l) e
 
-  pub part_more : (to : List ℕ) (next i : ℕ) → next < length to → begin ≤ i → i < length from
-      → take next to ≡ front ++ take (i - begin) (drop begin from)
-      → take (next + 1) (set to next (get_or from i 0)) ≡ front ++ take (i + 1 - begin) (drop begin from)
-  part_more to next i room least most e =
-      let n = i - begin in
-      let x = get_or from i 0 in
-      let y : get_or (drop begin from) n 0 ≡ x = get_or-drop begin from n 0 ∙ ap (λ (j : ℕ). get_or from j 0) (omega arith) in
-      let m : suc n ≡ i + 1 - begin = omega arith in
-      let last : take (suc n) (drop begin from) ≡ take n (drop begin from) ++ (x ∷ []) =
-      take-suc (drop begin from) n 0 (omega (arith, length-drop begin from)) ∙ ap (λ (z : ℕ). take n (drop begin from) ++ (z ∷ [])) y in
-      ap (λ (j : ℕ). take j (set to next x)) (add-one next) ∙ take-suc-set to next x room ∙ ap (λ (l : List ℕ). l ++ (x ∷ [])) e
-      ∙ append_assoc front (take n (drop begin from)) (x ∷ []) ∙ ap (λ (l : List ℕ). front ++ l) (sym last)
-      ∙ ap (λ (j : ℕ). front ++ take j (drop begin from)) m
+-- The code's test of a rule's kind.
+pub kind_test : (words word : Bool) → beq words word ≡ cond words word (not word)
+kind_test true true = refl
+kind_test true false = refl
+kind_test false true = refl
+kind_test false false = refl

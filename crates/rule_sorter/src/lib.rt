@@ -2,7 +2,7 @@
 // Only the columns are put in that order; positions and numbers are made of them by other crates.
 #![tactic(auto)]
 
-ghost use Rattle.std.specs.Prelude.{◌≡◌, not, cond, List, ◌++◌, ℕ, ◌+◌, ◌≤◌, ◌<◌, length, take, get_or};
+ghost use Rattle.std.specs.Prelude.{◌≡◌, List, ◌++◌, ℕ, ◌+◌, ◌≤◌, ◌<◌, length, take, get_or};
 ghost use Rattle.sheet.specs.Regex.{Regex};
 ghost use Rattle.sheet.specs.laws.RegexItems.{regex_items_of};
 ghost use Rattle.sheet.specs.Sheet.{Rule};
@@ -22,34 +22,28 @@ struct RuleEnd {
 }
 
 // How many classes an item is.
+#[tactic(auto, unfolding(crate::specs::Ends::classes_of))]
 fn classes_of(tag: u8) -> usize
     ensures { result ≡ classes_of tag }
 {
-    if tag == 1 {
-        return 1;
-    }
-    0
+    usize::from(tag == 1)
 }
 
 // Whether an item may stand in a word rule: a class of one byte may, and an alternative and a star may not.
-fn word_item<'a>(tag: u8, low: &'a [u8; 64], high: &'a [u8; 64], class: usize) -> bool
+#[tactic(auto, unfolding(crate::specs::Ends::word_item))]
+fn word_item(tag: u8, low: &[u8; 64], high: &[u8; 64], class: usize) -> bool
     requires { tag ≡ 1 → class < 64 }
     ensures { result ≡ word_item tag (get_or low.now class 0) (get_or high.now class 0) }
 {
-    if tag == 1 {
-        return low[class] == high[class];
+    match tag {
+        1 => low[class] == high[class],
+        3 | 4 => false,
+        _ => true,
     }
-    (tag != 3) & (tag != 4)
 }
 
 // Where the rule ends whose regex begins at an item and a class. In prefix order that is where no regex is due any more.
-fn rule_end<'a>(
-    tag: &'a [u8; 256],
-    low: &'a [u8; 64],
-    high: &'a [u8; 64],
-    item: usize,
-    class: usize,
-) -> RuleEnd
+fn rule_end(tag: &[u8; 256], low: &[u8; 64], high: &[u8; 64], item: usize, class: usize) -> RuleEnd
     requires { (class ≤ 64) × ((r : Regex) × ItemsAt tag.now low.now high.now item class (regex_items_of r)) }
     ensures { (r : Regex) → ItemsAt tag.now low.now high.now item class (regex_items_of r)
         → result ≡ rule_end r item class }
@@ -60,7 +54,7 @@ fn rule_end<'a>(
     let mut due: usize = 1;
     while 0 < due {
         let t = tag[i];
-        word = word & word_item(t, low, high, c);
+        word &= word_item(t, low, high, c);
         c += classes_of(t);
         due = due - 1 + columns::parts_of(t);
         i += 1;
@@ -70,16 +64,6 @@ fn rule_end<'a>(
         item: i,
         class: c,
     }
-}
-
-// Whether a rule is of the kind that is asked for, the word rules or the others.
-fn of_kind(words: bool, word: bool) -> bool
-    ensures { result ≡ cond words word (not word) }
-{
-    if words {
-        return word;
-    }
-    !word
 }
 
 // Appends a part of one column to another, if it is wanted, and says where the next part goes.
@@ -98,13 +82,8 @@ fn append_part(
     if !wanted {
         return at;
     }
-    let mut next = at;
-    let mut i = begin;
-    while i < end {
-        to[next] = from[i];
-        next += 1;
-        i += 1;
-    }
+    let next = at + (end - begin);
+    to[at..next].copy_from_slice(&from[begin..end]);
     next
 }
 
@@ -125,17 +104,15 @@ fn append_kind(rules: RuleColumns, words: bool, sorted: RuleColumns) -> RuleColu
     let mut classes = sorted.classes;
     let mut item: usize = 0;
     let mut class: usize = 0;
-    let mut k: usize = 0;
-    while k < rules.count {
+    for k in 0..rules.count {
         let end = rule_end(&rules.tag, &rules.low, &rules.high, item, class);
-        let wanted = of_kind(words, end.word);
+        let wanted = words == end.word;
         count = append_part(&rules.action, k, k + 1, wanted, &mut action, count);
         items = append_part(&rules.tag, item, end.item, wanted, &mut tag, items);
         append_part(&rules.low, class, end.class, wanted, &mut low, classes);
         classes = append_part(&rules.high, class, end.class, wanted, &mut high, classes);
         item = end.item;
         class = end.class;
-        k += 1;
     }
     let place = sorted.place;
     RuleColumns {

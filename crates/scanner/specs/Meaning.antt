@@ -1,6 +1,7 @@
 -- What the answers of the scanner's functions mean in the terms of the walk. The walk itself is defined in lexer.
-use Rattle.std.specs.Prelude.{◌≡◌, List, [], ◌∷◌, ℕ, suc, ◌%◌, ◌≤◌, length, get_or, drop}
-use Rattle.std.proofs.Math.Option.{Option, none, some}
+use Rattle.std.specs.Prelude.{◌≡◌, List, [], ◌∷◌, ℕ, suc, ◌%◌, ◌≤◌, length, get_or, drop, Option, Some, None}
+use Rattle.std.proofs.Math.Option as maybe
+use Rattle.std.proofs.Math.Option.{none, some}
 use Rattle.basics.specs.Bits.{bit}
 use Rattle.lexer.specs.Positions.{Position}
 use Rattle.lexer.specs.Match.{Match, no_match, matched}
@@ -8,18 +9,15 @@ use Rattle.lexer.specs.Walk.{keep, follows, ended_rule}
 use Rattle.lexer.specs.Alive.{Told, ends_with, in_vain}
 use Rattle.lexer.specs.laws.PositionBounds.{NeverFalling}
 use Rattle.scanner.specs.ClassTable.{ClassTable}
-use Rattle.scanner.specs.declared.Found.{Found}
-use Rattle.scanner.specs.declared.Found.TheVariants.{Nothing, Rule}
+use Rattle.scanner.specs.declared.Match as code
 use Rattle.scanner.specs.declared.WalkEnd.{WalkEnd}
 use Rattle.scanner.specs.declared.WalkEnd.TheVariants as end
-use Rattle.scanner.specs.declared.EndedRule.{EndedRule}
-use Rattle.scanner.specs.declared.EndedRule.TheVariants.{NoRule, Lowest}
 use Rattle.scanner.specs.declared.AfterByte.{AfterByte}
 
 -- The match that an answer of the longest-match function stands for.
-unfoldable pub match_of : Found → Match
-match_of Nothing = no_match
-match_of (Rule rule n) = matched rule n
+unfoldable pub match_of : Option code.Match → Match
+match_of None = no_match
+match_of (Some m) = matched m.rule m.length
 
 -- What an answer of the function that walks once tells.
 unfoldable pub told_of : WalkEnd → Told
@@ -28,9 +26,9 @@ told_of (end.Rule rule n) = ends_with (matched rule n)
 told_of (end.InVain n) = in_vain n
 
 -- The rule of which a match ends with a byte, if there is one.
-unfoldable pub rule_of : EndedRule → Option ℕ
-rule_of NoRule = none
-rule_of (Lowest rule) = some rule
+unfoldable pub rule_of : Option ℕ → maybe.Option ℕ
+rule_of None = none
+rule_of (Some rule) = some rule
 
 -- The state is what the byte leads to from the held positions: "a byte keeps the held positions whose class has it; a kept
 -- position that is last ends a match of its rule there; then the follow sets of the kept ones, together, are held".

@@ -12,9 +12,9 @@ ghost use Rattle.scanner.specs.Sets.{joined, first_entry, match_by, latest_ended
 
 // The longest match: the lowest rule that has it, and its length.
 #[derive(Clone, Copy)]
-pub enum Found {
-    Nothing,
-    Rule(u8, usize),
+pub struct Match {
+    pub rule: u8,
+    pub length: usize,
 }
 
 // What one walk tells: that there is no match; the longest one, if the walk ends with it; or that it went over so many bytes in vain, past the
@@ -26,18 +26,11 @@ pub enum WalkEnd {
     InVain(usize),
 }
 
-// The lowest rule of which a match ends with a byte.
-#[derive(Clone, Copy)]
-pub enum EndedRule {
-    NoRule,
-    Lowest(u8),
-}
-
-// What a byte leads to: the positions that are held after it, and the rule that ended with it.
+// What a byte leads to: the positions that are held after it, and the lowest rule of which a match ends with it.
 #[derive(Clone, Copy)]
 struct AfterByte {
     held: u64,
-    ended: EndedRule,
+    ended: Option<u8>,
 }
 
 // A step of the walk over a set as a word: its lowest position, and the set without it.
@@ -74,17 +67,17 @@ pub fn follow_sets(kept: u64, tables: &[u64; 448]) -> u64
 }
 
 // The rule of the lowest position of a set: the lowest rule of all its positions, where rules never fall.
-pub fn lowest_rule(ending: u64, tables: &[u64; 448]) -> EndedRule
+pub fn lowest_rule(ending: u64, tables: &[u64; 448]) -> Option<u8>
     ensures { rule_of result ≡ first_entry (drop 320 tables.now) (members ending) }
 {
     if ending == 0 {
-        return EndedRule::NoRule;
+        return None;
     }
     let step = lowest_first(ending);
     let i = step.position;
     let word = tables[320 + i];
     let number = (word % 256) as u8;
-    EndedRule::Lowest(number)
+    Some(number)
 }
 
 // What a byte leads to: the class table gives the kept positions by one `and`, and only these are walked.
@@ -116,32 +109,34 @@ fn latest(ending: u64, n: usize, earlier: EndedBy) -> EndedBy
 }
 
 // The match that last positions stand for.
-pub fn found_match(ending: u64, length: usize, tables: &[u64; 448]) -> Found
+pub fn found_match(ending: u64, length: usize, tables: &[u64; 448]) -> Option<Match>
     ensures { match_of result ≡ match_by (drop 320 tables.now) ending length }
 {
-    let ended = lowest_rule(ending, tables);
-    match ended {
-        EndedRule::NoRule => return Found::Nothing,
-        EndedRule::Lowest(number) => return Found::Rule(number, length),
-    }
+    let rule = lowest_rule(ending, tables)?;
+    Some(Match { rule, length })
 }
 
 // The longest match at the front of a text. The first byte has none before it. From then on, where a byte keeps the same positions as the
 // byte before it, the same are held after it, and nothing is walked. Where it keeps others, a match that ended before it is noted as a
 // set; the rule is looked up once, after the walk, and the one that `after_byte` tells is not used. The walk ends where a byte keeps no
 // position. If those that the latest byte kept end a match, that is the longest, otherwise the one noted is.
-pub fn longest_match<'a>(text: &'a [u8], tables: &'a [u64; 448], last: u64, first: u64) -> Found
+pub fn longest_match<'a>(
+    text: &'a [u8],
+    tables: &'a [u64; 448],
+    last: u64,
+    first: u64,
+) -> Option<Match>
     requires { (ps : List Position) × Prepared ps last tables.now }
     ensures { (ps : List Position) → Prepared ps last tables.now
         → match_of result ≡ longest_match ps first text.now }
 {
     if text.len() < 1 {
-        return Found::Nothing;
+        return None;
     }
     let front = text[0];
     let mut kept = first & tables[front as usize];
     if kept == 0 {
-        return Found::Nothing;
+        return None;
     }
     let begun = after_byte(front, first, last, tables);
     let mut held = begun.held;
@@ -200,7 +195,7 @@ pub fn walk_once<'a>(text: &'a [u8], tables: &'a [u64; 448], last: u64, first: u
     }
     let winner = lowest_rule(kept & last, tables);
     match winner {
-        EndedRule::NoRule => return WalkEnd::InVain(walked),
-        EndedRule::Lowest(number) => return WalkEnd::Rule(number, walked),
+        None => return WalkEnd::InVain(walked),
+        Some(number) => return WalkEnd::Rule(number, walked),
     }
 }

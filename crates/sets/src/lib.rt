@@ -26,6 +26,13 @@ pub fn with(set: u64, n: usize, member: bool) -> u64
     set
 }
 
+// The set, if its members are to be in, else the empty set.
+pub fn only_if(set: u64, member: bool) -> u64
+    ensures { result ≡ cond member set 0 }
+{
+    if member { set } else { 0 }
+}
+
 // All numbers below a count.
 pub fn all_below(count: usize) -> u64
     requires { count ≤ 64 }

@@ -1,8 +1,7 @@
 -- Reading numbers from the left, one field after the other: what was read and the next place, or the question that fails
 -- and its place. Sheets and images are both read so.
-use Rattle.std.specs.Prelude.{Bool, cond, ◌&&◌, List, [], ◌∷◌, ℕ, zero, suc, ◌+◌, leb}
+use Rattle.std.specs.Prelude.{Bool, cond, ◌&&◌, List, [], ◌∷◌, ℕ, zero, suc, ◌+◌, leb, Option, Some, None}
 use Rattle.number.specs.declared.Number.{Number}
-use Rattle.number.specs.declared.Number.TheVariants.{Read, Refused}
 
 pub data Reading (A : Type 0) : Type 0 where
   -- the number of the question that fails, and its place
@@ -21,12 +20,12 @@ between least most v = leb least v && leb v most
 
 -- Is there a number, and then "Is its value allowed in its field?": each has its own question number, and the number's first byte as its
 -- place. A missing number's place is the input's length, which is where its first byte would stand.
-unfoldable pub field_of : ℕ → ℕ → (ℕ → Bool) → ℕ → Number → Reading ℕ
-field_of unreadable forbidden allowed at Refused = stop unreadable at
-field_of unreadable forbidden allowed at (Read v used fewest) = cond (allowed v) (got v (at + used)) (stop forbidden at)
+unfoldable pub field_of : ℕ → ℕ → (ℕ → Bool) → ℕ → Option Number → Reading ℕ
+field_of unreadable forbidden allowed at None = stop unreadable at
+field_of unreadable forbidden allowed at (Some n) = cond (allowed n.value) (got n.value (at + n.used)) (stop forbidden at)
 
 -- The same of the number at a place of some bytes. Which bytes are a number there is the caller's: a sheet's may be padded, an image's not.
-unfoldable pub read_field : (List ℕ → ℕ → Number) → ℕ → ℕ → (ℕ → Bool) → List ℕ → ℕ → Reading ℕ
+unfoldable pub read_field : (List ℕ → ℕ → Option Number) → ℕ → ℕ → (ℕ → Bool) → List ℕ → ℕ → Reading ℕ
 read_field number unreadable forbidden allowed bytes at = field_of unreadable forbidden allowed at (number bytes at)
 
 -- So many things in a row. What was read so far decides how the next is read, by a state.

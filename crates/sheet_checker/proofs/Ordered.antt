@@ -7,12 +7,11 @@ use Rattle.lexer.specs.RuleOrder.{words_first, image_sheet}
 use Rattle.lexer.proofs.laws.OrderedMatches.{ordered_empty_match, ordered_limits}
 use Rattle.sheet_checker.specs.Steps.{PassedParts}
 use Rattle.sheet_checker.specs.declared.CheckedSheet.{CheckedSheet}
-use Rattle.sheet_checker.specs.declared.Verdict.TheVariants.{Passed}
 
 module _ (s : Sheet) (k : CheckedSheet) (h : PassedParts s k) where
   -- With the rules in the image's order, the sheet in that order has passed.
   pub ordered_parts : (rules : RuleColumns) → RulesOf rules (words_first s.rules) h.places
-      → PassedParts (image_sheet s) (record { verdict = Passed; rules = rules; links = k.links; types = k.types })
+      → PassedParts (image_sheet s) (record { rules = rules; links = k.links; types = k.types })
   unfolding image_sheet
   ordered_parts rules held = record {
     places = h.places;

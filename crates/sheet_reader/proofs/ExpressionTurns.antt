@@ -9,19 +9,23 @@ use native.Mathlib.Omega.{arith}
 use lib.Dec.{eqb, ltb, eqb-suc-zero}
 use lib.ListN.{length, get_or, set, length-set, replicate}
 use lib.Seq.{get_or-set_same, get_or-set_other, set_out}
+use Rattle.std.specs.Prelude.{Result, Ok}
 use borrow.Author.Tests.{eq-eqb, ne_eqb}
 use Rattle.basics.proofs.laws.Order.{compare_cases, lt-or-le}
 use Rattle.sheet.specs.Field.{Reading, stop, got, and_then, between}
-use Rattle.sheet.proofs.laws.FieldLaws.{Outcome, refused, accepted, then_outcome, outcome_got, true-between}
+use Rattle.sheet.proofs.laws.FieldLaws.{Outcome, accepted, then_outcome, outcome_got, true-between}
+use Rattle.sheet.proofs.laws.FieldLaws as outcome
 use Rattle.sheet.specs.Items.{ExpressionItem, epsilon_item, bottom_item, token_item, sequence_item, alternative_item, fixed_point_item, variable_item, repetition_item, part_depths}
 use Rattle.sheet.specs.Reading.{sheet_field, ReadNode, expression_item, expression_nodes}
 use Rattle.sheet.specs.laws.ExpressionItems.{expression_tag}
 use Rattle.columns.specs.Holds.{number_after}
 use Rattle.columns.specs.declared.NodeColumns.{NodeColumns}
 use Rattle.sheet_reader.specs.Put.{with_node, with_read_node, Pending, pending, due_from, due_of, next_opened, with_parts, no_nodes}
-use Rattle.sheet_reader.specs.Turns.{in_range, expression_turn, expression_answer, numbered_answer}
-use Rattle.sheet_reader.specs.declared.ExpressionTurn.TheVariants.{Node}
-use Rattle.sheet_reader.specs.declared.ExpressionTurn.TheVariants as node_case
+use Rattle.sheet_reader.specs.Reads.{refused}
+use Rattle.sheet_reader.specs.declared.Refusal.{Refusal}
+use Rattle.sheet_reader.specs.declared.ExpressionTurn.{ExpressionTurn}
+use Rattle.sheet_reader.specs.Turns.{in_range, expression_turn, expression_answer, turned, numbered_answer}
+use Rattle.sheet_reader.proofs.Told.{told_stop, told_tag, told_number, told_turn_next}
 use Rattle.sheet_reader.proofs.Leading.{in_front}
 use Rattle.sheet_reader.proofs.Fields.{below, field_same, field-kept, Any, field-inside, pred_suc}
 
@@ -35,7 +39,7 @@ numbered_is make tag t n (stop q s) = refl
 numbered_is make tag t n (got k end) = rw (t k, n k)
 
 plain_is : (item : ExpressionItem) {m : Reading ExpressionItem} {tag next : ℕ} → m ≡ got item next → tag ≡ expression_tag item
-    → number_after item ≡ 0 → Node tag 0 next ≡ expression_answer m
+    → number_after item ≡ 0 → turned tag 0 next ≡ expression_answer m
 unfolding expression_answer
 plain_is item e t n = rw (e, t, n)
 
@@ -70,14 +74,14 @@ module _ (bytes : List ℕ) (tokens count opened at : ℕ) where
           ap (numbered_answer 6) (field_same (below opened) bytes next)
           ∙ numbered_is variable_item 6 (λ k. refl) (λ k. refl) _ ∙ ap expression_answer (sym (node_tag ∙ rw t))
 
-      pub node_plain : (tag ≡ 2 → ⊥) → (tag ≡ 6 → ⊥) → Node tag 0 next ≡ expression_answer (expression_turn bytes tokens (64 - count) opened at)
+      pub node_plain : (tag ≡ 2 → ⊥) → (tag ≡ 6 → ⊥) → turned tag 0 next ≡ expression_answer (expression_turn bytes tokens (64 - count) opened at)
       unfolding expression_item expression_tag number_after
       node_plain n2 n6 = go tag refl
         where
           most : tag ≤ 7
           most = (true-between 0 7 tag (field-kept (between 0 7) bytes at e).holds).1
 
-          go : (t : ℕ) → tag ≡ t → Node tag 0 next ≡ expression_answer (expression_turn bytes tokens (64 - count) opened at)
+          go : (t : ℕ) → tag ≡ t → turned tag 0 next ≡ expression_answer (expression_turn bytes tokens (64 - count) opened at)
           go zero s = plain_is epsilon_item (node_tag ∙ rw s) s refl
           go (suc zero) s = plain_is bottom_item (node_tag ∙ rw s) s refl
           go (suc (suc zero)) s = absurd (n2 s)
@@ -96,17 +100,16 @@ record NodeTold (m : Reading ExpressionItem) (tag number next : ℕ) : Type 0 wh
   tag_is : tag ≡ expression_tag item
   number_is : number ≡ number_after item
 
-pub node_unread : (m : Reading ExpressionItem) {question place : ℕ} → expression_answer m ≡ node_case.Refused question place → m ≡ stop question place
+pub node_unread : (m : Reading ExpressionItem) {question place : ℕ} → expression_answer m ≡ refused question place → m ≡ stop question place
 unfolding expression_answer
-node_unread (stop q s) e = cc
-node_unread (got i n) e = let z : ◌≡◌ {A = ℕ} 0 1 = cc in absurd (omega arith)
+node_unread (stop q s) e = told_stop e
+node_unread (got i n) e = cc
 
-node_told : (m : Reading ExpressionItem) {tag number next : ℕ} → expression_answer m ≡ Node tag number next → NodeTold m tag number next
+node_told : (m : Reading ExpressionItem) {tag number next : ℕ} → expression_answer m ≡ turned tag number next → NodeTold m tag number next
 unfolding expression_answer
-node_told (stop q s) e = let z : ◌≡◌ {A = ℕ} 0 1 = cc in absurd (omega arith)
+node_told (stop q s) e = cc
 node_told (got i n) {tag} {number} {next} e =
-    let same : n ≡ next = cc in
-    record { item = i; read = ap (got i) same; tag_is = cc; number_is = cc }
+    record { item = i; read = ap (got i) (told_turn_next e); tag_is = sym (told_tag e); number_is = sym (told_number e) }
 
 -- A node was still allowed, and the place after it lies within the bytes.
 record ExpressionKept (bytes : List ℕ) (left : ℕ) (item : ExpressionItem) (next : ℕ) : Type 0 where
@@ -142,14 +145,20 @@ module _ (bytes : List ℕ) where
       go false false false false false true j k = plain fixed_point_item
       go false false false false false false true k = numbered opened variable_item
       go false false false false false false false true = plain repetition_item
-      go false false false false false false false false = refused 4 at tt
+      go false false false false false false false false = outcome.refused 4 at tt
 
   turn_keeps : (tokens left opened at : ℕ) → Outcome Any (ExpressionKept bytes left) (expression_turn bytes tokens left opened at)
   unfolding expression_turn
-  turn_keeps tokens zero opened at = then_outcome (field-inside (between 0 7) bytes at) (λ tag next f. refused 5 at tt)
+  turn_keeps tokens zero opened at = then_outcome (field-inside (between 0 7) bytes at) (λ tag next f. outcome.refused 5 at tt)
   turn_keeps tokens (suc left) opened at =
       rw (eqb-suc-zero left)
       (then_outcome (field-inside (between 0 7) bytes at) (λ tag next f. item_keeps tokens left opened at tag next f.inside))
+
+-- A turn that was read found room for its node.
+pub turn_room : (bytes : List ℕ) (tokens opened at : ℕ) {count : ℕ} {r : Result ExpressionTurn Refusal} {turn : ExpressionTurn}
+    → r ≡ expression_answer (expression_turn bytes tokens (64 - count) opened at) → r ≡ Ok turn → count < 64
+turn_room bytes tokens opened at {count} h e =
+    omega (arith, (outcome_got (turn_keeps bytes tokens (64 - count) opened at) (node_told _ (sym h ∙ e)).read).node_allowed)
 
 -- ---- the expressions due
 
@@ -352,10 +361,7 @@ module _ (bytes : List ℕ) (tokens : ℕ) (c : NodeColumns) (p : Pending) (at :
             ∙ nodes-turn bytes tokens (64 - c.count) (next_opened p) (due_from (p.count - 1) p.opened) at ∙ rw (e, left, ← parts);
       }
 
-  module _ {tag number next : ℕ} (told : expression_answer (node_from bytes tokens c p at) ≡ Node tag number next) where
-    pub node_room : c.count < 64
-    node_room = omega (arith, (node_kept (node_told (node_from bytes tokens c p at) told).read).node_allowed)
-
+  module _ {tag number next : ℕ} (told : expression_answer (node_from bytes tokens c p at) ≡ turned tag number next) where
     pub node_again : {q : Pending} → 0 < p.count → PendingFit c p → q ≡ with_parts p tag
         → NodesAgain bytes tokens c p at (with_node c tag number at) q next
     node_again some f h =

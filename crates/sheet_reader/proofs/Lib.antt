@@ -1,4 +1,5 @@
 -- Laws that the functions' proofs cite.
+pub mod Told
 pub mod Fields
 pub mod Leading
 pub mod RegexTurns

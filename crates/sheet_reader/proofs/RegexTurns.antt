@@ -6,6 +6,7 @@ use Prim.Native.Nat.{ℕ, zero, suc, ◌+◌, ◌-◌, ◌≤◌, ◌<◌}
 use native.Mathlib.Omega.{arith}
 use lib.Dec.{eqb, eqb-suc-zero}
 use lib.ListN.{length}
+use Rattle.std.specs.Prelude.{Result, Ok}
 use borrow.Author.Tests.{eq-eqb, ne_eqb}
 use Rattle.sheet.specs.Field.{Reading, stop, got, and_then, between}
 use Rattle.sheet.proofs.laws.FieldLaws.{Outcome, refused, accepted, then_outcome, outcome_got, true-between}
@@ -15,6 +16,8 @@ use Rattle.columns.specs.declared.RuleColumns.{RuleColumns}
 use Rattle.sheet_reader.specs.Put.{with_tag, with_item}
 use Rattle.sheet_reader.specs.Turns.{node_answer, regex_turn}
 use Rattle.sheet_reader.specs.Answers.{RulesFit}
+use Rattle.sheet_reader.specs.declared.Refusal.{Refusal}
+use Rattle.sheet_reader.specs.declared.RuleTurn.{RuleTurn}
 use Rattle.sheet_reader.specs.declared.RuleTurn.TheVariants.{Class, Plain}
 use Rattle.sheet_reader.proofs.Leading.{in_front}
 use Rattle.sheet_reader.proofs.Fields.{field-kept, Any, field-inside, pred_suc}
@@ -29,30 +32,30 @@ pub record PlainNode (tag parts : ℕ) (m : Reading RegexItem) (next : ℕ) : Ty
   pub put : (c : RuleColumns) → with_tag c tag ≡ with_item c item
 
 plain_node : (item : RegexItem) (t k n : ℕ) {tag parts next : ℕ} → regex_parts item ≡ k → ((c : RuleColumns) → with_tag c t ≡ with_item c item)
-    → Plain t k n ≡ Plain tag parts next → PlainNode tag parts (got item n) next
+    → ◌≡◌ {A = Result RuleTurn Refusal} (Ok (Plain t k n)) (Ok (Plain tag parts next)) → PlainNode tag parts (got item n) next
 plain_node item t k n {tag} {parts} {next} h w e =
     let i : tag ≡ t = cc in
     let j : k ≡ parts = cc in
     let l : n ≡ next = cc in
     record { item = item; read = ap (got item) l; parts_are = h ∙ j; put = λ c. ap (with_tag c) i ∙ w c }
 
-pub plain_told : (m : Reading RegexItem) {tag parts next : ℕ} → node_answer m ≡ Plain tag parts next → PlainNode tag parts m next
+pub plain_told : (m : Reading RegexItem) {tag parts next : ℕ} → node_answer m ≡ Ok (Plain tag parts next) → PlainNode tag parts m next
 unfolding node_answer regex_parts with_item
-plain_told (stop q p) e = let z : ◌≡◌ {A = ℕ} 0 1 = cc in absurd (omega arith)
+plain_told (stop q p) e = cc
 plain_told (got empty_item n) e = plain_node empty_item 0 0 n refl (λ c. refl) e
-plain_told (got (class_item low high) n) e = let z : ◌≡◌ {A = ℕ} 0 1 = cc in absurd (omega arith)
+plain_told (got (class_item low high) n) e = cc
 plain_told (got concat_item n) e = plain_node concat_item 2 2 n refl (λ c. refl) e
 plain_told (got union_item n) e = plain_node union_item 3 2 n refl (λ c. refl) e
 plain_told (got star_item n) e = plain_node star_item 4 1 n refl (λ c. refl) e
 
-pub class_told : (m : Reading RegexItem) {low high next : ℕ} → node_answer m ≡ Class low high next → m ≡ got (class_item low high) next
+pub class_told : (m : Reading RegexItem) {low high next : ℕ} → node_answer m ≡ Ok (Class low high next) → m ≡ got (class_item low high) next
 unfolding node_answer
-class_told (stop q p) e = let z : ◌≡◌ {A = ℕ} 0 1 = cc in absurd (omega arith)
-class_told (got empty_item n) e = let z : ◌≡◌ {A = ℕ} 0 1 = cc in absurd (omega arith)
+class_told (stop q p) e = cc
+class_told (got empty_item n) e = cc
 class_told (got (class_item low high) n) e = cc
-class_told (got concat_item n) e = let z : ◌≡◌ {A = ℕ} 0 1 = cc in absurd (omega arith)
-class_told (got union_item n) e = let z : ◌≡◌ {A = ℕ} 0 1 = cc in absurd (omega arith)
-class_told (got star_item n) e = let z : ◌≡◌ {A = ℕ} 0 1 = cc in absurd (omega arith)
+class_told (got concat_item n) e = cc
+class_told (got union_item n) e = cc
+class_told (got star_item n) e = cc
 
 -- ---- the ways through a byte class
 
@@ -100,24 +103,24 @@ module _ (bytes : List ℕ) (items classes at : ℕ) where
     node_class h t = node_tag h ∙ rw t
 
     module _ (h : items < 256) where
-      pub node_empty : tag ≡ 0 → Plain tag 0 next ≡ node_answer (regex_turn bytes (256 - items) classes at)
+      pub node_empty : tag ≡ 0 → Ok (Plain 0 0 next) ≡ node_answer (regex_turn bytes (256 - items) classes at)
       unfolding regex_item node_answer
       node_empty t = rw (node_tag h, t)
 
-      pub node_star : tag ≡ 4 → Plain tag 1 next ≡ node_answer (regex_turn bytes (256 - items) classes at)
+      pub node_star : tag ≡ 4 → Ok (Plain 4 1 next) ≡ node_answer (regex_turn bytes (256 - items) classes at)
       unfolding regex_item node_answer
       node_star t = rw (node_tag h, t)
 
       -- The tags that are left are those of two parts.
       pub node_two : (tag ≡ 0 → ⊥) → (tag ≡ 1 → ⊥) → (tag ≡ 4 → ⊥)
-          → Plain tag 2 next ≡ node_answer (regex_turn bytes (256 - items) classes at)
+          → Ok (Plain tag 2 next) ≡ node_answer (regex_turn bytes (256 - items) classes at)
       unfolding regex_item node_answer
       node_two n0 n1 n4 = go tag refl
         where
           most : tag ≤ 4
           most = (true-between 0 4 tag (field-kept (between 0 4) bytes at e).holds).1
 
-          go : (t : ℕ) → tag ≡ t → Plain tag 2 next ≡ node_answer (regex_turn bytes (256 - items) classes at)
+          go : (t : ℕ) → tag ≡ t → Ok (Plain tag 2 next) ≡ node_answer (regex_turn bytes (256 - items) classes at)
           go zero s = absurd (n0 s)
           go (suc zero) s = absurd (n1 s)
           go (suc (suc zero)) s = rw (node_tag h, s)

@@ -4,6 +4,7 @@ use mathlib.Core.List.{List, [], ◌∷◌}
 use Prim.Native.Nat.{ℕ, zero, suc, ◌+◌, ◌-◌, ◌≤◌, ◌<◌}
 use native.Mathlib.Omega.{arith}
 use lib.ListN.{length}
+use Rattle.std.specs.Prelude.{Result, Ok}
 use borrow.Author.Tests.{eq-eqb, ne_eqb}
 use Rattle.basics.specs.Lists.{sum}
 use Rattle.sheet.specs.Field.{Reading, stop, got, and_then, between, read_many}
@@ -11,11 +12,11 @@ use Rattle.sheet.specs.Items.{RegexItem, item_classes}
 use Rattle.sheet.specs.Reading.{sheet_field, regex_items, ReadRule, Allowance, less_rule, read_rule}
 use Rattle.columns.specs.declared.RuleColumns.{RuleColumns}
 use Rattle.sheet_reader.specs.Put.{with_action, with_item, with_all, with_rule, no_rules}
-use Rattle.sheet_reader.specs.Turns.{node_answer, regex_turn, action_answer, action_turn, rule_turn}
+use Rattle.sheet_reader.specs.Turns.{was_got, node_answer, regex_turn, action_answer, action_turn, rule_turn}
 use Rattle.sheet_reader.specs.Answers.{allowance, Says, Answers, RulesFit}
-use Rattle.sheet_reader.specs.declared.Step.{Step}
-use Rattle.sheet_reader.specs.declared.Step.TheVariants.{Next}
-use Rattle.sheet_reader.specs.declared.Step.TheVariants as step_case
+use Rattle.sheet_reader.specs.Reads.{refused}
+use Rattle.sheet_reader.specs.declared.Refusal.{Refusal}
+use Rattle.sheet_reader.specs.declared.Got.{Got}
 use Rattle.sheet_reader.specs.declared.RuleTurn.TheVariants.{Action, Over}
 use Rattle.sheet_reader.proofs.Leading.{in_front, was_read}
 use Rattle.sheet_reader.proofs.RegexTurns.{items_put, classes_put, count_put}
@@ -23,18 +24,18 @@ use Rattle.sheet_reader.proofs.RegexTurns.{items_put, classes_put, count_put}
 -- ---- the ways through a part of a rule
 
 module _ (bytes : List ℕ) (tokens left at : ℕ) where
-  pub actions_over : left ≡ 0 → Over (Next at) ≡ action_turn bytes tokens left at
+  pub actions_over : left ≡ 0 → Ok Over ≡ action_turn bytes tokens left at
   unfolding action_turn
   actions_over e = rw (eq-eqb left 0 e)
 
   module _ (some : (left ≡ 0 → ⊥)) where
     pub action_unfit : {question place : ℕ} → sheet_field (between 0 tokens) bytes at ≡ stop question place
-        → Over (step_case.Refused question place) ≡ action_turn bytes tokens left at
+        → refused question place ≡ action_turn bytes tokens left at
     unfolding action_turn action_answer
     action_unfit e = rw (ne_eqb left 0 some, e)
 
     pub action_read : {action next : ℕ} → sheet_field (between 0 tokens) bytes at ≡ got action next
-        → Action action next ≡ action_turn bytes tokens left at
+        → Ok (Action action next) ≡ action_turn bytes tokens left at
     unfolding action_turn action_answer
     action_read e = rw (ne_eqb left 0 some, e)
 
@@ -50,20 +51,20 @@ module _ (bytes : List ℕ) (tokens left at : ℕ) where
 -- ---- the ways through a rule
 
 module _ (bytes : List ℕ) (tokens : ℕ) (c : RuleColumns) (at : ℕ) {most : ℕ} where
-  pub rule_unfit : {question place : ℕ} {d : RuleColumns} → sheet_field (between 0 tokens) bytes at ≡ stop question place
-      → Answers with_rule most (read_rule bytes tokens (allowance c) at) c (step_case.Refused question place) d
+  pub rule_unfit : {question place : ℕ} → sheet_field (between 0 tokens) bytes at ≡ stop question place
+      → Answers with_rule most (read_rule bytes tokens (allowance c) at) c (refused question place)
   unfolding read_rule
   rule_unfit e = record { says = rw e refl }
 
-  pub rule-goes : {action next : ℕ} {p : RuleColumns} {s : Step} {d : RuleColumns} → sheet_field (between 0 tokens) bytes at ≡ got action next
-      → p ≡ with_action c action at → Answers (with_all with_item) most (regex_items bytes (256 - p.items) (64 - p.classes) 1 next) p s d
-      → Answers with_rule most (read_rule bytes tokens (allowance c) at) c s d
+  pub rule-goes : {action next : ℕ} {p : RuleColumns} {r : Result (Got RuleColumns) Refusal} → sheet_field (between 0 tokens) bytes at ≡ got action next
+      → p ≡ with_action c action at → Answers (with_all with_item) most (regex_items bytes (256 - p.items) (64 - p.classes) 1 next) p r
+      → Answers with_rule most (read_rule bytes tokens (allowance c) at) c r
   unfolding read_rule allowance with_rule
-  rule-goes {action} {next} {p} {s} {d} e h k =
+  rule-goes {action} {next} {p} {r} e h k =
       record { says = rw e (go (regex_items bytes (256 - c.items) (64 - c.classes) 1 next) (rw h at k.says)) }
     where
-      go : (m : Reading (List RegexItem)) → Says (with_all with_item) most m (with_action c action at) s d
-          → Says with_rule most (and_then m (λ items end. got (record { place = at; action = action; items = items }) end)) c s d
+      go : (m : Reading (List RegexItem)) → Says (with_all with_item) most m (with_action c action at) r
+          → Says with_rule most (and_then m (λ items end. got (record { place = at; action = action; items = items }) end)) c r
       go (stop q p) k = k
       go (got items end) k = k
 
@@ -154,8 +155,8 @@ pub record RulesAgain (bytes : List ℕ) (tokens count : ℕ) (c : RuleColumns) 
   pub put : p ≡ with_rule c rule
   pub rest : rules_from bytes tokens count c at ≡ and_then (rules_from bytes tokens count p next) (in_front rule)
 
-pub rules_again : {bytes : List ℕ} {tokens : ℕ} (count : ℕ) {c : RuleColumns} {at : ℕ} {s : Step} {p : RuleColumns} {next : ℕ} → c.count < count
-    → Answers with_rule (length bytes) (read_rule bytes tokens (allowance c) at) c s p → s ≡ Next next → RulesAgain bytes tokens count c at p next
+pub rules_again : {bytes : List ℕ} {tokens : ℕ} (count : ℕ) {c : RuleColumns} {at : ℕ} {r : Result (Got RuleColumns) Refusal} {p : RuleColumns} {next : ℕ}
+    → c.count < count → Answers with_rule (length bytes) (read_rule bytes tokens (allowance c) at) c r → r ≡ was_got p next → RulesAgain bytes tokens count c at p next
 rules_again {bytes} {tokens} count {c} {at} l a e =
     let w = was_read a e in
     record {

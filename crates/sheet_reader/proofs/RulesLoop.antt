@@ -7,19 +7,20 @@ use Prim.Native.Nat.{ℕ, zero, suc, ◌+◌, ◌-◌, ◌≤◌, ◌<◌}
 use native.Mathlib.Omega.{arith}
 use lib.Dec.{eqb, eqb-suc-zero}
 use lib.ListN.{length}
+use Rattle.std.specs.Prelude.{Result, Ok, Err}
 use Rattle.basics.proofs.laws.Order.{lt-or-le}
 use Rattle.sheet.specs.Field.{Reading, stop, got, between, read_many}
 use Rattle.sheet.specs.Items.{RegexItem, empty_item, class_item, concat_item, union_item, star_item, regex_parts, item_classes}
 use Rattle.sheet.specs.Reading.{sheet_field, ReadRule, less_rule, read_rule}
 use Rattle.columns.specs.declared.RuleColumns.{RuleColumns}
 use Rattle.sheet_reader.specs.Put.{with_tag, with_class, with_action, with_item, with_all, with_rule, no_rules}
-use Rattle.sheet_reader.specs.Turns.{node_answer, regex_turn, action_answer, action_turn, rule_turn}
+use Rattle.sheet_reader.specs.Turns.{was_got, node_answer, regex_turn, action_answer, action_turn, rule_turn}
 use Rattle.sheet_reader.specs.Answers.{allowance, Answers, RulesFit}
-use Rattle.sheet_reader.specs.declared.Step.{Step}
-use Rattle.sheet_reader.specs.declared.Step.TheVariants.{Next}
-use Rattle.sheet_reader.specs.declared.Step.TheVariants as step_case
+use Rattle.sheet_reader.specs.Reads.{refused}
+use Rattle.sheet_reader.specs.declared.Refusal.{Refusal}
 use Rattle.sheet_reader.specs.declared.RuleTurn.{RuleTurn}
 use Rattle.sheet_reader.specs.declared.RuleTurn.TheVariants.{Action, Class, Plain, Over}
+use Rattle.sheet_reader.proofs.Told.{told_stop}
 use Rattle.sheet_reader.proofs.Leading.{Leads, leads_start, leads_next, leads_stop, leads_end, was_stopped}
 use Rattle.sheet_reader.proofs.RegexTurns.{count_put, turn_from, items_from, items_stop, items_end, Again, turn_again, parts_most, plain_told, class_told, node_kept}
 use Rattle.sheet_reader.proofs.Fields.{field-kept}
@@ -28,11 +29,12 @@ use Rattle.sheet_reader.proofs.RuleTurns.{turn_action, turn_node, rule_unfit, ru
 -- ---- what a turn's answer tells of what was read
 
 -- An action, a node, or neither.
-abbrev kind : RuleTurn → ℕ
-kind (Action action next) = 0
-kind (Class low high next) = 1
-kind (Plain tag parts next) = 1
-kind (Over step) = 2
+abbrev kind : Result RuleTurn Refusal → ℕ
+kind (Ok (Action action next)) = 0
+kind (Ok (Class low high next)) = 1
+kind (Ok (Plain tag parts next)) = 1
+kind (Ok Over) = 2
+kind (Err refusal) = 2
 
 some : (n : ℕ) → 0 < suc n
 some n = omega arith
@@ -46,41 +48,39 @@ node_kind (got concat_item n) = some 0
 node_kind (got union_item n) = some 0
 node_kind (got star_item n) = some 0
 
--- A refusal, as a step.
-record Stopped {A : Type 0} (m : Reading A) (s : Step) : Type 0 where
-  question : ℕ
-  place : ℕ
-  read : m ≡ stop question place
-  step : s ≡ step_case.Refused question place
-
-node_over : (m : Reading RegexItem) {s : Step} → node_answer m ≡ Over s → Stopped m s
+-- A node is never the end of the rules, and a refusal is its own.
+node_on : (m : Reading RegexItem) → node_answer m ≡ Ok Over → ⊥
 unfolding node_answer
-node_over (stop q p) e = record { question = q; place = p; read = refl; step = cc }
-node_over (got empty_item n) e = let z : ◌≡◌ {A = ℕ} 0 1 = cc in absurd (omega arith)
-node_over (got (class_item low high) n) e = let z : ◌≡◌ {A = ℕ} 0 1 = cc in absurd (omega arith)
-node_over (got concat_item n) e = let z : ◌≡◌ {A = ℕ} 0 1 = cc in absurd (omega arith)
-node_over (got union_item n) e = let z : ◌≡◌ {A = ℕ} 0 1 = cc in absurd (omega arith)
-node_over (got star_item n) e = let z : ◌≡◌ {A = ℕ} 0 1 = cc in absurd (omega arith)
+node_on (stop q p) e = cc
+node_on (got empty_item n) e = cc
+node_on (got (class_item low high) n) e = cc
+node_on (got concat_item n) e = cc
+node_on (got union_item n) e = cc
+node_on (got star_item n) e = cc
 
--- What an action's answer tells: rules are left, and which it is.
-record ActionTold (left : ℕ) (m : Reading ℕ) (action next : ℕ) : Type 0 where
+node_stopped : (m : Reading RegexItem) {question place : ℕ} → node_answer m ≡ refused question place → m ≡ stop question place
+unfolding node_answer
+node_stopped (stop q p) e = told_stop e
+node_stopped (got empty_item n) e = cc
+node_stopped (got (class_item low high) n) e = cc
+node_stopped (got concat_item n) e = cc
+node_stopped (got union_item n) e = cc
+node_stopped (got star_item n) e = cc
+
+-- What an action's answer tells: rules are left, and how the action was read.
+record ActionTold (left : ℕ) (m told : Reading ℕ) : Type 0 where
   some_left : 0 < left
-  read : m ≡ got action next
-
--- The rules are over, or the next action is refused.
-data ActionOver (left at : ℕ) (m : Reading ℕ) (s : Step) : Type 0 where
-  none_left : left ≡ 0 → s ≡ Next at → ActionOver left at m s
-  refused : 0 < left → Stopped m s → ActionOver left at m s
+  read : m ≡ told
 
 module _ (bytes : List ℕ) (tokens left at : ℕ) where
   -- By whether rules are left, and what the field is.
-  by_left : (P : RuleTurn → Type 0) → (left ≡ 0 → P (Over (Next at)))
+  by_left : (P : Result RuleTurn Refusal → Type 0) → (left ≡ 0 → P (Ok Over))
       → (0 < left → P (action_answer (sheet_field (between 0 tokens) bytes at))) → P (action_turn bytes tokens left at)
   unfolding action_turn
   by_left P over on = go left over on
     where
-      go : (n : ℕ) → (n ≡ 0 → P (Over (Next at))) → (0 < n → P (action_answer (sheet_field (between 0 tokens) bytes at)))
-          → P (cond (eqb n 0) (Over (Next at)) (action_answer (sheet_field (between 0 tokens) bytes at)))
+      go : (n : ℕ) → (n ≡ 0 → P (Ok Over)) → (0 < n → P (action_answer (sheet_field (between 0 tokens) bytes at)))
+          → P (cond (eqb n 0) (Ok Over) (action_answer (sheet_field (between 0 tokens) bytes at)))
       go zero over on = over refl
       go (suc n) over on = rw (eqb-suc-zero n) (on (some n))
 
@@ -92,26 +92,37 @@ module _ (bytes : List ℕ) (tokens left at : ℕ) where
       go (stop q p) e = let z : ◌≡◌ {A = ℕ} 2 1 = e in absurd (omega arith)
       go (got a n) e = let z : ◌≡◌ {A = ℕ} 0 1 = e in absurd (omega arith)
 
-  action_told : {action next : ℕ} → action_turn bytes tokens left at ≡ Action action next
-      → ActionTold left (sheet_field (between 0 tokens) bytes at) action next
+  action_told : {action next : ℕ} → action_turn bytes tokens left at ≡ Ok (Action action next)
+      → ActionTold left (sheet_field (between 0 tokens) bytes at) (got action next)
   unfolding action_answer
-  action_told {action} {next} = by_left (λ t. t ≡ Action action next → ActionTold left (sheet_field (between 0 tokens) bytes at) action next)
-      (λ h e. let z : ◌≡◌ {A = ℕ} 0 1 = cc in absurd (omega arith)) (λ h. go (sheet_field (between 0 tokens) bytes at) h)
+  action_told {action} {next} = by_left
+      (λ t. t ≡ Ok (Action action next) → ActionTold left (sheet_field (between 0 tokens) bytes at) (got action next))
+      (λ h e. cc) (λ h. go (sheet_field (between 0 tokens) bytes at) h)
     where
-      go : (m : Reading ℕ) → 0 < left → action_answer m ≡ Action action next → ActionTold left m action next
-      go (stop q p) h e = let z : ◌≡◌ {A = ℕ} 0 1 = cc in absurd (omega arith)
+      go : (m : Reading ℕ) → 0 < left → action_answer m ≡ Ok (Action action next) → ActionTold left m (got action next)
+      go (stop q p) h e = cc
       go (got a n) h e = record { some_left = h; read = cc }
 
-  action_over : {s : Step} → action_turn bytes tokens left at ≡ Over s → ActionOver left at (sheet_field (between 0 tokens) bytes at) s
+  action_stopped : {question place : ℕ} → action_turn bytes tokens left at ≡ refused question place
+      → ActionTold left (sheet_field (between 0 tokens) bytes at) (stop question place)
   unfolding action_answer
-  action_over {s} = by_left (λ t. t ≡ Over s → ActionOver left at (sheet_field (between 0 tokens) bytes at) s)
-      (λ h e. none_left h cc) (λ h. go (sheet_field (between 0 tokens) bytes at) h)
+  action_stopped {question} {place} = by_left
+      (λ t. t ≡ refused question place → ActionTold left (sheet_field (between 0 tokens) bytes at) (stop question place))
+      (λ h e. cc) (λ h. go (sheet_field (between 0 tokens) bytes at) h)
     where
-      go : (m : Reading ℕ) → 0 < left → action_answer m ≡ Over s → ActionOver left at m s
-      go (stop q p) h e = refused h (record { question = q; place = p; read = refl; step = cc })
-      go (got a n) h e = let z : ◌≡◌ {A = ℕ} 0 1 = cc in absurd (omega arith)
+      go : (m : Reading ℕ) → 0 < left → action_answer m ≡ refused question place → ActionTold left m (stop question place)
+      go (stop q p) h e = record { some_left = h; read = told_stop e }
+      go (got a n) h e = cc
 
-  module _ (due nodes classes : ℕ) {r : RuleTurn} (e : r ≡ rule_turn bytes tokens left due nodes classes at) where
+  action_over : action_turn bytes tokens left at ≡ Ok Over → left ≡ 0
+  unfolding action_answer
+  action_over = by_left (λ t. t ≡ Ok Over → left ≡ 0) (λ h e. h) (λ h. go (sheet_field (between 0 tokens) bytes at))
+    where
+      go : (m : Reading ℕ) → action_answer m ≡ Ok Over → left ≡ 0
+      go (stop q p) e = cc
+      go (got a n) e = cc
+
+  module _ (due nodes classes : ℕ) {r : Result RuleTurn Refusal} (e : r ≡ rule_turn bytes tokens left due nodes classes at) where
     node_some : kind r ≡ 1 → 0 < due
     node_some k =
         ⊎_elim (λ h. h)
@@ -173,13 +184,13 @@ module _ {bytes : List ℕ} {tokens count : ℕ} {whole : Reading (List ReadRule
 
   -- A regex that stops, stops the rules.
   regex_stops : {question at : ℕ} → 0 < due → turn_from bytes c place ≡ stop question at
-      → Answers (with_all with_rule) (length bytes) whole no_rules (step_case.Refused question at) c
+      → Answers (with_all with_rule) (length bytes) whole no_rules (refused question at)
   regex_stops {question} {at} h e = go so_far.reached
     where
-      go : Reached bytes tokens count whole place due c → Answers (with_all with_rule) (length bytes) whole no_rules (step_case.Refused question at) c
+      go : Reached bytes tokens count whole place due c → Answers (with_all with_rule) (length bytes) whole no_rules (refused question at)
       go (between_rules z l) = absurd (omega arith)
       go (in_rule start from action after less field rules items) =
-          let regex = leads_stop items {d = c} (items_stop bytes c place due h e) refl in
+          let regex = leads_stop items (items_stop bytes c place due h e) refl in
           let rule = was_stopped (rule-goes bytes tokens start from field refl regex) refl in
           leads_stop rules (rules_stop bytes tokens count start from less rule) refl
 
@@ -217,27 +228,36 @@ pub record NodeGoes (bytes : List ℕ) (tokens count : ℕ) (whole : Reading (Li
 
 module _ {bytes : List ℕ} {tokens count : ℕ} {whole : Reading (List ReadRule)} {place due : ℕ} {c : RuleColumns}
     (so_far : RulesSoFar bytes tokens count whole place due c)
-    {r : RuleTurn} (e : r ≡ rule_turn bytes tokens (count - c.count) due (256 - c.items) (64 - c.classes) place) where
-  pub turn_over : {s : Step} → r ≡ Over s → Answers (with_all with_rule) (length bytes) whole no_rules s c
-  turn_over {s} h = ⊎_elim (λ l. at_node l) (λ l. at_action (omega arith)) (lt-or-le 0 due)
+    {r : Result RuleTurn Refusal} (e : r ≡ rule_turn bytes tokens (count - c.count) due (256 - c.items) (64 - c.classes) place) where
+  pub turn_over : {t : RuleTurn} → r ≡ Ok t → t ≡ Over → Answers (with_all with_rule) (length bytes) whole no_rules (was_got c place)
+  turn_over k f = ⊎_elim (λ l. absurd (node_on (turn_from bytes c place) (at_node l))) (λ l. at_action (omega arith)) (lt-or-le 0 due)
     where
-      at_node : 0 < due → Answers (with_all with_rule) (length bytes) whole no_rules s c
-      at_node l =
-          let t = node_over (turn_from bytes c place) (node_read bytes tokens (count - c.count) place due _ _ e l ∙ h) in
-          rw t.step (regex_stops so_far l t.read)
+      h : r ≡ Ok Over
+      h = k ∙ ap Ok f
 
-      at_action : due ≡ 0 → Answers (with_all with_rule) (length bytes) whole no_rules s c
-      at_action z = go (action_over bytes tokens (count - c.count) place (turn_action bytes tokens (count - c.count) place due _ _ z ∙ sym e ∙ h))
-        where
-          go : ActionOver (count - c.count) place (sheet_field (between 0 tokens) bytes place) s
-              → Answers (with_all with_rule) (length bytes) whole no_rules s c
-          go (none_left l k) = rw k (leads_end (between_now so_far z) (rules_end bytes tokens count c place (omega arith)) so_far.inside)
-          go (refused l t) =
-              let rule = was_stopped (rule_unfit bytes tokens c place {most = length bytes} {d = c} t.read) refl in
-              leads_stop (between_now so_far z) (rules_stop bytes tokens count c place (omega arith) rule) t.step
+      at_node : 0 < due → node_answer (turn_from bytes c place) ≡ Ok Over
+      at_node l = node_read bytes tokens (count - c.count) place due _ _ e l ∙ h
 
-  pub turn_acts : count ≤ 32 → {action next : ℕ} → r ≡ Action action next → ActionGoes bytes tokens count whole place c action next
-  turn_acts most {action} {next} h =
+      at_action : due ≡ 0 → Answers (with_all with_rule) (length bytes) whole no_rules (was_got c place)
+      at_action z =
+          let none = action_over bytes tokens (count - c.count) place (turn_action bytes tokens (count - c.count) place due _ _ z ∙ sym e ∙ h) in
+          leads_end (between_now so_far z) (rules_end bytes tokens count c place (omega (arith, none))) so_far.inside
+
+  pub turn_stops : {question at : ℕ} → r ≡ refused question at → Answers (with_all with_rule) (length bytes) whole no_rules (refused question at)
+  turn_stops {question} {at} h = ⊎_elim (λ l. at_node l) (λ l. at_action (omega arith)) (lt-or-le 0 due)
+    where
+      at_node : 0 < due → Answers (with_all with_rule) (length bytes) whole no_rules (refused question at)
+      at_node l = regex_stops so_far l (node_stopped (turn_from bytes c place) (node_read bytes tokens (count - c.count) place due _ _ e l ∙ h))
+
+      at_action : due ≡ 0 → Answers (with_all with_rule) (length bytes) whole no_rules (refused question at)
+      at_action z =
+          let t = action_stopped bytes tokens (count - c.count) place (turn_action bytes tokens (count - c.count) place due _ _ z ∙ sym e ∙ h) in
+          let rule = was_stopped (rule_unfit bytes tokens c place {most = length bytes} t.read) refl in
+          leads_stop (between_now so_far z) (rules_stop bytes tokens count c place (omega (arith, t.some_left)) rule) refl
+
+  pub turn_acts : count ≤ 32 → {t : RuleTurn} {action next : ℕ} → r ≡ Ok t → t ≡ Action action next → ActionGoes bytes tokens count whole place c action next
+  turn_acts most {action = action} {next = next} k f =
+      let h = k ∙ ap Ok f in
       let z = action_due bytes tokens (count - c.count) place due _ _ e (ap kind h) in
       let t = action_told bytes tokens (count - c.count) place (turn_action bytes tokens (count - c.count) place due _ _ z ∙ sym e ∙ h) in
       let room : c.count < count = omega (arith, t.some_left) in record {
@@ -262,17 +282,19 @@ module _ {bytes : List ℕ} {tokens count : ℕ} {whole : Reading (List ReadRule
         goes = item_goes so_far some read put n;
       }
 
-  pub class_goes : {low high next : ℕ} → r ≡ Class low high next
+  pub class_goes : {t : RuleTurn} {low high next : ℕ} → r ≡ Ok t → t ≡ Class low high next
       → NodeGoes bytes tokens count whole due c 1 next (due - 1) (with_class (with_tag c 1) low high)
   unfolding regex_parts item_classes with_item
-  class_goes {low} {high} {next} h =
+  class_goes {low = low} {high = high} {next = next} k f =
+      let h = k ∙ ap Ok f in
       let some_due = node_some bytes tokens (count - c.count) place due _ _ e (ap kind h) in
       let read = class_told (turn_from bytes c place) (node_read bytes tokens (count - c.count) place due _ _ e some_due ∙ h) in
       node_goes some_due read refl (omega arith)
 
-  pub plain_goes : {tag parts next : ℕ} → r ≡ Plain tag parts next
+  pub plain_goes : {t : RuleTurn} {tag parts next : ℕ} → r ≡ Ok t → t ≡ Plain tag parts next
       → NodeGoes bytes tokens count whole due c 0 next (due - 1 + parts) (with_tag c tag)
-  plain_goes {tag} {parts} {next} h =
+  plain_goes {tag = tag} {parts = parts} {next = next} k f =
+      let h = k ∙ ap Ok f in
       let some_due = node_some bytes tokens (count - c.count) place due _ _ e (ap kind h) in
       let t = plain_told (turn_from bytes c place) (node_read bytes tokens (count - c.count) place due _ _ e some_due ∙ h) in
       let n = node_goes some_due t.read (t.put c) (ap (λ (k : ℕ). due - 1 + k) (sym t.parts_are)) in

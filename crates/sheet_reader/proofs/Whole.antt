@@ -1,18 +1,18 @@
 -- The laws of reading a whole sheet: its head, its end, and that columns filled with what was read hold the sheet.
-use mathlib.Core.Path.{◌≡◌, refl, ap, ap₂, subst, ◌∙◌}
-use mathlib.Core.Bool.{Bool, true, false, cond}
+use mathlib.Core.Path.{◌≡◌, refl, ap, ap₂, ◌∙◌}
 use mathlib.Core.List.{List, [], ◌∷◌, ◌++◌, map, flat_map}
 use Prim.Native.Nat.{ℕ, ◌≤◌}
 use native.Mathlib.Omega.{arith}
-use lib.Dec.{eqb}
 use lib.ListN.{length, get_or}
 use borrow.Author.Tests.{eq-eqb, ne_eqb}
+use Rattle.std.specs.Prelude.{Ok}
 use Rattle.sheet.specs.Limits.{most_tokens, most_rules, most_expression_nodes}
 use Rattle.sheet.specs.Regex.{empty}
 use Rattle.sheet.specs.Expression.{bottom}
 use Rattle.sheet.specs.Sheet.{Rule}
 use Rattle.sheet.specs.Field.{Reading, stop, got, and_then, between, read_many}
-use Rattle.sheet.proofs.laws.FieldLaws.{Outcome, refused, accepted, then_outcome, outcome_got, true-between, OneAfterOther, many_outcome}
+use Rattle.sheet.proofs.laws.FieldLaws.{Outcome, accepted, then_outcome, outcome_got, true-between, OneAfterOther, many_outcome}
+use Rattle.sheet.proofs.laws.FieldLaws as outcome
 use Rattle.sheet.specs.Items.{RegexItem, regexes, ExpressionItem, expressions}
 use Rattle.sheet.specs.laws.RegexItems.{regex_items_of}
 use Rattle.sheet.proofs.laws.RegexItems.{one_regex}
@@ -20,49 +20,38 @@ use Rattle.sheet.proofs.laws.ExpressionItems.{one_expression}
 use Rattle.sheet.specs.Reading.{sheet_field, regex_items, ReadRule, ReadNode, Allowance, less_rule, read_rule, expression_nodes, Contents, contents, at_end, read_sheet}
 use Rattle.sheet.proofs.laws.ItemsRead.{regexes-read, nodes-read}
 use Rattle.columns.specs.Holds.{items_of_rules, RulesOf, NodesOf}
-use Rattle.columns.specs.declared.RuleColumns.{RuleColumns}
 use Rattle.sheet_reader.specs.Put.{with_all, with_rule, with_read_node, no_rules, no_nodes}
-use Rattle.sheet_reader.specs.Turns.{Counted, header, header_answer, nodes_to_end}
-use Rattle.sheet_reader.specs.Answers.{allowance, RulesFit, Finished}
-use Rattle.sheet_reader.specs.Reads.{refused_columns, Reads}
-use Rattle.sheet_reader.specs.declared.Header.TheVariants.{Counts}
-use Rattle.sheet_reader.specs.declared.Header.TheVariants as header_case
-use Rattle.sheet_reader.specs.declared.SheetColumns.{SheetColumns}
-use Rattle.sheet_reader.proofs.Fields.{Any, field-inside}
+use Rattle.sheet_reader.specs.Turns.{was_got, answer, header}
+use Rattle.sheet_reader.specs.Answers.{allowance, RulesFit}
+use Rattle.sheet_reader.specs.Reads.{refused, Reads}
+use Rattle.sheet_reader.specs.declared.Counted.{Counted}
+use Rattle.sheet_reader.proofs.Fields.{answer-got, Any, field-inside}
 use Rattle.sheet_reader.proofs.Holding.{all_rules-held, all-nodes-held}
 
 -- ---- the head
 
 module _ (bytes : List ℕ) where
-  pub head_version : {question place : ℕ} → sheet_field (between 1 1) bytes 0 ≡ stop question place → header_case.Refused question place
-      ≡ header_answer (header bytes)
-  unfolding header header_answer
+  pub head_version : {question place : ℕ} → sheet_field (between 1 1) bytes 0 ≡ stop question place → refused question place
+      ≡ answer (header bytes)
+  unfolding header answer
   head_version e = rw e
 
   module _ {version at_tokens : ℕ} (e : sheet_field (between 1 1) bytes 0 ≡ got version at_tokens) where
     pub head_tokens : {question place : ℕ} → sheet_field (between 1 most_tokens) bytes at_tokens ≡ stop question place
-        → header_case.Refused question place ≡ header_answer (header bytes)
-    unfolding header header_answer
+        → refused question place ≡ answer (header bytes)
+    unfolding header answer
     head_tokens f = rw (e, f)
 
     module _ {tokens at_count : ℕ} (f : sheet_field (between 1 most_tokens) bytes at_tokens ≡ got tokens at_count) where
       pub head-count : {question place : ℕ} → sheet_field (between 1 most_rules) bytes at_count ≡ stop question place
-          → header_case.Refused question place ≡ header_answer (header bytes)
-      unfolding header header_answer
+          → refused question place ≡ answer (header bytes)
+      unfolding header answer
       head-count g = rw (e, f, g)
 
       pub head-whole : {count at_rules : ℕ} → sheet_field (between 1 most_rules) bytes at_count ≡ got count at_rules
-          → Counts tokens count at_rules ≡ header_answer (header bytes)
-      unfolding header header_answer
+          → was_got (record { tokens = tokens; rules = count }) at_rules ≡ answer (header bytes)
+      unfolding header answer
       head-whole g = rw (e, f, g)
-
-  pub head_wrong : {question place : ℕ} → header_answer (header bytes) ≡ header_case.Refused question place → header bytes ≡ stop question place
-  unfolding header_answer
-  head_wrong {question} {place} e = go (header bytes) refl e
-    where
-      go : (m : Reading Counted) → header bytes ≡ m → header_answer m ≡ header_case.Refused question place → header bytes ≡ stop question place
-      go (stop q p) h k = cc
-      go (got c n) h k = let z : ◌≡◌ {A = ℕ} 0 1 = cc in absurd (omega arith)
 
 -- What the head keeps.
 record HeadKept (bytes : List ℕ) (c : Counted) (next : ℕ) : Type 0 where
@@ -90,56 +79,12 @@ module _ (bytes : List ℕ) where
         inside = c.inside;
       }))))
 
-  pub head_read : {tokens count next : ℕ} → header_answer (header bytes) ≡ Counts tokens count next → HeadRead bytes tokens count next
-  unfolding header_answer
-  head_read {tokens} {count} {next} e = go (header bytes) refl e
-    where
-      go : (m : Reading Counted) → header bytes ≡ m → header_answer m ≡ Counts tokens count next → HeadRead bytes tokens count next
-      go (stop q p) h k = let z : ◌≡◌ {A = ℕ} 0 1 = cc in absurd (omega arith)
-      go (got c n) h k =
-          let t : c.tokens ≡ tokens = cc in
-          let r : c.rules ≡ count = cc in
-          let p : n ≡ next = cc in
-          let kept = outcome_got head_outcome h in
-          record {
-            read = h ∙ rw (t, r, p);
-            tokens_most = omega (arith, kept.tokens_most);
-            rules_most = omega (arith, kept.rules_most);
-            inside = omega (arith, kept.inside);
-          }
-
--- ---- the rest
-
-module _ (bytes : List ℕ) (tokens at : ℕ) (rules : RuleColumns) (r : SheetColumns) where
-  pub rest_stop : {question place : ℕ} → expression_nodes bytes tokens most_expression_nodes (0 ∷ []) at ≡ stop question place
-      → r ≡ refused_columns question place → Finished (nodes_to_end bytes tokens at) tokens rules r
-  unfolding nodes_to_end
-  rest_stop e h = rw e h
-
-  module _ {nodes : List ReadNode} {end : ℕ} (e : expression_nodes bytes tokens most_expression_nodes (0 ∷ []) at ≡ got nodes end) where
-    pub rest_over : (end ≡ length bytes → ⊥) → r ≡ refused_columns 6 end → Finished (nodes_to_end bytes tokens at) tokens rules r
-    unfolding nodes_to_end
-    rest_over n h = rw (e, ne_eqb end (length bytes) n) h
-
-    pub rest_done : end ≡ length bytes → Finished (got nodes end) tokens rules r → Finished (nodes_to_end bytes tokens at) tokens rules r
-    unfolding nodes_to_end
-    rest_done n h = rw (e, eq-eqb end (length bytes) n) h
-
--- Nodes that the bytes end after are the expression's.
-ended : (bytes : List ℕ) (tokens at : ℕ) {nodes : List ReadNode} {end : ℕ} → nodes_to_end bytes tokens at ≡ got nodes end
-    → expression_nodes bytes tokens most_expression_nodes (0 ∷ []) at ≡ got nodes end
-unfolding nodes_to_end
-ended bytes tokens at {nodes} {end} e = go (expression_nodes bytes tokens most_expression_nodes (0 ∷ []) at) refl e
-  where
-    chosen : (l : List ReadNode) (last : ℕ) (t : Bool) → cond t (got l last) (stop 6 last) ≡ got nodes end → got l last ≡ got nodes end
-    chosen l last true k = k
-    chosen l last false k = let z : ◌≡◌ {A = ℕ} 0 1 = cc in absurd (omega arith)
-
-    go : (m : Reading (List ReadNode)) → expression_nodes bytes tokens most_expression_nodes (0 ∷ []) at ≡ m
-        → and_then m (λ l last. cond (eqb last (length bytes)) (got l last) (stop 6 last)) ≡ got nodes end
-        → expression_nodes bytes tokens most_expression_nodes (0 ∷ []) at ≡ got nodes end
-    go (stop q p) h k = let z : ◌≡◌ {A = ℕ} 0 1 = cc in absurd (omega arith)
-    go (got l last) h k = h ∙ chosen l last (eqb last (length bytes)) k
+  pub head_read : {tokens count next : ℕ} → answer (header bytes) ≡ was_got (record { tokens = tokens; rules = count }) next
+      → HeadRead bytes tokens count next
+  head_read e =
+      let read = answer-got (header bytes) e in
+      let kept = outcome_got head_outcome read in
+      record { read = read; tokens_most = kept.tokens_most; rules_most = kept.rules_most; inside = kept.inside }
 
 -- ---- the whole, made of its parts
 
@@ -158,35 +103,21 @@ module _ (bytes : List ℕ) where
   abbrev pub rules_part : Counted → ℕ → Reading (List ReadRule)
   rules_part h at = read_many (read_rule bytes h.tokens) less_rule (allowance no_rules) h.rules at
 
+  abbrev pub nodes_part : Counted → ℕ → Reading (List ReadNode)
+  nodes_part h at = expression_nodes bytes h.tokens most_expression_nodes (0 ∷ []) at
+
   abbrev end_part : Counted → List ReadRule → ℕ → Reading Contents
-  end_part h rules next = and_then (nodes_to_end bytes h.tokens next) (λ nodes end. got (contents h.tokens rules nodes) end)
+  end_part h rules next = and_then (nodes_part h next) (λ nodes end. at_end bytes (contents h.tokens rules nodes) end)
 
   abbrev rest_part : Counted → ℕ → Reading Contents
   rest_part h at = and_then (rules_part h at) (end_part h)
-
-  end_parts : (h : Counted) (rules : List ReadRule) (next : ℕ)
-      → and_then (expression_nodes bytes h.tokens most_expression_nodes (0 ∷ []) next)
-      (λ nodes end. at_end bytes (contents h.tokens rules nodes) end)
-      ≡ end_part h rules next
-  unfolding nodes_to_end at_end
-  end_parts h rules next =
-      then_same (expression_nodes bytes h.tokens most_expression_nodes (0 ∷ []) next) _ _ (λ nodes end. chosen nodes end (eqb end (length bytes)))
-      ∙ then_then (expression_nodes bytes h.tokens most_expression_nodes (0 ∷ []) next) _ _
-    where
-      chosen : (nodes : List ReadNode) (end : ℕ) (t : Bool) → cond t (got (contents h.tokens rules nodes) end) (stop 6 end)
-          ≡ and_then (cond t (got nodes end) (stop 6 end)) (λ nodes end. got (contents h.tokens rules nodes) end)
-      chosen nodes end true = refl
-      chosen nodes end false = refl
 
   sheet_parts : read_sheet bytes ≡ and_then (header bytes) rest_part
   unfolding read_sheet header allowance
   sheet_parts =
       then_same (sheet_field (between 1 1) bytes 0) _ _ (λ version at_tokens.
       then_same (sheet_field (between 1 most_tokens) bytes at_tokens) _ _ (λ tokens at_count.
-      then_same (sheet_field (between 1 most_rules) bytes at_count) _ _ (λ count at_rules.
-      then_same (rules_part (record { tokens = tokens; rules = count }) at_rules) _ _
-      (λ rules next. end_parts (record { tokens = tokens; rules = count }) rules next))
-      ∙ then_then (sheet_field (between 1 most_rules) bytes at_count) _ rest_part)
+      then_then (sheet_field (between 1 most_rules) bytes at_count) _ rest_part)
       ∙ then_then (sheet_field (between 1 most_tokens) bytes at_tokens) _ rest_part)
       ∙ then_then (sheet_field (between 1 1) bytes 0) _ rest_part
 
@@ -214,7 +145,7 @@ module _ (bytes : List ℕ) (tokens : ℕ) where
       go : (action next : ℕ) (m : Reading (List RegexItem)) → regex_items bytes allowed.nodes allowed.classes 1 next ≡ m
           → Outcome Any (λ r end. SameItems r × Unit)
           (and_then m (λ items end. got (record { place = at; action = action; items = items }) end))
-      go action next (stop q p) e = refused q p tt
+      go action next (stop q p) e = outcome.refused q p tt
       go action next (got items end) e =
           accepted _ end (one_regex items (regexes items) (regexes-read bytes allowed.nodes allowed.classes 1 next e), tt)
 
@@ -243,33 +174,30 @@ module _ (bytes : List ℕ) (tokens : ℕ) where
 
 -- ---- the ways through a sheet
 
-module _ (bytes : List ℕ) (r : SheetColumns) where
-  pub sheet_head : {question place : ℕ} → header bytes ≡ stop question place → r ≡ refused_columns question place
-      → Reads (read_sheet bytes) r
-  sheet_head e h = rw (sheet_parts bytes, e) h
+module _ (bytes : List ℕ) where
+  pub sheet_head : {question place : ℕ} → header bytes ≡ stop question place → Reads (read_sheet bytes) (refused question place)
+  sheet_head e = rw (sheet_parts bytes, e) refl
 
-  module _ {tokens count at : ℕ} (e : header bytes ≡ got (record { tokens = tokens; rules = count }) at) where
-    pub sheet_rules : {question place : ℕ} → rules_part bytes (record { tokens = tokens; rules = count }) at ≡ stop question place
-        → r ≡ refused_columns question place → Reads (read_sheet bytes) r
-    sheet_rules f h = rw (sheet_parts bytes, e, f) h
+  module _ (h : Counted) {at : ℕ} (e : header bytes ≡ got h at) where
+    pub sheet_rules : {question place : ℕ} → rules_part bytes h at ≡ stop question place → Reads (read_sheet bytes) (refused question place)
+    sheet_rules f = rw (sheet_parts bytes, e, f) refl
 
-    pub sheet_rest : {rules : List ReadRule} {next : ℕ} {d : RuleColumns}
-        → rules_part bytes (record { tokens = tokens; rules = count }) at ≡ got rules next → d ≡ with_all with_rule no_rules rules
-        → RulesFit d
-        → Finished (nodes_to_end bytes tokens next) tokens d r → Reads (read_sheet bytes) r
-    unfolding contents
-    sheet_rest {rules} {next} {d} f w fit h =
-        rw (sheet_parts bytes, e, f) (go (nodes_to_end bytes tokens next) refl h)
-      where
-        fits : RulesFit (with_all with_rule no_rules rules)
-        fits = subst RulesFit w fit
+    module _ {rules : List ReadRule} {next : ℕ} (f : rules_part bytes h at ≡ got rules next) where
+      pub sheet_nodes : {question place : ℕ} → nodes_part bytes h next ≡ stop question place
+          → Reads (read_sheet bytes) (refused question place)
+      sheet_nodes g = rw (sheet_parts bytes, e, f, g) refl
 
-        go : (n : Reading (List ReadNode)) → nodes_to_end bytes tokens next ≡ n → Finished n tokens d r
-            → Reads (and_then n (λ nodes end. got (contents tokens rules nodes) end)) r
-        go (stop q p) k h = h
-        go (got nodes end) k h = record {
-          done = h.0;
-          tokens_held = h.1;
-          rules_held = rw (h.2, w) (rules_of_sheet bytes tokens (allowance no_rules) count at f fits);
-          nodes_held = rw h.3 (nodes_of_sheet bytes tokens next (ended bytes tokens next k));
+      module _ {nodes : List ReadNode} {end : ℕ} (g : nodes_part bytes h next ≡ got nodes end) where
+        pub sheet_over : (end ≡ length bytes → ⊥) → Reads (read_sheet bytes) (refused 6 end)
+        unfolding at_end
+        sheet_over n = rw (sheet_parts bytes, e, f, g, ne_eqb end (length bytes) n) refl
+
+        pub sheet_whole : end ≡ length bytes → RulesFit (with_all with_rule no_rules rules)
+            → Reads (read_sheet bytes)
+            (Ok (record { tokens = h.tokens; rules = with_all with_rule no_rules rules; nodes = with_all with_read_node no_nodes nodes }))
+        unfolding at_end contents
+        sheet_whole n fits = rw (sheet_parts bytes, e, f, g, eq-eqb end (length bytes) n) record {
+          tokens_held = refl;
+          rules_held = rules_of_sheet bytes h.tokens (allowance no_rules) h.rules at f fits;
+          nodes_held = nodes_of_sheet bytes h.tokens next g;
         }

@@ -5,14 +5,13 @@
 ghost use Rattle.std.specs.Prelude.{◌≡◌, ◌-◌, ◌≤◌, ◌<◌, length, get_or};
 ghost use Rattle.sheet.specs.Reading.{sheet_field, class_after, read_sheet};
 ghost use Rattle.sheet_reader.specs.Put.{pending, with_parts, no_rules, no_nodes};
-ghost use Rattle.sheet_reader.specs.Turns.{in_range, field_answer, header, header_answer, nodes_to_end};
+ghost use Rattle.sheet_reader.specs.Turns.{in_range, answer, header};
 ghost use Rattle.sheet_reader.specs.Turns.{node_answer, regex_turn, action_turn, rule_turn};
 ghost use Rattle.sheet_reader.specs.Turns.{expression_turn, expression_answer, numbered_answer};
-ghost use Rattle.sheet_reader.specs.Answers.{ReadsRules, ReadsExpression, Finished};
-ghost use Rattle.sheet_reader.specs.Reads.{refused_columns, Reads};
+ghost use Rattle.sheet_reader.specs.Answers.{ReadsRules, ReadsExpression};
+ghost use Rattle.sheet_reader.specs.Reads.{Reads};
 
 use columns::{NodeColumns, RuleColumns};
-use number::Number;
 
 // The page's limits.
 const MOST_TOKENS: u64 = 24;
@@ -30,146 +29,129 @@ const REGEX_TAGS: u64 = 5;
 
 const EXPRESSION_TAGS: u64 = 8;
 
-// Whether all was read, or the question that fails and its place.
+// The questions that reading asks: is there a number, is it allowed in its field, is there room for one more, does the sheet end.
+const UNREADABLE: u8 = 3;
+
+const FORBIDDEN: u8 = 4;
+
+const TOO_MANY: u8 = 5;
+
+const LEFT_OVER: u8 = 6;
+
+// The question that fails, and its place.
 #[derive(Clone, Copy)]
-pub enum Outcome {
-    Done,
-    Refused(u8, usize),
+pub struct Refusal {
+    pub question: u8,
+    pub place: usize,
 }
 
-// A sheet as read. After a refusal there are no tokens, and the columns are empty.
+// A sheet as read.
 #[derive(Clone, Copy)]
 pub struct SheetColumns {
-    pub outcome: Outcome,
     pub tokens: u8,
     pub rules: RuleColumns,
     pub nodes: NodeColumns,
 }
 
-// A number of a field with the place after it, or the question that it fails and its place.
+// What was read, and the place after it.
 #[derive(Clone, Copy)]
-enum Field {
-    Value(u8, usize),
-    Refused(u8, usize),
+struct Got<T> {
+    value: T,
+    next: usize,
 }
 
-// The place where reading goes on, or the question that fails and its place.
+// The token count and the rule count.
 #[derive(Clone, Copy)]
-enum Step {
-    Next(usize),
-    Refused(u8, usize),
-}
-
-// The token count, the rule count and the place after them, or the question that fails and its place.
-#[derive(Clone, Copy)]
-enum Header {
-    Counts(u8, u8, usize),
-    Refused(u8, usize),
+struct Counted {
+    tokens: u8,
+    rules: u8,
 }
 
 // What comes next in the rules, with the place after it: a rule's action, or of its regex a byte class or a tag with how many
-// parts it has. Or that the rules are over, or reading stops.
+// parts it has. Or nothing more.
 #[derive(Clone, Copy)]
 enum RuleTurn {
     Action(u8, usize),
     Class(u8, u8, usize),
     Plain(u8, usize, usize),
-    Over(Step),
+    Over,
 }
 
-// Rules read into the columns.
+// An expression node: its tag, the number after it or 0, and the place after them.
 #[derive(Clone, Copy)]
-struct RulesRead {
-    step: Step,
-    rules: RuleColumns,
+struct ExpressionTurn {
+    tag: u8,
+    number: u8,
+    next: usize,
 }
 
-// An expression node: its tag, the number after it or 0, and the place after them. Or the question that fails and its place.
-#[derive(Clone, Copy)]
-enum ExpressionTurn {
-    Node(u8, u8, usize),
-    Refused(u8, usize),
-}
-
-// A whole expression read into the columns.
-#[derive(Clone, Copy)]
-struct NodesRead {
-    step: Step,
-    nodes: NodeColumns,
-}
-
-// The number at a place, padded or not, from `least` on and below `limit`: 3 where none can be read, 4 where it is not allowed.
-fn read_field(sheet: &[u8], at: usize, least: u8, limit: u64) -> Field
+// The number at a place, padded or not, from `least` on and below `limit`.
+fn read_field(sheet: &[u8], at: usize, least: u8, limit: u64) -> Result<Got<u8>, Refusal>
     requires { limit ≤ 256 }
-    ensures { result ≡ field_answer (sheet_field (in_range least limit) sheet.now at) }
+    ensures { result ≡ answer (sheet_field (in_range least limit) sheet.now at) }
 {
-    match number::read_number(sheet, at) {
-        Number::Refused => Field::Refused(3, at),
-        Number::Read(v, used, _) => {
-            if v >= limit {
-                return Field::Refused(4, at);
-            }
-            let value = v as u8;
-            if value < least {
-                return Field::Refused(4, at);
-            }
-            Field::Value(value, at + used)
-        }
+    let Some(number) = number::read_number(sheet, at) else {
+        return Err(Refusal {
+            question: UNREADABLE,
+            place: at,
+        });
+    };
+    if number.value < u64::from(least) || limit <= number.value {
+        return Err(Refusal {
+            question: FORBIDDEN,
+            place: at,
+        });
     }
+    Ok(Got {
+        value: number.value as u8,
+        next: at + number.used,
+    })
 }
 
 // A byte class whose tag stands at `at`, after so many classes: its low and high bytes stand from `next` on.
-fn class_turn(sheet: &[u8], at: usize, next: usize, classes: usize) -> RuleTurn
+fn class_turn(sheet: &[u8], at: usize, next: usize, classes: usize) -> Result<RuleTurn, Refusal>
     ensures { result ≡ node_answer (class_after sheet.now (64 - classes) at next) }
 {
     if classes >= MOST_CLASSES {
-        return RuleTurn::Over(Step::Refused(5, at));
+        return Err(Refusal {
+            question: TOO_MANY,
+            place: at,
+        });
     }
-    match read_field(sheet, next, 0, 256) {
-        Field::Refused(question, place) => RuleTurn::Over(Step::Refused(question, place)),
-        Field::Value(low, after) => match read_field(sheet, after, low, 256) {
-            Field::Refused(question, place) => RuleTurn::Over(Step::Refused(question, place)),
-            Field::Value(high, end) => RuleTurn::Class(low, high, end),
-        },
-    }
+    let low = read_field(sheet, next, 0, 256)?;
+    let high = read_field(sheet, low.next, low.value, 256)?;
+    Ok(RuleTurn::Class(low.value, high.value, high.next))
 }
 
 // A regex node at a place, after so many nodes and classes.
-fn regex_turn(sheet: &[u8], at: usize, items: usize, classes: usize) -> RuleTurn
+fn regex_turn(sheet: &[u8], at: usize, items: usize, classes: usize) -> Result<RuleTurn, Refusal>
     ensures { result ≡ node_answer (regex_turn sheet.now (256 - items) (64 - classes) at) }
 {
-    match read_field(sheet, at, 0, REGEX_TAGS) {
-        Field::Refused(question, place) => RuleTurn::Over(Step::Refused(question, place)),
-        Field::Value(tag, next) => {
-            if items >= MOST_REGEX_NODES {
-                return RuleTurn::Over(Step::Refused(5, at));
-            }
-            if tag == 1 {
-                return class_turn(sheet, at, next, classes);
-            }
-            if tag == 0 {
-                return RuleTurn::Plain(tag, 0, next);
-            }
-            if tag == 4 {
-                return RuleTurn::Plain(tag, 1, next);
-            }
-            RuleTurn::Plain(tag, 2, next)
-        }
+    let tag = read_field(sheet, at, 0, REGEX_TAGS)?;
+    if items >= MOST_REGEX_NODES {
+        return Err(Refusal {
+            question: TOO_MANY,
+            place: at,
+        });
+    }
+    match tag.value {
+        0 => Ok(RuleTurn::Plain(0, 0, tag.next)),
+        1 => class_turn(sheet, at, tag.next, classes),
+        4 => Ok(RuleTurn::Plain(4, 1, tag.next)),
+        two_parts => Ok(RuleTurn::Plain(two_parts, 2, tag.next)),
     }
 }
 
 // The action of the next rule, while rules are left.
-fn action_turn(sheet: &[u8], at: usize, tokens: u8, left: usize) -> RuleTurn
+fn action_turn(sheet: &[u8], at: usize, tokens: u8, left: usize) -> Result<RuleTurn, Refusal>
     requires { tokens ≤ 24 }
     ensures { result ≡ action_turn sheet.now tokens left at }
 {
     if left == 0 {
-        return RuleTurn::Over(Step::Next(at));
+        return Ok(RuleTurn::Over);
     }
-    match read_field(sheet, at, 0, tokens as u64 + 1) {
-        Field::Refused(question, place) => RuleTurn::Over(Step::Refused(question, place)),
-        Field::Value(action, next) => RuleTurn::Action(action, next),
-    }
+    let action = read_field(sheet, at, 0, u64::from(tokens) + 1)?;
+    Ok(RuleTurn::Action(action.value, action.next))
 }
 
 // A regex node while regexes are due, and otherwise the next rule's action.
@@ -181,7 +163,7 @@ fn rule_turn(
     due: usize,
     items: usize,
     classes: usize,
-) -> RuleTurn
+) -> Result<RuleTurn, Refusal>
     requires { tokens ≤ 24 }
     ensures { result ≡ rule_turn sheet.now tokens left due (256 - items) (64 - classes) at }
 {
@@ -209,9 +191,9 @@ fn no_rules() -> RuleColumns
 
 // So many rules from a place on. One loop has the columns and stores each entry in place: columns that go through a call by
 // value are copied whole.
-fn read_rules(sheet: &[u8], at: usize, tokens: u8, count: u8) -> RulesRead
+fn read_rules(sheet: &[u8], at: usize, tokens: u8, count: u8) -> Result<Got<RuleColumns>, Refusal>
     requires { (at ≤ length sheet.now) × (length sheet.now ≤ 4096) × (tokens ≤ 24) × (count ≤ 32) }
-    ensures { ReadsRules sheet.now at tokens count result.step result.rules }
+    ensures { ReadsRules sheet.now at tokens count result }
 {
     let mut place = at;
     let mut due: usize = 0;
@@ -221,8 +203,11 @@ fn read_rules(sheet: &[u8], at: usize, tokens: u8, count: u8) -> RulesRead
         let items = out.items;
         let classes = out.classes;
         let left = count as usize - rules;
-        match rule_turn(sheet, place, tokens, left, due, items, classes) {
-            RuleTurn::Over(step) => return RulesRead { step, rules: out },
+        match rule_turn(sheet, place, tokens, left, due, items, classes)? {
+            RuleTurn::Over => return Ok(Got {
+                value: out,
+                next: place,
+            }),
             RuleTurn::Action(action, next) => {
                 out.action[rules] = action;
                 out.place[rules] = place as u16;
@@ -250,34 +235,43 @@ fn read_rules(sheet: &[u8], at: usize, tokens: u8, count: u8) -> RulesRead
 }
 
 // A node with this tag, and with a number below `limit` at `next`.
-fn numbered_turn(sheet: &[u8], next: usize, tag: u8, limit: u64) -> ExpressionTurn
+fn numbered_turn(sheet: &[u8], next: usize, tag: u8, limit: u64) -> Result<ExpressionTurn, Refusal>
     requires { limit ≤ 256 }
     ensures { result ≡ numbered_answer tag (sheet_field (in_range 0 limit) sheet.now next) }
 {
-    match read_field(sheet, next, 0, limit) {
-        Field::Refused(question, place) => ExpressionTurn::Refused(question, place),
-        Field::Value(number, end) => ExpressionTurn::Node(tag, number, end),
-    }
+    let number = read_field(sheet, next, 0, limit)?;
+    Ok(ExpressionTurn {
+        tag,
+        number: number.value,
+        next: number.next,
+    })
 }
 
 // An expression node at a place, after so many nodes and inside so many open fixed points.
-fn expression_turn(sheet: &[u8], at: usize, tokens: u8, count: usize, opened: u8) -> ExpressionTurn
+fn expression_turn(
+    sheet: &[u8],
+    at: usize,
+    tokens: u8,
+    count: usize,
+    opened: u8,
+) -> Result<ExpressionTurn, Refusal>
     ensures { result ≡ expression_answer (expression_turn sheet.now tokens (64 - count) opened at) }
 {
-    match read_field(sheet, at, 0, EXPRESSION_TAGS) {
-        Field::Refused(question, place) => ExpressionTurn::Refused(question, place),
-        Field::Value(tag, next) => {
-            if count >= MOST_NODES {
-                return ExpressionTurn::Refused(5, at);
-            }
-            if tag == 2 {
-                return numbered_turn(sheet, next, 2, tokens as u64);
-            }
-            if tag == 6 {
-                return numbered_turn(sheet, next, 6, opened as u64);
-            }
-            ExpressionTurn::Node(tag, 0, next)
-        }
+    let tag = read_field(sheet, at, 0, EXPRESSION_TAGS)?;
+    if count >= MOST_NODES {
+        return Err(Refusal {
+            question: TOO_MANY,
+            place: at,
+        });
+    }
+    match tag.value {
+        2 => numbered_turn(sheet, tag.next, 2, u64::from(tokens)),
+        6 => numbered_turn(sheet, tag.next, 6, u64::from(opened)),
+        bare => Ok(ExpressionTurn {
+            tag: bare,
+            number: 0,
+            next: tag.next,
+        }),
     }
 }
 
@@ -289,6 +283,7 @@ fn put_parts(opened: &mut [u8; 65], due: usize, tag: u8) -> usize
 {
     let last = due - 1;
     let depth = opened[last];
+    // Conditions in place of a match: for an arm of several numbers the check has only names of its own, which may change.
     if tag == 5 {
         opened[last] = depth + 1;
         return due;
@@ -320,9 +315,9 @@ fn no_nodes() -> NodeColumns
 }
 
 // One expression from a place on, with no fixed point open. Its loop stores each entry in place, as that of the rules does.
-fn read_expression(sheet: &[u8], at: usize, tokens: u8) -> NodesRead
+fn read_expression(sheet: &[u8], at: usize, tokens: u8) -> Result<Got<NodeColumns>, Refusal>
     requires { (at ≤ length sheet.now) × (length sheet.now ≤ 4096) }
-    ensures { ReadsExpression sheet.now at tokens result.step result.nodes }
+    ensures { ReadsExpression sheet.now at tokens result }
 {
     let mut place = at;
     let mut nodes = no_nodes();
@@ -331,96 +326,55 @@ fn read_expression(sheet: &[u8], at: usize, tokens: u8) -> NodesRead
     while due > 0 {
         let count = nodes.count;
         let depth = opened[due - 1];
-        match expression_turn(sheet, place, tokens, count, depth) {
-            ExpressionTurn::Refused(question, stopped) => {
-                let step = Step::Refused(question, stopped);
-                return NodesRead { step, nodes };
-            }
-            ExpressionTurn::Node(tag, number, next) => {
-                nodes.tag[count] = tag;
-                nodes.number[count] = number;
-                nodes.place[count] = place as u16;
-                nodes.count = count + 1;
-                due = put_parts(&mut opened, due, tag);
-                place = next;
-            }
-        }
+        let turn = expression_turn(sheet, place, tokens, count, depth)?;
+        nodes.tag[count] = turn.tag;
+        nodes.number[count] = turn.number;
+        nodes.place[count] = place as u16;
+        nodes.count = count + 1;
+        due = put_parts(&mut opened, due, turn.tag);
+        place = turn.next;
     }
-    NodesRead {
-        step: Step::Next(place),
-        nodes,
-    }
+    Ok(Got {
+        value: nodes,
+        next: place,
+    })
 }
 
 // The version, the token count and the rule count.
-fn read_header(sheet: &[u8]) -> Header
-    ensures { result ≡ header_answer (header sheet.now) }
+fn read_header(sheet: &[u8]) -> Result<Got<Counted>, Refusal>
+    ensures { result ≡ answer (header sheet.now) }
 {
-    match read_field(sheet, 0, 1, 2) {
-        Field::Refused(question, place) => Header::Refused(question, place),
-        Field::Value(_, at_tokens) => match read_field(sheet, at_tokens, 1, MOST_TOKENS + 1) {
-            Field::Refused(question, place) => Header::Refused(question, place),
-            Field::Value(tokens, at_count) => match read_field(sheet, at_count, 1, MOST_RULES + 1) {
-                Field::Refused(question, place) => Header::Refused(question, place),
-                Field::Value(count, at_rules) => Header::Counts(tokens, count, at_rules),
-            },
-        },
-    }
-}
-
-// A refusal of the whole sheet.
-fn refused(question: u8, place: usize) -> SheetColumns
-    ensures { result ≡ refused_columns question place }
-{
-    let rules = no_rules();
-    let nodes = no_nodes();
-    SheetColumns {
-        outcome: Outcome::Refused(question, place),
-        tokens: 0,
-        rules,
-        nodes,
-    }
-}
-
-// The expression after the rules, and then the end of the sheet.
-fn read_rest(sheet: &[u8], at: usize, tokens: u8, rules: RuleColumns) -> SheetColumns
-    requires { (at ≤ length sheet.now) × (length sheet.now ≤ 4096) }
-    ensures { Finished (nodes_to_end sheet.now tokens at) tokens rules result }
-{
-    let read = read_expression(sheet, at, tokens);
-    let nodes = read.nodes;
-    let step = read.step;
-    match step {
-        Step::Refused(question, place) => refused(question, place),
-        Step::Next(end) => {
-            if end != sheet.len() {
-                return refused(6, end);
-            }
-            SheetColumns {
-                outcome: Outcome::Done,
-                tokens,
-                rules,
-                nodes,
-            }
-        }
-    }
+    let version = read_field(sheet, 0, 1, 2)?;
+    let tokens = read_field(sheet, version.next, 1, MOST_TOKENS + 1)?;
+    let rules = read_field(sheet, tokens.next, 1, MOST_RULES + 1)?;
+    let value = Counted {
+        tokens: tokens.value,
+        rules: rules.value,
+    };
+    Ok(Got {
+        value,
+        next: rules.next,
+    })
 }
 
 // A sheet that is short enough, as columns.
-pub fn read_sheet(sheet: &[u8]) -> SheetColumns
+pub fn read_sheet(sheet: &[u8]) -> Result<SheetColumns, Refusal>
     requires { length sheet.now ≤ 4096 }
     ensures { Reads (read_sheet sheet.now) result }
 {
-    match read_header(sheet) {
-        Header::Refused(question, place) => refused(question, place),
-        Header::Counts(tokens, count, at) => {
-            let read = read_rules(sheet, at, tokens, count);
-            let rules = read.rules;
-            let step = read.step;
-            match step {
-                Step::Refused(question, place) => refused(question, place),
-                Step::Next(next) => read_rest(sheet, next, tokens, rules),
-            }
-        }
+    let header = read_header(sheet)?;
+    let tokens = header.value.tokens;
+    let rules = read_rules(sheet, header.next, tokens, header.value.rules)?;
+    let nodes = read_expression(sheet, rules.next, tokens)?;
+    if nodes.next != sheet.len() {
+        return Err(Refusal {
+            question: LEFT_OVER,
+            place: nodes.next,
+        });
     }
+    Ok(SheetColumns {
+        tokens,
+        rules: rules.value,
+        nodes: nodes.value,
+    })
 }

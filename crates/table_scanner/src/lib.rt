@@ -8,7 +8,7 @@ ghost use Rattle.lexer.specs.Alive.{told_by_rows};
 ghost use Rattle.scanner.specs.Meaning.{match_of, told_of};
 ghost use Rattle.table_scanner.specs.Rows.{RowsIn};
 
-use scanner::{Found, WalkEnd};
+use scanner::{Match, WalkEnd};
 
 // What one walk over a text of a byte or more tells. Row 1 leads to itself and has no winner, so that the walk
 // ends there. If the row that the latest byte led to has a winner, that is the longest match; otherwise the walk was in vain. The first
@@ -41,7 +41,7 @@ pub fn walk_rows<'a>(text: &'a [u8], table: &'a [u16], winners: &'a [u16]) -> Wa
 
 // The longest match at the front of a text. Each row's winner is looked up on the way, and the latest one kept: two entries are read for a
 // byte. So this is the walk that is made again, to find the match of a walk in vain.
-pub fn match_by_rows<'a>(text: &'a [u8], table: &'a [u16], winners: &'a [u16]) -> Found
+pub fn match_by_rows<'a>(text: &'a [u8], table: &'a [u16], winners: &'a [u16]) -> Option<Match>
     requires { RowsIn table.now winners.now }
     ensures { match_of result ≡ match_by_rows table.now winners.now text.now }
 {
@@ -60,7 +60,10 @@ pub fn match_by_rows<'a>(text: &'a [u8], table: &'a [u16], winners: &'a [u16]) -
         }
     }
     if winner == 32 {
-        return Found::Nothing;
+        return None;
     }
-    Found::Rule(winner as u8, length)
+    Some(Match {
+        rule: winner as u8,
+        length,
+    })
 }

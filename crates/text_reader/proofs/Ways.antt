@@ -28,8 +28,8 @@ use Rattle.machine.proofs.laws.RunsLaws.{same_entries}
 use Rattle.demands.proofs.laws.Proofs.{own-answer_without}
 use Rattle.machine_turn.specs.Steps.{answer_held}
 use Rattle.machine_turn.specs.declared.RunAnswer.{RunAnswer}
-use Rattle.text_reader.specs.declared.TextRead.{TextRead}
-use Rattle.text_reader.specs.declared.TextRead.TheVariants as read
+use Rattle.sheet_reader.specs.declared.Refusal.{Refusal}
+use Rattle.std.specs.Prelude.{Result, Ok, Err}
 use Rattle.text_reader.specs.Reading.{told, text_line, line_of}
 use Rattle.text_reader.specs.Program.{most_program_text, program_room, program_entries, program_line, OwnLine}
 use Rattle.text_reader.specs.Reading.{Told, sheet_refused, text_answered, answer_within, reading, stack_after_reading, OwnReading}
@@ -92,11 +92,11 @@ pub written-image : (m : page.Written) (image buffer exit : List ℕ) → m ≡ 
 written-image m image buffer exit e f = ap (take (length image)) (f ∙ ap (λ (x : page.Written). image_after x buffer) e) ∙ image-written image buffer
 
 -- The program's line.
-pub line_sheet : (r : TextRead) (number place : ℕ) → r ≡ read.Sheet number place → printed.Sheet number place ≡ line_of (told r)
+pub line_sheet : (r : Result RunAnswer Refusal) (e : Refusal) → r ≡ Err e → printed.Sheet e.question e.place ≡ line_of (told r)
 unfolding line_of
-line_sheet r number place e = rw e
+line_sheet r e h = rw h
 
-module _ (r : TextRead) (a : RunAnswer) (e : r ≡ read.Text a) where
+module _ (r : Result RunAnswer Refusal) (a : RunAnswer) (e : r ≡ Ok a) where
   pub line_accepted : a.number ≡ 0 → printed.Accepted a.count ≡ line_of (told r)
   unfolding line_of text_line answer_held
   line_accepted h = rw (e, eq-eqb a.number 0 h)

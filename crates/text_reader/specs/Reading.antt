@@ -1,6 +1,6 @@
 -- Reading a text by a sheet: writing the sheet's image, then running it over the text; and the line that the program prints.
 -- Demand 3 is stated of it: it gives the sheet's own answer.
-use Rattle.std.specs.Prelude.{◌≡◌, Bool, true, false, cond, List, ℕ, ◌≤◌, ltb, eqb, length}
+use Rattle.std.specs.Prelude.{◌≡◌, Bool, true, false, cond, List, ℕ, ◌≤◌, ltb, eqb, length, Result, Ok, Err}
 use Rattle.lines.specs.declared.Line.{Line}
 use Rattle.lines.specs.declared.Line.TheVariants as printed
 use Rattle.sheet.specs.Sheet.{Sheet}
@@ -12,8 +12,8 @@ use Rattle.machine.specs.Lent.{most_text_bytes, long_enough, stack_alone}
 use Rattle.machine.specs.Run.{run}
 use Rattle.machine.specs.OwnAnswer.{OwnAnswer}
 use Rattle.machine_turn.specs.Steps.{answer_held}
-use Rattle.text_reader.specs.declared.TextRead.{TextRead}
-use Rattle.text_reader.specs.declared.TextRead.TheVariants as read
+use Rattle.machine_turn.specs.declared.RunAnswer.{RunAnswer}
+use Rattle.sheet_reader.specs.declared.Refusal.{Refusal}
 
 -- What is told: a refusal of the sheet, or the text's answer.
 pub data Told : Type 0 where
@@ -21,9 +21,9 @@ pub data Told : Type 0 where
   text_answered : Answer → Told
 
 -- Document 01's numbers for each case of the code's answer.
-abbrev pub told : TextRead → Told
-told (read.Sheet number place) = sheet_refused number place
-told (read.Text a) = text_answered (answer_held a)
+abbrev pub told : Result RunAnswer Refusal → Told
+told (Err r) = sheet_refused r.question r.place
+told (Ok a) = text_answered (answer_held a)
 
 -- A text over the limit is 12.
 unfoldable pub answer_within : ℕ → List ℕ → List ℕ → List ℕ → Answer

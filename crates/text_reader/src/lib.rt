@@ -8,18 +8,13 @@ ghost use Rattle.image.specs.Write.{write, image_after};
 ghost use Rattle.text_reader.specs.Reading.{told, reading, stack_after_reading, OwnReading, line_of};
 ghost use Rattle.text_reader.specs.Program.{program_line, OwnLine};
 
-use image_writer::Written;
+use image_writer::WriteError;
 use lines::Line;
 use machine_turn::RunAnswer;
+use sheet_reader::Refusal;
 
-// How reading a text by a sheet ends: the sheet was refused, with number and place; or the text's answer.
-#[derive(Clone, Copy)]
-pub enum TextRead {
-    Sheet(u8, usize),
-    Text(RunAnswer),
-}
-
-// Writes a sheet's image and runs it over a text of at most `limit` bytes. A longer text is 12, once the sheet has passed.
+// Writes a sheet's image and runs it over a text of at most `limit` bytes: the sheet is refused, or the text has an answer. A longer text
+// is 12, once the sheet has passed.
 pub fn read_text(
     sheet: &[u8],
     text: &[u8],
@@ -27,7 +22,7 @@ pub fn read_text(
     work: &mut [u8],
     image: &mut [u8],
     stack: &mut [u8],
-) -> TextRead
+) -> Result<RunAnswer, Refusal>
     ensures { (told result ≡ reading limit (write sheet.now (length work.old) (length image.old))
         text.now stack.old)
         × (image.new ≡ image_after
@@ -38,36 +33,37 @@ pub fn read_text(
         × OwnReading limit sheet.now text.now (length work.old) (length image.old)
         (length stack.old) (told result) }
 {
-    let made = image_writer::write(sheet, work, image);
-    match made {
-        Written::Refused(number, place) => TextRead::Sheet(number, place),
-        Written::TooLong(_) => TextRead::Sheet(11, 0),
-        Written::Done(size) => {
-            if limit < text.len() {
-                return TextRead::Text(RunAnswer {
-                    number: 12,
-                    place: 0,
-                    count: 0,
-                });
-            }
-            let ran = image_runner::run(&image[..size], text, stack);
-            TextRead::Text(ran)
+    let size = match image_writer::write(sheet, work, image) {
+        Ok(size) => size,
+        Err(WriteError::Refused(refusal)) => return Err(refusal),
+        Err(WriteError::TooLong(_)) => {
+            return Err(Refusal {
+                question: 11,
+                place: 0,
+            });
         }
+    };
+    if limit < text.len() {
+        return Ok(RunAnswer {
+            number: 12,
+            place: 0,
+            count: 0,
+        });
     }
+    Ok(image_runner::run(&image[..size], text, stack))
 }
 
 // The line for what was read.
-pub fn line_for(read: TextRead) -> Line
+pub fn line_for(read: Result<RunAnswer, Refusal>) -> Line
     ensures { result ≡ line_of (told read) }
 {
     match read {
-        TextRead::Sheet(number, place) => Line::Sheet(number, place),
-        TextRead::Text(answer) => {
-            let number = answer.number;
-            if number == 0 {
+        Err(refusal) => Line::Sheet(refusal.question, refusal.place),
+        Ok(answer) => {
+            if answer.number == 0 {
                 return Line::Accepted(answer.count);
             }
-            Line::Text(number, answer.place)
+            Line::Text(answer.number, answer.place)
         }
     }
 }

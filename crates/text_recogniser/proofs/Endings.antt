@@ -79,12 +79,12 @@ module _ (starts : List ℕ) (count end : ℕ) (counted : length starts ≡ coun
   decided_all told o (leaves (t ∷ rest) l) z = absurd (omega (arith, z))
   decided_all told o (sticks rest l) z = absurd (omega (arith, z))
 
-  pub decided_early : (told : ℕ) (o : Descent) → Told count told o → told / 2 ≡ 0 → (told ≡ 0 → ⊥)
+  pub decided_early : (told : ℕ) (o : Descent) → Told count told o → told ≡ 1
       → answer 16 end count ≡ descent_answer starts end o
   unfolding descent_answer
-  decided_early told o (leaves rest l) z n = absurd (omega (arith, z, n))
-  decided_early told o (sticks [] l) z n = same_answer (sym (past_all 0 refl))
-  decided_early told o (sticks (t ∷ rest) l) z n = absurd (omega (arith, z))
+  decided_early told o (leaves rest l) z = absurd (omega (arith, z))
+  decided_early told o (sticks [] l) z = same_answer (sym (past_all 0 refl))
+  decided_early told o (sticks (t ∷ rest) l) z = absurd (omega (arith, z))
 
   placed : (rest : List ℕ) (k : ℕ) → length rest ≤ count → k ≡ length rest → (k ≡ 0 → ⊥)
       → get_or starts (count - k) 0 ≡ get_or starts (length starts - length rest) end

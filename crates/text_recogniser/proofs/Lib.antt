@@ -1,3 +1,2 @@
 -- Laws that only the proofs of this crate's functions use.
-pub mod Copied
 pub mod Endings

@@ -11,7 +11,7 @@ ghost use Rattle.recogniser.specs.Recognise.{descent_answer, after_listing, reco
 ghost use Rattle.sheet_checker.specs.Steps.{PassedParts};
 ghost use Rattle.text_recogniser.specs.Ends.{answer_held, Told, EndsAs};
 
-use sheet_checker::{CheckedSheet, Verdict};
+use sheet_checker::CheckedSheet;
 
 const MOST_TEXT_BYTES: usize = 2048;
 
@@ -39,11 +39,7 @@ fn at_end(list: &[u8], count: usize) -> [u8; 2048]
     ensures { drop (2048 - count) result ≡ take count list.now }
 {
     let mut tokens = [0u8; 2048];
-    let mut i: usize = 0;
-    while i < count {
-        tokens[2048 - count + i] = list[i];
-        i += 1;
-    }
+    tokens[2048 - count..].copy_from_slice(&list[..count]);
     tokens
 }
 
@@ -53,14 +49,14 @@ fn decide(told: usize, starts: [u16; 2048], count: usize, end: usize) -> Recogni
     ensures { (o : Descent) → Told count told o
         → answer_held result ≡ descent_answer (take count starts) end o }
 {
-    let left = told / 2;
-    if left == 0 {
-        if told == 0 {
-            return answer(0, end, count);
-        }
+    if told == 0 {
+        return answer(0, end, count);
+    }
+    if told == 1 {
         return answer(16, end, count);
     }
-    answer(15, starts[count - left] as usize, count)
+    let left = told / 2;
+    answer(15, usize::from(starts[count - left]), count)
 }
 
 // The text of a sheet that passed, once 12 and 20 have been asked.
@@ -93,11 +89,9 @@ pub fn recognise(sheet: &[u8], text: &[u8], work: &mut [u8], list: &mut [u8]) ->
         × (list.new ≡ (recognised sheet.now text.now work.old list.old).list)
         × (work.new ≡ (recognised sheet.now text.now work.old list.old).work) }
 {
-    let checked = sheet_checker::check_sheet(sheet, work);
-    let verdict = checked.verdict;
-    match verdict {
-        Verdict::Refused(question, place) => answer(question, place, 0),
-        Verdict::Passed => {
+    match sheet_checker::check_sheet(sheet, work) {
+        Err(refusal) => answer(refusal.question, refusal.place, 0),
+        Ok(checked) => {
             if MOST_TEXT_BYTES < text.len() {
                 return answer(12, 0, 0);
             }

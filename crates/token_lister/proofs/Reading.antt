@@ -10,13 +10,13 @@ use Rattle.basics.specs.Lists.{written_over}
 use Rattle.basics.proofs.laws.Buffers.{rest_from}
 use Rattle.sheet.specs.Sheet.{Rule}
 use Rattle.lexer.specs.Positions.{Position, positions, first_positions}
+use Rattle.std.specs.Prelude.{Option, Some, None}
 use Rattle.lexer.specs.Match.{Match, no_match, matched}
 use Rattle.lexer.specs.Walk.{longest_match}
 use Rattle.lexer.proofs.laws.PositionBounds.{rules-below}
 use Rattle.lexer.proofs.laws.LongestMatchLaws.{match_within, match_rule-below}
 use Rattle.scanner.specs.Meaning.{match_of, Prepared}
-use Rattle.scanner.specs.declared.Found.{Found}
-use Rattle.scanner.specs.declared.Found.TheVariants as found
+use Rattle.scanner.specs.declared.Match as code
 use Rattle.recogniser.specs.Listing.{Listed, listed, with_action, list_match, list_from, list_tokens}
 use Rattle.token_lister.specs.Listing.{joined, Written, RulesReady}
 
@@ -125,7 +125,7 @@ module _ (rules : List Rule) (text : List ℕ) (count place : ℕ) (list list' s
 -- ---- what was found at a place
 
 module _ (rules : List Rule) (action tables : List ℕ) (last first : ℕ) (ready : RulesReady rules action tables last first)
-    (text : List ℕ) (p : ℕ) (f : Found)
+    (text : List ℕ) (p : ℕ) (f : Option code.Match)
     (e : match_of f ≡ longest_match (positions rules) first (take (length text - p) (drop p text))) where
   found_at : match_of f ≡ match_at rules text p
   found_at =
@@ -133,16 +133,16 @@ module _ (rules : List Rule) (action tables : List ℕ) (last first : ℕ) (read
       ∙ ap (longest_match (positions rules) first) (rest_from text p)
       ∙ ap (λ (s : ℕ). longest_match (positions rules) s (drop p text)) ready.first_held
 
-  pub nothing_at : f ≡ found.Nothing → match_at rules text p ≡ no_match
+  pub nothing_at : f ≡ None → match_at rules text p ≡ no_match
   unfolding match_of
   nothing_at h = sym found_at ∙ ap match_of h
 
-  pub match_is : (k n : ℕ) → f ≡ found.Rule k n → match_at rules text p ≡ matched k n
+  pub match_is : (k n : ℕ) → f ≡ Some (record { rule = k; length = n }) → match_at rules text p ≡ matched k n
   unfolding match_of
   match_is k n h = sym found_at ∙ ap match_of h
 
   -- It takes a byte or more of the text, and its rule is one of the rules.
-  pub match_fits : (k n : ℕ) → f ≡ found.Rule k n → p ≤ length text → (0 < n) × (p + n ≤ length text) × (k < length rules)
+  pub match_fits : (k n : ℕ) → f ≡ Some (record { rule = k; length = n }) → p ≤ length text → (0 < n) × (p + n ≤ length text) × (k < length rules)
   match_fits k n h l =
       let m = match_is k n h in
       let w = match_within (positions rules) (first_positions rules) (drop p text) k n m in (
@@ -151,16 +151,16 @@ module _ (rules : List Rule) (action tables : List ℕ) (last first : ℕ) (read
         match_rule-below (positions rules) (length rules) (rules-below rules) (first_positions rules) (drop p text) k n m,
       )
 
-  pub action_is : (k n : ℕ) → f ≡ found.Rule k n → p ≤ length text → get_or action k 0 ≡ get_or (map (λ r. r.action) rules) k 0
+  pub action_is : (k n : ℕ) → f ≡ Some (record { rule = k; length = n }) → p ≤ length text → get_or action k 0 ≡ get_or (map (λ r. r.action) rules) k 0
   action_is k n h l =
       let below = (match_fits k n h l).2 in
       sym (get_or-take (length rules) action k 0 below) ∙ ap (λ (m : List ℕ). get_or m k 0) ready.actions_held
 
 -- The same, for whatever rules the tables were made of; and there are few rules.
 pub fits_here : (action tables text : List ℕ) (last first p : ℕ) (w : (rules : List Rule) × RulesReady rules action tables last first)
-    (f : Found)
+    (f : Option code.Match)
     → ((ps : List Position) → Prepared ps last tables → match_of f ≡ longest_match ps first (take (length text - p) (drop p text)))
-    → (k n : ℕ) → f ≡ found.Rule k n → p ≤ length text → (0 < n) × (p + n ≤ length text) × (k < 32)
+    → (k n : ℕ) → f ≡ Some (record { rule = k; length = n }) → p ≤ length text → (0 < n) × (p + n ≤ length text) × (k < 32)
 fits_here action tables text last first p w f e k n h l =
     let m = match_fits w.0 action tables last first w.1 text p f (e (positions w.0) w.1.prepared) k n h l in
     (m.0, m.1, omega (arith, m.2, w.1.few))

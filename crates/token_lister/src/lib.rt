@@ -12,7 +12,6 @@ ghost use Rattle.token_lister.specs.Listing.{joined, Written, RulesPassed, Rules
 
 use class_table::{hold_position, sweep};
 use columns::{PositionColumns, RuleColumns};
-use scanner::Found;
 
 // How many tokens were listed, and the place at which reading stopped: the text's end, or where no rule matches.
 #[derive(Clone, Copy)]
@@ -26,10 +25,8 @@ fn tables_of(positions: PositionColumns) -> [u64; 448]
     requires { (rules : ℕ) × (rules ≤ 32) × PositionsInRange rules (held_positions positions) positions.first }
     ensures { Prepared (held_positions positions) positions.last result }
 {
-    let count = positions.count;
     let mut tables = [0u64; 448];
-    let mut i: usize = 0;
-    while i < count {
+    for i in 0..positions.count {
         let one = 1u64 << i;
         hold_position(
             positions.low[i],
@@ -40,7 +37,6 @@ fn tables_of(positions: PositionColumns) -> [u64; 448]
             one,
             &mut tables,
         );
-        i += 1;
     }
     sweep(&mut tables);
     tables
@@ -88,11 +84,11 @@ fn list_matches<'a>(
     let mut place: usize = 0;
     while place < text.len() {
         let found = scanner::longest_match(&text[place..], tables, last, first);
-        let Found::Rule(rule, n) = found else {
+        let Some(m) = found else {
             return ListEnd { count, place };
         };
-        let end = place + n;
-        let number = action[rule as usize];
+        let end = place + m.length;
+        let number = action[m.rule as usize];
         count = put_token(number, place, count, list, starts);
         place = end;
     }

@@ -1,6 +1,5 @@
 -- Laws that the proofs of the functions cite.
 pub mod Equation
-pub mod Question
 pub mod Sets
 pub mod Loops
 pub mod All

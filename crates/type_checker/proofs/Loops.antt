@@ -1,7 +1,7 @@
 -- The loops of the type check over columns: nodes that are raised until none is left, and the first question that fails. That this
 -- leads to the least types is not shown here but over lists (`RaisedLaws`).
 use mathlib.Core.Path.{◌≡◌, refl, sym, ap, ap₂, subst, ◌∙◌}
-use mathlib.Core.Bool.{Bool, true, false, not, ◌||◌, cond, or-false}
+use mathlib.Core.Bool.{Bool, true, false, not, ◌||◌, ◌&&◌, beq, cond, or-false}
 use mathlib.Core.List.{List, ◌∷◌}
 use mathlib.Core.Logic.{◌⊎◌, inl, inr, ⊎_elim}
 use mathlib.Core.Option.{Option}
@@ -11,7 +11,7 @@ use native.Mathlib.Omega.{arith}
 use native.Mathlib.Nat.{sub-zero}
 use lib.Bits.{bit_or, or_zero_r}
 use lib.Dec.{eqb}
-use lib.ListN.{get_or, set, length, replicate, length-set, length-replicate, get_or-replicate, get_or-eq_default}
+use lib.ListN.{get_or, set, length, replicate, length-set, get_or-replicate, get_or-eq_default}
 use lib.Pow.{pow_pos, pow_mono}
 use lib.Seq.{get_or-set_same, get_or-set_other, ext_get_or}
 use borrow.Author.Tests.{eq-eqb, ne_eqb}
@@ -20,127 +20,88 @@ use Rattle.basics.proofs.laws.BitLaws.{bit-or, bit_one, bit-zero, bit-below, lt-
 use Rattle.basics.specs.Lists.{or_else}
 use Rattle.basics.proofs.laws.Order.{compare_cases, lt-or-le}
 use Rattle.types.specs.Types.{LanguageType, bottom_type, alternative_type}
-use Rattle.types.specs.Nodes.{Node, epsilon_node, bottom_node, token_node, sequence_node, alternative_node, fixed_point_node, variable_node, repetition_node, node_at}
+use Rattle.types.specs.Nodes.{Node, bottom_node, node_at}
 use Rattle.types.specs.LeastTypes.{type_of, node_type, same_type, types_of}
 use Rattle.types.specs.Questions as questions
 use Rattle.types.specs.Questions.{first_fault}
 use Rattle.columns.specs.Tabulate.{tabulate}
 use Rattle.columns.proofs.laws.TabulateLaws.{tabulate-length, tabulate-next, tabulate_end}
-use Rattle.columns.specs.laws.Joining.{joined}
-use Rattle.columns.specs.HeldNodes.{node_of, held_node, held_nodes, held_type, held_types}
+use Rattle.columns.specs.HeldNodes.{held_nodes, held_type, held_types}
 use Rattle.columns.proofs.laws.HeldAt.{nodes-counted, node_held}
 use Rattle.sheet.specs.Limits.{most_tokens}
 use Rattle.types.specs.laws.NodeRanges.{NodeInRange}
-use Rattle.types.proofs.laws.NodeRanges.{in_range-more}
 use Rattle.columns.specs.laws.Within.{LinksFit}
 use Rattle.columns.specs.declared.NodeLinks.{NodeLinks}
 use Rattle.columns.specs.declared.TypeColumns.{TypeColumns}
 use Rattle.type_checker.specs.laws.TypeBy.{type_by, fault_by}
 use Rattle.type_checker.proofs.laws.TypeBy.{type_of-listed, node_type_by, node_fault_by}
 use Rattle.type_checker.specs.Dependents.{GoesBy, DependentsBelow}
-use Rattle.type_checker.specs.Raised.{grown, raised_at}
+use Rattle.type_checker.specs.Raised.{grown, raised_at, RaisedIn}
 use Rattle.type_checker.proofs.laws.RaisedLaws.{Settling, steps_left, settling_first, settling_next, settling_falls, settling_done}
-use Rattle.type_checker.specs.Found.{language_type, fault_of, asked}
+use Rattle.type_checker.specs.Found.{language_type, linked_node, type_in, fault_of, asked}
 use Rattle.type_checker.specs.declared.NodeType.{NodeType}
-use Rattle.type_checker.specs.declared.Fault.TheVariants.{Nothing}
-use Rattle.type_checker.specs.declared.Fault.TheVariants as fault_case
+use Rattle.std.specs.Prelude as Prelude
+use Rattle.std.specs.Prelude.{Some, None}
 use Rattle.type_checker.proofs.Sets.{all_in, no_more_in, last_in, was_in, still_in}
-
-abbrev pub linked_node : NodeLinks → ℕ → Node
-linked_node links = held_node links.tag links.link links.guarded
-
-abbrev pub type_in : TypeColumns → ℕ → LanguageType
-type_in c = held_type c.null c.first c.flast
-
--- ---- a node that is read
-
--- Which nodes a node goes by has nothing to do with whether it is guarded.
-within_guard : (n tag link i : ℕ) (g h : Bool) → NodeInRange most_tokens n (node_of tag link g i)
-    → NodeInRange most_tokens n (node_of tag link h i)
-unfolding node_of
-within_guard n tag link i g h = go (eqb tag 0) (eqb tag 1) (eqb tag 2) (eqb tag 3) (eqb tag 4) (eqb tag 5) (eqb tag 6) (eqb tag 7)
-  where
-    pick : Bool → Bool → Bool → Bool → Bool → Bool → Bool → Bool → Bool → Node
-    pick a b c d e f v r g =
-        cond a epsilon_node (cond b bottom_node (cond c (token_node link) (cond d (sequence_node (suc i) link)
-        (cond e (alternative_node (suc i) link) (cond f (fixed_point_node (suc i)) (cond v (variable_node link g)
-        (cond r (repetition_node (suc i) link) bottom_node)))))))
-
-    go : (a b c d e f v r : Bool) → NodeInRange most_tokens n (pick a b c d e f v r g) → NodeInRange most_tokens n (pick a b c d e f v r h)
-    go true b c d e f v r w = w
-    go false true c d e f v r w = w
-    go false false true d e f v r w = w
-    go false false false true e f v r w = w
-    go false false false false true f v r w = w
-    go false false false false false true v r w = w
-    go false false false false false false true r w = w
-    go false false false false false false false true w = w
-    go false false false false false false false false w = w
-
-pub node_fits : (links : NodeLinks) → LinksFit links → (i : ℕ) → i < links.count → (guarded : Bool)
-    → NodeInRange most_tokens 64 (node_of (get_or links.tag i 0) (get_or links.link i 0) guarded i)
-unfolding held_node
-node_fits links fit i l guarded =
-    within_guard 64 (get_or links.tag i 0) (get_or links.link i 0) i (bit links.guarded i) guarded
-    (in_range-more most_tokens most_tokens links.count 64 (linked_node links i) (omega arith) fit.count_fits (fit.all_within i l))
-
-pub fault_read : (links : NodeLinks) (types : TypeColumns) (i number : ℕ) (guarded : Bool) → guarded ≡ bit links.guarded i
-    → asked number i ≡ fault_by (type_in types) (node_of (get_or links.tag i 0) (get_or links.link i 0) guarded i) i
-    → asked number i ≡ fault_by (type_in types) (linked_node links i) i
-unfolding held_node
-fault_read links types i number guarded e h = rw (← e) h
 
 -- ---- one node's type is stored
 
--- Node i joins a set, which may have it already, or does not.
-joined-at : (b : Bool) (s i : ℕ) → bit (joined b s i) i ≡ (bit s i || b)
-joined-at true s i = bit-or s (2 ^ i) i ∙ ap (λ (x : Bool). bit s i || x) (bit_one i i ∙ eq-eqb i i refl)
-joined-at false s i = bit-or s 0 i ∙ ap (λ (x : Bool). bit s i || x) (bit-zero i)
+-- A set with node i, if it is to be in it.
+with_at : (b : Bool) (s i : ℕ) → bit (cond b (bit_or s (2 ^ i)) s) i ≡ (bit s i || b)
+with_at true s i = bit-or s (2 ^ i) i ∙ ap (λ (x : Bool). bit s i || x) (bit_one i i ∙ eq-eqb i i refl)
+with_at false s i = sym (or-false (bit s i))
 
-joined_other : (b : Bool) (s i q : ℕ) → (q ≡ i → ⊥) → bit (joined b s i) q ≡ bit s q
-joined_other true s i q n =
+with_other : (b : Bool) (s i q : ℕ) → (q ≡ i → ⊥) → bit (cond b (bit_or s (2 ^ i)) s) q ≡ bit s q
+with_other true s i q n =
     bit-or s (2 ^ i) q ∙ ap (λ (x : Bool). bit s q || x) (bit_one i q ∙ ne_eqb i q (λ e. n (sym e))) ∙ or-false (bit s q)
-joined_other false s i q n = bit-or s 0 q ∙ ap (λ (x : Bool). bit s q || x) (bit-zero q) ∙ or-false (bit s q)
-
-abbrev stored : TypeColumns → ℕ → NodeType → ℕ → TypeColumns
-stored c i t one = record { null = bit_or c.null one; first = set c.first i t.first; flast = set c.flast i t.flast }
+with_other false s i q n = refl
 
 -- Columns with an entry for every node there can be.
 pub record Long (c : TypeColumns) : Type 0 where
   pub first_long : length c.first ≡ 64
   pub flast_long : length c.flast ≡ 64
 
-module _ (c : TypeColumns) (i : ℕ) (t : NodeType) (one : ℕ) (one_is : one ≡ cond t.null (2 ^ i) 0) where
-  stored_long : Long c → Long (stored c i t one)
-  stored_long h = record {
-    first_long = length-set c.first i t.first ∙ h.first_long;
-    flast_long = length-set c.flast i t.flast ∙ h.flast_long;
-  }
+module _ (c : TypeColumns) (i : ℕ) (t : NodeType) (null : ℕ) (null_is : null ≡ cond t.null (bit_or c.null (2 ^ i)) c.null) where
+  abbrev pub stored : TypeColumns
+  stored = record { null = null; first = set c.first i t.first; flast = set c.flast i t.flast }
 
-  stored_other : (q : ℕ) → (q ≡ i → ⊥) → type_in (stored c i t one) q ≡ type_in c q
+  stored_other : (q : ℕ) → (q ≡ i → ⊥) → type_in stored q ≡ type_in c q
   unfolding held_type
   stored_other q n = rw (
-    one_is,
-    joined_other t.null c.null i q n,
+    null_is,
+    with_other t.null c.null i q n,
     get_or-set_other c.first i q t.first 0 n,
     get_or-set_other c.flast i q t.flast 0 n,
   )
 
   -- A type that has what the node had: the flag need not be taken away first.
-  stored_here : (x : LanguageType) → i < 64 → Long c → language_type t ≡ alternative_type (type_in c i) x
-      → type_in (stored c i t one) i ≡ language_type t
-  unfolding held_type alternative_type
-  stored_here x l h is = rw (
-    one_is,
-    joined-at t.null c.null i,
-    get_or-set_same c.first i t.first 0 (omega (arith, h.first_long)),
-    get_or-set_same c.flast i t.flast 0 (omega (arith, h.flast_long)),
-    had (bit c.null i) x.null t.null (ap (λ (y : LanguageType). y.null) is),
-  )
-    where
-      had : (a b d : Bool) → d ≡ (a || b) → (a || d) ≡ d
-      had true b d e = sym e
-      had false b d e = refl
+  module _ (x : LanguageType) (small : i < 64) (long : Long c) (is : language_type t ≡ alternative_type (type_in c i) x) where
+    pub stored_here : type_in stored i ≡ language_type t
+    unfolding held_type alternative_type
+    stored_here = rw (
+      null_is,
+      with_at t.null c.null i,
+      get_or-set_same c.first i t.first 0 (omega (arith, long.first_long)),
+      get_or-set_same c.flast i t.flast 0 (omega (arith, long.flast_long)),
+      had (bit c.null i) x.null t.null (ap (λ (y : LanguageType). y.null) is),
+    )
+      where
+        had : (a b d : Bool) → d ≡ (a || b) → (a || d) ≡ d
+        had true b d e = sym e
+        had false b d e = refl
+
+pub raised_stored : (links : NodeLinks) (c : TypeColumns) (i : ℕ) (t : NodeType) (null : ℕ)
+    (null_is : null ≡ cond t.null (bit_or c.null (2 ^ i)) c.null) → i < 64 → Long c
+    → language_type t ≡ alternative_type (type_in c i) (type_by (type_in c) (linked_node links i)) → RaisedIn links c i (stored c i t null null_is)
+raised_stored links c i t null null_is small long is = record {
+  here = stored_here c i t null null_is (type_by (type_in c) (linked_node links i)) small long is ∙ is;
+  others = stored_other c i t null null_is;
+}
+
+-- The code's test of two types is the definition's.
+pub test_same : (a b : NodeType) → (beq a.null b.null && (eqb a.first b.first && eqb a.flast b.flast)) ≡ same_type (language_type a) (language_type b)
+unfolding same_type
+test_same a b = refl
 
 -- ---- one node is raised
 
@@ -161,22 +122,16 @@ tabulate-set f g n i x l here other = ext_get_or bottom_type (tabulate g 0 n) (s
     go q m (inr (inr a)) = away q m (λ e. omega arith)
 
 -- Node i is raised, as the code does it.
-module _ (links : NodeLinks) (fit : LinksFit links) (out : TypeColumns) (long : Long out) (i : ℕ) (more : i < links.count) (t : NodeType)
-    (one : ℕ) (t_is : language_type t ≡ alternative_type (type_in out i) (type_by (type_in out) (linked_node links i)))
-    (one_is : one ≡ cond t.null (2 ^ i) 0) where
-  one_here : type_in (stored out i t one) i ≡ language_type t
-  one_here = stored_here out i t one one_is (type_by (type_in out) (linked_node links i)) (omega (arith, fit.count_fits)) long t_is
-
-  one_grown : grown (held_nodes links) i (held_types links.count out) ≡ language_type t
+module _ (links : NodeLinks) (fit : LinksFit links) (out new : TypeColumns) (i : ℕ) (more : i < links.count) (r : RaisedIn links out i new) where
+  one_grown : grown (held_nodes links) i (held_types links.count out) ≡ type_in new i
   unfolding held_types
   one_grown = ap₂ alternative_type (type_of-listed (type_in out) links.count i more)
       (ap (node_type (tabulate (type_in out) 0 links.count)) (sym (node_held links (held_nodes links) refl i more))
-      ∙ node_type_by (type_in out) links.count (linked_node links i) (fit.all_within i more)) ∙ sym t_is
+      ∙ node_type_by (type_in out) links.count (linked_node links i) (fit.all_within i more)) ∙ sym r.here
 
-  one_raised : held_types links.count (stored out i t one) ≡ raised_at (held_nodes links) i (held_types links.count out)
+  one_raised : held_types links.count new ≡ raised_at (held_nodes links) i (held_types links.count out)
   unfolding raised_at held_types
-  one_raised = tabulate-set (type_in out) (type_in (stored out i t one)) links.count i _ more (one_here ∙ sym one_grown)
-      (stored_other out i t one one_is)
+  one_raised = tabulate-set (type_in out) (type_in new) links.count i _ more (sym one_grown) r.others
 
 -- ---- all nodes
 
@@ -191,7 +146,6 @@ bottoms (suc n) i f h = ap₂ ◌∷◌ (h i (omega arith)) (bottoms n (suc i) f
 
 -- The present types, and the nodes that are left.
 pub record Pending (links : NodeLinks) (types : TypeColumns) (left : ℕ) : Type 0 where
-  pub long : Long types
   pub within : (n : ℕ) → n ∈ left → n < links.count
   pub settling : Settling (held_nodes links) (λ n. n ∈ left) (held_types links.count types)
 
@@ -203,15 +157,14 @@ pub last-inside : (links : NodeLinks) (types : TypeColumns) (left i : ℕ) → P
     → i < links.count
 last-inside links types left i h low high = h.within i (last_in left i low high)
 
--- What a turn of the code goes by: the last node that is left, its type afterwards and whether that is another one, and the sets.
-pub record Turn (links : NodeLinks) (sets : List ℕ) (types : TypeColumns) (left i : ℕ) (t : NodeType) (changed : Bool) (one own again : ℕ) : Type 0 where
+-- What a turn of the code goes by: the last node that is left, the types once it is raised and whether its type is another one, and the sets.
+pub record Turn (links : NodeLinks) (sets : List ℕ) (types new : TypeColumns) (left i : ℕ) (changed : Bool) (own again : ℕ) : Type 0 where
   pub deps : DependentsBelow links links.count sets
   pub pending : Pending links types left
   pub low : 2 ^ i ≤ left
   pub high : left < 2 ^ suc i
-  pub t_is : language_type t ≡ alternative_type (type_in types i) (type_by (type_in types) (linked_node links i))
-  pub changed_is : changed ≡ not (same_type (type_in types i) (language_type t))
-  pub one_is : one ≡ cond t.null (2 ^ i) 0
+  pub raised : RaisedIn links types i new
+  pub changed_is : changed ≡ not (same_type (type_in types i) (type_in new i))
   pub own_is : own ≡ 2 ^ i
   pub again_is : again ≡ cond changed (get_or sets i 0) 0
 
@@ -231,7 +184,6 @@ module _ (links : NodeLinks) (fit : LinksFit links) where
   pub pending_first : (left : ℕ) → left ≡ 2 ^ links.count - 1 → Pending links no_types left
   unfolding held_types held_type bottom_type
   pending_first left e = record {
-    long = record { first_long = length-replicate {A = ℕ} 64 0; flast_long = length-replicate {A = ℕ} 64 0 };
     within = λ n h. no_more_in links.count n (subst (λ (s : ℕ). n ∈ s) e h);
     settling = subst (Settling ns (λ n. n ∈ left)) (ap (λ (k : ℕ). replicate k bottom_type) counted ∙ sym zeros)
         (settling_first ns (λ n. n ∈ left) (λ n l. rw e (all_in links.count n (omega (arith, counted)))));
@@ -246,21 +198,21 @@ module _ (links : NodeLinks) (fit : LinksFit links) where
       settling_done ns (λ n. n ∈ left) (held_types links.count types) (λ n m. ∈_zero n (subst (λ (s : ℕ). n ∈ s) e m)) h.settling
 
   -- A turn of the code.
-  module _ {sets : List ℕ} {types : TypeColumns} {left i : ℕ} {t : NodeType} {changed : Bool} {one own again : ℕ}
-      (w : Turn links sets types left i t changed one own again) where
+  module _ {sets : List ℕ} {types new : TypeColumns} {left i : ℕ} {changed : Bool} {own again : ℕ}
+      (w : Turn links sets types new left i changed own again) where
     inside : i < links.count
     inside = last-inside links types left i w.pending w.low w.high
 
     abbrev later : ℕ
     later = bit_or (left - own) again
 
-    raised_is : held_types links.count (stored types i t one) ≡ raised_at ns i (held_types links.count types)
-    raised_is = one_raised links fit types w.pending.long i inside t one w.t_is w.one_is
+    raised_is : held_types links.count new ≡ raised_at ns i (held_types links.count types)
+    raised_is = one_raised links fit types new i inside w.raised
 
     told : changed ≡ not (same_type (type_of (held_types links.count types) i) (grown ns i (held_types links.count types)))
     unfolding held_types
     told = w.changed_is ∙ sym (ap₂ (λ (a b : LanguageType). not (same_type a b)) (type_of-listed (type_in types) links.count i inside)
-        (one_grown links fit types w.pending.long i inside t one w.t_is w.one_is))
+        (one_grown links fit types new i inside w.raised))
 
     kept : (n : ℕ) → n ∈ left → (n ≡ i → ⊥) → n ∈ later
     kept n m other = ∈_left (left - own) again n (rw w.own_is (still_in left i w.low w.high n m other))
@@ -273,15 +225,14 @@ module _ (links : NodeLinks) (fit : LinksFit links) where
     later_within n m = ⊎_elim (λ k. w.pending.within n (was_in left i w.low w.high n (subst (λ (x : ℕ). n ∈ left - x) w.own_is k)))
         (λ k. w.deps.below_count n i (∈_cond changed (get_or sets i 0) n (subst (λ (x : ℕ). n ∈ x) w.again_is k)).1) (∈_cases (left - own) again n m)
 
-    pub pending_next : Pending links (stored types i t one) later
+    pub pending_next : Pending links new later
     pending_next = record {
-      long = stored_long types i t one w.one_is w.pending.long;
       within = later_within;
       settling = rw raised_is (settling_next ns links.count nodes_within (λ n. n ∈ left) (held_types links.count types) w.pending.settling i
           (omega (arith, inside, counted)) changed told (λ n. n ∈ later) kept joins);
     }
 
-    pub pending_falls : pending_steps links (stored types i t one) later < pending_steps links types left
+    pub pending_falls : pending_steps links new later < pending_steps links types left
     pending_falls = rw raised_is (settling_falls ns links.count nodes_within (λ n. n ∈ left) (held_types links.count types) w.pending.settling i
         (omega (arith, inside, counted)) changed told (2 ^ 64) left later most less)
       where
@@ -308,21 +259,21 @@ unfolding held_nodes
 faults_first links types = rw sub-zero
 
 module _ (links : NodeLinks) (types : TypeColumns) (fit : LinksFit links) (i : ℕ) where
-  module _ (number : ℕ) (more : i < links.count) (is : asked number i ≡ fault_by (type_in types) (linked_node links i) i) where
+  module _ (number : Prelude.Option ℕ) (more : i < links.count) (is : asked number i ≡ fault_by (type_in types) (linked_node links i) i) where
     next_fault : faults_from links types i ≡ or_else (asked number i) (faults_from links types (i + 1))
     unfolding first_fault held_types
     next_fault = rw (tabulate-next (linked_node links) links.count i more)
         (ap₂ or_else (node_fault_by (type_in types) links.count (linked_node links i) i (fit.all_within i more) ∙ sym is)
         (ap (first_fault (held_types links.count types) (tabulate (linked_node links) (i + 1) (links.count - (i + 1)))) (sym (add-one i))))
 
-    pub fault_here : (number ≡ 0 → ⊥) → fault_of (fault_case.Refused number i) ≡ faults_from links types i
+    pub fault_here : (question : ℕ) → number ≡ Some question → fault_of (Some (record { question = question; node = i })) ≡ faults_from links types i
     unfolding fault_of asked
-    fault_here n = sym (next_fault ∙ rw (ne_eqb number 0 n))
+    fault_here question e = sym (next_fault ∙ rw e)
 
-    pub fault_later : number ≡ 0 → faults_from links types (i + 1) ≡ faults_from links types i
+    pub fault_later : number ≡ None → faults_from links types (i + 1) ≡ faults_from links types i
     unfolding asked
     fault_later e = sym (next_fault ∙ rw e)
 
-  pub fault_none : links.count ≤ i → fault_of Nothing ≡ faults_from links types i
+  pub fault_none : links.count ≤ i → fault_of None ≡ faults_from links types i
   unfolding fault_of first_fault
   fault_none l = rw (tabulate_end (linked_node links) links.count i l)

@@ -14,7 +14,7 @@ use lib.Pow.{pow_pos, pow_mono}
 use lib.Seq.{get_or-set_same}
 use borrow.Author.Tests.{eq-eqb, eqb-true}
 use Rattle.basics.specs.Bits.{bit, ◌∈◌}
-use Rattle.basics.proofs.laws.BitLaws.{bit-and, bit-or, bit_one, bit_high, ∈_cases, ∈_left, ∈_right, ∈_zero, ∈_cond, ∈_when, ∈_one, ∈_self}
+use Rattle.basics.proofs.laws.BitLaws.{bit-and, bit-or, bit_one, bit_high, ∈_cases, ∈_left, ∈_right, ∈_zero, ∈_one, ∈_self}
 use Rattle.basics.proofs.laws.Order.{lt-or-le}
 use Rattle.basics.proofs.laws.Truth.{and-true-second, or-true_left}
 use Rattle.sheet.specs.Limits.{most_tokens}
@@ -107,32 +107,41 @@ goes_by_either n tag link i k guarded =
     go false false true d e f v r w q = absurd q
     go false false false false false false false false w q = absurd q
 
+-- Node i joins a set, or does not.
+kept_in : (member : Bool) (s i n : ℕ) → n ∈ s → n ∈ cond member (bit_or s (2 ^ i)) s
+kept_in true s i n h = ∈_left s (2 ^ i) n h
+kept_in false s i n h = h
+
+new_in : (member : Bool) (s i n : ℕ) → n ∈ cond member (bit_or s (2 ^ i)) s → (n ∈ s) ⊎ (n ≡ i)
+new_in true s i n h = ⊎_elim inl (λ m. inr (sym (∈_one i n m))) (∈_cases s (2 ^ i) n h)
+new_in false s i n h = inl h
+
+here_in : (member : Bool) (s i : ℕ) → member ≡ true → i ∈ cond member (bit_or s (2 ^ i)) s
+here_in member s i e = rw e (∈_right s (2 ^ i) i (∈_self i))
+
 -- Node i joins one of the sets, or none.
-module _ (sets : List ℕ) (a i : ℕ) (member : Bool) (one : ℕ) (one_is : one ≡ cond member (2 ^ i) 0) where
+module _ (sets : List ℕ) (a i : ℕ) (member : Bool) (new : ℕ) (new_is : new ≡ cond member (bit_or (get_or sets a 0) (2 ^ i)) (get_or sets a 0)) where
   abbrev joined : List ℕ
-  joined = set sets a (bit_or (get_or sets a 0) one)
+  joined = set sets a new
 
   joined_kept : (n k : ℕ) → n ∈ get_or sets k 0 → n ∈ get_or joined k 0
-  joined_kept n k = set_entry 0 (λ m s. n ∈ get_or sets m 0 → n ∈ s) sets a (bit_or (get_or sets a 0) one) (λ m h. h) (∈_left (get_or sets a 0) one n) k
+  joined_kept n k = set_entry 0 (λ m s. n ∈ get_or sets m 0 → n ∈ s) sets a new (λ m h. h) (λ h. rw new_is (kept_in member (get_or sets a 0) i n h)) k
 
   joined_new : (n k : ℕ) → n ∈ get_or joined k 0 → (n ∈ get_or sets k 0) ⊎ (n ≡ i)
-  joined_new n k = set_entry 0 (λ m s. n ∈ s → (n ∈ get_or sets m 0) ⊎ (n ≡ i)) sets a (bit_or (get_or sets a 0) one) (λ m h. inl h)
-      (λ h. ⊎_elim inl (λ m. inr (sym (∈_one i n (∈_cond member (2 ^ i) n (subst (λ (s : ℕ). n ∈ s) one_is m)).1))) (∈_cases (get_or sets a 0) one n h)) k
+  joined_new n k = set_entry 0 (λ m s. n ∈ s → (n ∈ get_or sets m 0) ⊎ (n ≡ i)) sets a new (λ m h. inl h)
+      (λ h. new_in member (get_or sets a 0) i n (subst (λ (s : ℕ). n ∈ s) new_is h)) k
 
   joined_here : member ≡ true → a < length sets → i ∈ get_or joined a 0
-  joined_here e l = rw (get_or-set_same sets a (bit_or (get_or sets a 0) one) 0 l)
-      (∈_right (get_or sets a 0) one i (rw one_is (∈_when member (2 ^ i) i e (∈_self i))))
+  joined_here e l = rw (get_or-set_same sets a new 0 l, new_is) (here_in member (get_or sets a 0) i e)
 
 -- The sets after the nodes below i.
 pub record Joining (links : NodeLinks) (i : ℕ) (sets : List ℕ) : Type 0 where
-  pub at_most : i ≤ links.count
   pub long : length sets ≡ 64
   pub below : DependentsBelow links i sets
 
 module _ (links : NodeLinks) where
   pub joining_first : Joining links 0 (replicate 64 0)
   joining_first = record {
-    at_most = omega arith;
     long = length-replicate {A = ℕ} 64 0;
     below = record { all_in = λ n k l. absurd (omega arith); below_count = λ n k h. empty n k h (lt-or-le k 64) };
   }
@@ -142,21 +151,21 @@ module _ (links : NodeLinks) where
       empty n k h (inr l) =
           ∈_zero n (subst (λ (s : ℕ). n ∈ s) (get_or-eq_default (replicate 64 0) 0 {n = k} (omega (arith, length-replicate {A = ℕ} 64 0))) h)
 
-  module _ (fit : LinksFit links) (i : ℕ) (sets : List ℕ) (h : Joining links i sets) (more : i < links.count) (part other : ℕ)
-      (part_is : part ≡ cond (by_next (get_or links.tag i 0)) (2 ^ i) 0) (other_is : other ≡ cond (by_link (get_or links.tag i 0)) (2 ^ i) 0)
-    where
-      abbrev to_next : Bool
-      to_next = by_next (get_or links.tag i 0)
+  module _ (fit : LinksFit links) (i : ℕ) (sets : List ℕ) (h : Joining links i sets) (more : i < links.count) where
+    abbrev to_next : Bool
+    to_next = by_next (get_or links.tag i 0)
 
-      abbrev to_link : Bool
-      to_link = by_link (get_or links.tag i 0)
+    abbrev to_link : Bool
+    to_link = by_link (get_or links.tag i 0)
 
-      abbrev next : ℕ
-      next = (i + 1) % 64
+    abbrev next : ℕ
+    next = (i + 1) % 64
 
-      abbrev to : ℕ
-      to = get_or links.link i 0 % 64
+    abbrev to : ℕ
+    to = get_or links.link i 0 % 64
 
+    module _ (part other : ℕ) (part_is : part ≡ cond to_next (bit_or (get_or sets next 0) (2 ^ i)) (get_or sets next 0))
+        (other_is : let once = set sets next part in other ≡ cond to_link (bit_or (get_or once to 0) (2 ^ i)) (get_or once to 0)) where
       abbrev once : List ℕ
       once = joined sets next i to_next part part_is
 
@@ -164,7 +173,7 @@ module _ (links : NodeLinks) where
       twice = joined once to i to_link other other_is
 
       once_long : length once ≡ 64
-      once_long = length-set sets next (bit_or (get_or sets next 0) part) ∙ h.long
+      once_long = length-set sets next part ∙ h.long
 
       kept : (n k : ℕ) → n ∈ get_or sets k 0 → n ∈ get_or twice k 0
       kept n k m = joined_kept once to i to_link other other_is n k (joined_kept sets next i to_next part part_is n k m)
@@ -183,8 +192,7 @@ module _ (links : NodeLinks) where
 
       pub joining_next : Joining links (i + 1) twice
       joining_next = record {
-        at_most = omega arith;
-        long = length-set once to (bit_or (get_or once to 0) other) ∙ once_long;
+        long = length-set once to other ∙ once_long;
         below = record {
           all_in = λ n k l g. in_all n k g (lt-or-le n i) l;
           below_count = λ n k m. ⊎_elim (λ w. omega (arith, h.below.below_count n k w)) (λ e. omega arith) (new n k m);

@@ -5,14 +5,13 @@ use Prim.Native.Nat.{ℕ, ◌≤◌, ◌<◌}
 use native.Mathlib.Omega.{arith}
 use lib.ListN.{length, drop, set}
 use borrow.Author.Tests.{lt-ltb, le-ltb}
+use Rattle.std.specs.Prelude.{Result, Ok, Err}
 use Rattle.image.specs.Answer.{numbers_of}
 use Rattle.sheet_checker.specs.Answer as checker
-use Rattle.sheet_checker.specs.declared.Verdict.{Verdict}
-use Rattle.sheet_checker.specs.declared.Verdict.TheVariants.{Passed}
-use Rattle.sheet_checker.specs.declared.Verdict.TheVariants as verdict_case
+use Rattle.sheet_reader.specs.declared.Refusal.{Refusal}
 use Rattle.image_writer.specs.Answer as compiler
-use Rattle.image_writer.specs.declared.Written.{Written}
-use Rattle.image_writer.specs.declared.Written.TheVariants.{Done, TooLong, Refused}
+use Rattle.image_writer.specs.declared.WriteError.{WriteError}
+use Rattle.image_writer.specs.declared.WriteError.TheVariants.{TooLong, Refused}
 use Rattle.vinzagew.specs.Out.{out_after, if_room}
 
 three_stored : (l : List ℕ) (a b c : ℕ) → 3 ≤ length l → set (set (set l 0 a) 1 b) 2 c ≡ a ∷ b ∷ c ∷ drop 3 l
@@ -38,24 +37,26 @@ module _ (out : List ℕ) where
   unfolding if_room
   after_long after lent h = rw (le-ltb (length out) 3 h)
 
--- The numbers of each case.
-pub told_passed : (v : Verdict) → v ≡ Passed → 0 ∷ 0 ∷ 0 ∷ [] ≡ numbers_of (checker.answer_of v)
+-- The numbers of each case, where n is the question that a refusal names.
+pub told_passed : (c : Result Unit Refusal) → c ≡ Ok tt → 0 ∷ 0 ∷ 0 ∷ [] ≡ numbers_of (checker.answer_of c)
 unfolding numbers_of checker.answer_of
-told_passed v e = rw e
+told_passed c e = rw e refl
 
-pub told_failed : (v : Verdict) (number place : ℕ) → v ≡ verdict_case.Refused number place → number ∷ place ∷ 0 ∷ [] ≡ numbers_of (checker.answer_of v)
+pub told_failed : (c : Result Unit Refusal) (refusal : Refusal) → c ≡ Err refusal → {n : ℕ} → n ≡ refusal.question
+    → n ∷ refusal.place ∷ 0 ∷ [] ≡ numbers_of (checker.answer_of c)
 unfolding numbers_of checker.answer_of
-told_failed v number place e = rw e
+told_failed c refusal e same = rw (e, same) refl
 
-module _ (w : Written) where
-  pub told_done : (length : ℕ) → w ≡ Done length → 0 ∷ 0 ∷ length ∷ [] ≡ numbers_of (compiler.answer_of w)
+module _ (w : Result ℕ WriteError) where
+  pub told_done : (length : ℕ) → w ≡ Ok length → 0 ∷ 0 ∷ length ∷ [] ≡ numbers_of (compiler.answer_of w)
   unfolding numbers_of compiler.answer_of
-  told_done length e = rw e
+  told_done length e = rw e refl
 
-  pub told_long : (needed : ℕ) → w ≡ TooLong needed → 11 ∷ 0 ∷ needed ∷ [] ≡ numbers_of (compiler.answer_of w)
+  pub told_long : (needed : ℕ) → w ≡ Err (TooLong needed) → 11 ∷ 0 ∷ needed ∷ [] ≡ numbers_of (compiler.answer_of w)
   unfolding numbers_of compiler.answer_of
-  told_long needed e = rw e
+  told_long needed e = rw e refl
 
-  pub told_refused : (number place : ℕ) → w ≡ Refused number place → number ∷ place ∷ 0 ∷ [] ≡ numbers_of (compiler.answer_of w)
+  pub told_refused : (refusal : Refusal) → w ≡ Err (Refused refusal) → {n : ℕ} → n ≡ refusal.question
+      → n ∷ refusal.place ∷ 0 ∷ [] ≡ numbers_of (compiler.answer_of w)
   unfolding numbers_of compiler.answer_of
-  told_refused number place e = rw e
+  told_refused refusal e same = rw (e, same) refl

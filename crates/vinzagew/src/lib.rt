@@ -15,9 +15,9 @@ ghost use Rattle.recogniser.specs.Recognise.{recognised};
 ghost use Rattle.text_recogniser.specs.Ends as recogniser;
 ghost use Rattle.vinzagew.specs.Out.{numbers_held, out_after, if_room};
 
-use image_writer::Written;
+use image_writer::WriteError;
 use machine_turn::RunAnswer;
-use sheet_checker::Verdict;
+use sheet_reader::Refusal;
 use text_recogniser::Recognition;
 
 // The three numbers of an answer. The third is a length, a count of tokens, or 0 where there is neither.
@@ -38,39 +38,51 @@ fn three(number: u64, place: u64, amount: u64) -> Numbers
     }
 }
 
-// A verdict has no length.
-fn verdict_numbers(verdict: Verdict) -> Numbers
-    ensures { numbers_held result ≡ numbers_of (checker.answer_of verdict) }
-{
-    match verdict {
-        Verdict::Passed => three(0, 0, 0),
-        Verdict::Refused(number, place) => three(number as u64, place as u64, 0),
+// Checking has no length.
+impl From<Result<(), Refusal>> for Numbers {
+    ghost from_gives = { λ checked numbers. numbers_held numbers ≡ numbers_of (checker.answer_of checked) };
+
+    fn from(checked: Result<(), Refusal>) -> Numbers {
+        match checked {
+            Ok(()) => three(0, 0, 0),
+            Err(refusal) => three(u64::from(refusal.question), refusal.place as u64, 0),
+        }
     }
 }
 
 // Document 01's number, place and length for each way in which writing ends.
-fn written_numbers(written: Written) -> Numbers
-    ensures { numbers_held result ≡ numbers_of (compiler.answer_of written) }
-{
-    match written {
-        Written::Done(length) => three(0, 0, length as u64),
-        Written::TooLong(needed) => three(11, 0, needed as u64),
-        Written::Refused(number, place) => three(number as u64, place as u64, 0),
+impl From<Result<usize, WriteError>> for Numbers {
+    ghost from_gives = { λ written numbers. numbers_held numbers ≡ numbers_of (compiler.answer_of written) };
+
+    fn from(written: Result<usize, WriteError>) -> Numbers {
+        match written {
+            Ok(length) => three(0, 0, length as u64),
+            Err(error) => match error {
+                WriteError::TooLong(needed) => three(11, 0, needed as u64),
+                WriteError::Refused(refusal) => {
+                    three(u64::from(refusal.question), refusal.place as u64, 0)
+                }
+            },
+        }
     }
 }
 
 // "Running returns number, place, tokens taken"
-fn run_numbers(ran: RunAnswer) -> Numbers
-    ensures { numbers_held result ≡ numbers_of (answer_held ran) }
-{
-    three(ran.number as u64, ran.place as u64, ran.count as u64)
+impl From<RunAnswer> for Numbers {
+    ghost from_gives = { λ ran numbers. numbers_held numbers ≡ numbers_of (answer_held ran) };
+
+    fn from(ran: RunAnswer) -> Numbers {
+        three(u64::from(ran.number), ran.place as u64, ran.count as u64)
+    }
 }
 
 // "It returns as running does, with the count of tokens written"
-fn recognition_numbers(told: Recognition) -> Numbers
-    ensures { numbers_held result ≡ numbers_of (recogniser.answer_held told) }
-{
-    three(told.number as u64, told.place as u64, told.count as u64)
+impl From<Recognition> for Numbers {
+    ghost from_gives = { λ told numbers. numbers_held numbers ≡ numbers_of (recogniser.answer_held told) };
+
+    fn from(told: Recognition) -> Numbers {
+        three(u64::from(told.number), told.place as u64, told.count as u64)
+    }
 }
 
 // Puts three numbers at the front of `out`, which has room for them.
@@ -97,9 +109,8 @@ pub extern "C" fn vinzagew_check(sheet: &[u8], work: &mut [u8], out: &mut [u64])
     if out.len() < 3 {
         return;
     }
-    let verdict = sheet_checker::check(sheet, work);
-    let told = verdict_numbers(verdict);
-    put(out, told);
+    let checked = sheet_checker::check(sheet, work);
+    put(out, Numbers::from(checked));
 }
 
 // Checks a sheet and writes its image into the image buffer, with a lent work area, and puts number, place and length into `out`. Where
@@ -120,8 +131,7 @@ pub extern "C" fn vinzagew_write(sheet: &[u8], work: &mut [u8], image: &mut [u8]
         return;
     }
     let written = image_writer::write(sheet, work, image);
-    let told = written_numbers(written);
-    put(out, told);
+    put(out, Numbers::from(written));
 }
 
 // Runs an image over a text with a lent stack, and puts number, place and count into `out`. Where `out` has fewer than three
@@ -139,8 +149,7 @@ pub extern "C" fn vinzagew_run(image: &[u8], text: &[u8], stack: &mut [u8], out:
         return;
     }
     let ran = image_runner::run(image, text, stack);
-    let told = run_numbers(ran);
-    put(out, told);
+    put(out, Numbers::from(ran));
 }
 
 // Runs an image over a text with a lent table, winners and stack, and puts number, place and count into `out`. Where `out` has fewer than
@@ -167,8 +176,7 @@ pub extern "C" fn vinzagew_run_table(
         return;
     }
     let ran = image_runner::run_table(image, text, table, winners, stack);
-    let told = run_numbers(ran);
-    put(out, told);
+    put(out, Numbers::from(ran));
 }
 
 // Recognises a text by a sheet, with a lent work area and a lent list for the tokens, and puts number, place and count into `out`. Where
@@ -195,6 +203,5 @@ pub extern "C" fn vinzagew_recognise(
         return;
     }
     let recognition = text_recogniser::recognise(sheet, text, work, list);
-    let told = recognition_numbers(recognition);
-    put(out, told);
+    put(out, Numbers::from(recognition));
 }

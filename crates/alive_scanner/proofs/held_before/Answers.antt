@@ -1,11 +1,7 @@
 -- `held_before` meets its contract.
-use borrow.Author.Rules.{rules}
 use mathlib.Core.Path.{ap}
 use lib.Bits.{bit_or}
 use Rattle.alive_scanner.proofs.held_before.Goals as goal
-
-pub leading_of-requires : goal.leading_of-requires
-leading_of-requires c = search rules
 
 pub returns : goal.returns
 returns c = λ follow h. ap (bit_or c.args.last) (c.leading_of.ensures follow h)

@@ -26,17 +26,17 @@ Lts-Left-loop-q = lts.Left-loop tie.the-claims reads.Pre reads.Post goal.the-inv
 abbrev Held : Start → List Position → ℕ → Type 0
 Held s ps k =
     let a = s.args in
-    AliveHeld ps a.last a.tables.now a.unions.now a.text.now k a.marks.now a.place a.held_end a.block.now
+    AliveHeld ps a.given.now.last a.given.now.tables.now a.given.now.unions.now a.given.now.text.now k a.marks.now a.place a.held_end a.block.now
 
 -- What the block holds once it was looked whether the place lies in it.
 block_here : (j : Lts-Joined-end-q)
     → let l = j.loop-q in
-    let s = j.before.before.before.before in
+    let s = j.before.before.before.before.before in
     (l.q < j.if-end-q.end) × (j.if-end-q.end ≤ l.q + 1024) × (length j.if-end-q.block ≡ 1024)
-    × ((ps : List Position) (k : ℕ) → Held s ps k → HeldBefore ps s.args.text.now j.if-end-q.end j.if-end-q.block)
+    × ((ps : List Position) (k : ℕ) → Held s ps k → HeldBefore ps s.args.given.now.text.now j.if-end-q.end j.if-end-q.block)
 block_here j =
     let l = j.loop-q in
-    let s = j.before.before.before.before in
+    let s = j.before.before.before.before.before in
     ⊎_elim
     (λ w.
     let e = w.next_block-end.ensures in
@@ -48,26 +48,6 @@ pub loop-q-init : goal.loop-q-init
 loop-q-init c =
     let z = c.requires in
     (omega arith, z.1, z.2, z.3, λ ps k w. (w.held, inl (refl, refl, refl)))
-
-pub next_block-end-requires : goal.next_block-end-requires
-next_block-end-requires c =
-    let head = c.before.before.before.before in
-    (head.requires.0, c.loop-q-test.true, head.loop-q.invariant.3)
-
-pub offset_bounds-block-q : goal.offset_bounds-block-q
-offset_bounds-block-q c = omega arith
-
-pub bounds-block-q : goal.bounds-block-q
-bounds-block-q c = omega arith
-
-pub following_of-held-requires : goal.following_of-held-requires
-following_of-held-requires c = tt
-
-pub overflow_add-q : goal.overflow_add-q
-overflow_add-q c = omega arith
-
-pub loop-q-smaller : goal.loop-q-smaller
-loop-q-smaller c = omega arith
 
 pub loop-q-preserved : goal.loop-q-preserved
 loop-q-preserved c =
@@ -86,19 +66,19 @@ loop-q-preserved c =
       λ ps k w.
           let block = b.3 ps k w in
           let old = (l.invariant.4 ps k w).1 in
-          let e : next ≡ bit_and l.held (alive ps (drop l.q a.text.now)) = ap (bit_and l.held) (block l.q inside b.0 b.1) in (
+          let e : next ≡ bit_and l.held (alive ps (drop l.q a.given.now.text.now)) = ap (bit_and l.held) (block l.q inside b.0 b.1) in (
             block,
             ⊎_elim
                 (λ v.
                 rw (v.held-is, v.kept-is)
-                (cut_step ps a.first a.text.now a.place l.held l.q l.kept next _ l.invariant.0 inside e c.if-next-eq0.false
+                (cut_step ps a.given.now.first a.given.now.text.now a.place l.held l.q l.kept next _ l.invariant.0 inside e c.if-next-eq0.false
                 (v.following_of-held.ensures _ w.ready.unions_held
-                ∙ follows-at ps a.last a.tables.now w.ready.prepared a.text.now l.held l.q next inside e) old))
+                ∙ follows-at ps a.given.now.last a.given.now.tables.now w.ready.prepared a.given.now.text.now l.held l.q next inside e) old))
                 (λ v.
                 let same = v.if-next-kept.false in
                 rw (v.held-is, v.kept-is, ← same)
-                (cut_step ps a.first a.text.now a.place l.held l.q l.kept next l.held l.invariant.0 inside e c.if-next-eq0.false
-                (held-follows ps a.first a.text.now a.place old (λ z. c.if-next-eq0.false (same ∙ z)) ∙ ap (follows ps 0) (sym same)) old))
+                (cut_step ps a.given.now.first a.given.now.text.now a.place l.held l.q l.kept next l.held l.invariant.0 inside e c.if-next-eq0.false
+                (held-follows ps a.given.now.first a.given.now.text.now a.place old (λ z. c.if-next-eq0.false (same ∙ z)) ∙ ap (follows ps 0) (sym same)) old))
                 c.if-next-kept.branch-raw,
           ),
     )
@@ -106,10 +86,10 @@ loop-q-preserved c =
 -- The walk has come to its end: the text's, or a byte that keeps no position.
 ended-here : (left : Lts-Left-loop-q)
     → let l = left.loop-q in
-    let s = left.before.before.before in
+    let s = left.before.before.before.before in
     (left.loop-q-test.end ≤ l.q + 1024) × (length left.loop-q-test.block ≡ 1024)
     × ((ps : List Position) (k : ℕ) → Held s ps k
-    → HeldBefore ps s.args.text.now left.loop-q-test.end left.loop-q-test.block × Stops ps s.args.text.now l.held l.q)
+    → HeldBefore ps s.args.given.now.text.now left.loop-q-test.end left.loop-q-test.block × Stops ps s.args.given.now.text.now l.held l.q)
 ended-here left =
     let head = left.before in
     let l = head.loop-q in
@@ -127,12 +107,6 @@ ended-here left =
     ))
     left.loop-q-test.branch-raw
 
-pub overflow_sub-q : goal.overflow_sub-q
-overflow_sub-q c = omega arith
-
-pub found_match-found-requires : goal.found_match-found-requires
-found_match-found-requires c = tt
-
 pub returns : goal.returns
 returns c =
     let left = c.before.before in
@@ -147,7 +121,7 @@ returns c =
       stopped.1,
       λ ps k w.
           let x = stopped.2 ps k w in
-          let found = cut_found ps a.last a.tables.now w.ready.prepared a.first a.text.now a.place l.q l.held l.kept x.1
+          let found = cut_found ps a.given.now.last a.given.now.tables.now w.ready.prepared a.given.now.first a.given.now.text.now a.place l.q l.held l.kept x.1
           (l.invariant.4 ps k w).1 in (
             c.found_match-found.ensures ∙ found.0,
             found.1 ∙ ap (λ (y : Match). a.place + match_bytes y) (sym c.found_match-found.ensures),

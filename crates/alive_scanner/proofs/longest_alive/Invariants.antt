@@ -12,7 +12,7 @@ abbrev pub invariant-loop-q : goal.invariant-loop-q
 invariant-loop-q l =
     (l.place ≤ l.q) × (l.q ≤ length l.text) × (l.end ≤ l.q + 1024) × (length l.block ≡ 1024)
     × ((ps : List Position) (k : ℕ) → AliveHeld ps l.last l.tables l.unions l.text k l.marks l.place l.held_end l.initial.block
-    → HeldBefore ps l.text l.end l.block × CutTo ps l.first l.text l.place l.q l.held l.kept)
+    → HeldBefore ps l.text l.end l.block × CutTo ps l.given.first l.text l.place l.q l.held l.kept)
 
 abbrev pub decreases-loop-q : goal.decreases-loop-q
 decreases-loop-q l = length l.text - l.q

@@ -4,42 +4,19 @@ use lib.ListN.{length, length-set}
 use Rattle.alive_scanner.proofs.Passes.{marked_start, marked_step}
 use Rattle.alive_scanner.proofs.mark_blocks.Goals as goal
 
-pub overflow_add-k : goal.overflow_add-k
-overflow_add-k c = omega arith
-
 pub loop-k-init : goal.loop-k-init
 loop-k-init c =
     let a = c.args in
     let z = c.requires in
-    let far : length a.text.now ≤ (length a.text.now + 1023) / 1024 * 1024 = omega arith in (
+    let far : length a.given.now.text.now ≤ (length a.given.now.text.now + 1023) / 1024 * 1024 = omega arith in (
       omega (arith, z.0),
       omega arith,
       far,
       omega arith,
       z.1,
       z.2,
-      λ ps w. marked_start ps a.text.now a.marks.now ((length a.text.now + 1023) / 1024) far,
+      λ ps w. marked_start ps a.given.now.text.now a.marks.now ((length a.given.now.text.now + 1023) / 1024) far,
     )
-
-pub overflow_sub-k : goal.overflow_sub-k
-overflow_sub-k c = omega arith
-
-pub offset_bounds-marks-k : goal.offset_bounds-marks-k
-offset_bounds-marks-k c = omega arith
-
-pub bounds-marks-k : goal.bounds-marks-k
-bounds-marks-k c = omega arith
-
-pub overflow_mul-start : goal.overflow_mul-start
-overflow_mul-start c = omega arith
-
-pub fill_block-set-requires : goal.fill_block-set-requires
-fill_block-set-requires c =
-    let l = c.loop-k in
-    (omega arith, l.invariant.1, omega arith, l.invariant.5)
-
-pub loop-k-smaller : goal.loop-k-smaller
-loop-k-smaller c = omega arith
 
 pub loop-k-preserved : goal.loop-k-preserved
 loop-k-preserved c =
@@ -53,7 +30,7 @@ loop-k-preserved c =
       c.fill_block-set.ensures.0,
       λ ps w.
           let old = l.invariant.6 ps w in
-          marked_step ps a.text.now l.marks l.k (l.k - 1) l.end l.set _ (omega arith) (omega arith)
+          marked_step ps a.given.now.text.now l.marks l.k (l.k - 1) l.end l.set _ (omega arith) (omega arith)
           (c.fill_block-set.ensures.1 ps w old.at_end).0 old,
     )
 

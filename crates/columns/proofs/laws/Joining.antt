@@ -1,8 +1,7 @@
 -- A set of nodes that is filled in rising order: node i joins a set of lower nodes, or does not.
-use Rattle.std.specs.Prelude.{◌≡◌, refl, Bool, true, false, cond, ◌||◌, ℕ, suc, ◌^◌, ◌<◌}
+use Rattle.std.specs.Prelude.{◌≡◌, refl, Bool, true, false, ◌||◌, ℕ, suc, ◌^◌, ◌<◌}
 use Rattle.std.proofs.Common.{ap, ap₂, ◌∙◌, arith, pow-suc, eq-eqb, ne_eqb}
 use Rattle.std.proofs.Math.Bool.{or-false}
-use Rattle.std.specs.Int.Bits.{bit_or}
 use Rattle.std.proofs.lemmas.Nat.{or_lt}
 use Rattle.basics.specs.Bits.{bit}
 use Rattle.basics.proofs.laws.BitLaws.{bit-or, bit_one, bit-zero, bit_high}

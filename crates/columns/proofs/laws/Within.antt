@@ -1,6 +1,6 @@
 -- Columns of the links of a sheet's expression: every node's token and links are in range, so they need no test before they are used.
 use Rattle.std.proofs.Common.{sym, subst, arith}
-use Rattle.std.specs.Prelude.{ℕ, ◌≤◌, ◌<◌}
+use Rattle.std.specs.Prelude.{ℕ, ◌<◌}
 use Rattle.sheet.specs.Limits.{most_tokens}
 use Rattle.sheet.specs.Expression.{Expression, size}
 use Rattle.columns.specs.declared.NodeColumns.{NodeColumns}

@@ -11,9 +11,8 @@ use native.Mathlib.Omega.{arith}
 use Rattle.std.proofs.Math.ListN.{length, drop}
 use Rattle.std.proofs.Math.Seq.{take-append_seam}
 use Rattle.basics.specs.Lists.{All}
-use Rattle.number.specs.Number.{encode, decode_fewest}
-use Rattle.number.proofs.laws.Laws.{encode_there, fewest_within, fewest_there, fewest_bytes}
-use Rattle.number.specs.declared.Number.TheVariants.{Read, Refused}
+use Rattle.number.specs.Number.{encode, decode_fewest, read}
+use Rattle.number.proofs.laws.Laws.{encode_there, fewest_within, fewest_there, fewest_bytes, refused_read, read_same}
 use Rattle.sheet.specs.Spelling.{StandsAt, spell}
 use Rattle.sheet.specs.Field.{Reading, stop}
 use Rattle.sheet.proofs.laws.FieldLaws.{Bytes, Stands, stands_none, stands_append, stands_first, stands_rest}
@@ -40,8 +39,8 @@ module _ {bytes : List ℕ} {at n next : ℕ} (s : FewestAt bytes at n next) whe
       let e = encode_there n in
       let i = s.inside in (omega arith, omega arith)
 
-  fewest_found : decode_fewest bytes at ≡ Read n (next - at) true
-  fewest_found = subst (λ (k : ℕ). decode_fewest bytes at ≡ Read n k true) (sym fewest_size.0)
+  fewest_found : decode_fewest bytes at ≡ read n (next - at) true
+  fewest_found = subst (λ (k : ℕ). decode_fewest bytes at ≡ read n k true) (sym fewest_size.0)
       (fewest_there bytes at n s.written.0 (subst (λ (k : ℕ). take k (drop at bytes) ≡ encode n) fewest_size.0 s.written.1))
 
   -- Its bytes are at the front of what stands there.
@@ -70,19 +69,17 @@ stands_fewest {bytes} {at} {n} {next} b s =
 
 pub fewest_once : (bytes : List ℕ) → Once (FewestAt bytes)
 fewest_once bytes at m n x y s t =
-    let same : Read m (x - at) true ≡ Read n (y - at) true = sym (fewest_found s) ∙ fewest_found t in
-    let number : m ≡ n = cc in
-    let used : x - at ≡ y - at = cc in
-    (number, omega (arith, used, (fewest_size s).1, (fewest_size t).1))
+    let same = read_same (sym (fewest_found s) ∙ fewest_found t) in
+    (same.0, omega (arith, same.1, (fewest_size s).1, (fewest_size t).1))
 
 pub fewest_finds : (bytes : List ℕ) → Bytes bytes → Finds (FewestAt bytes) (length bytes) (decode_fewest bytes)
 fewest_finds bytes b = record {
-  none_there = λ at e v mid s. let z : Refused ≡ Read v (mid - at) true = sym e ∙ fewest_found s in let z : ◌≡◌ {A = ℕ} 0 1 = cc in omega arith;
-  there = λ at v used fewest e.
+  none_there = λ at e v mid s. refused_read (sym e ∙ fewest_found s);
+  there = λ at n e.
       let w = fewest_within bytes at e in
-      let width : at + used - at ≡ used = omega arith in
-      record { inside = w.inside; written = (w.below, subst (λ (k : ℕ). take k (drop at bytes) ≡ encode v) (sym width) (fewest_bytes bytes at e b)) };
-  inside = λ at v used fewest e. (fewest_within bytes at e).inside;
+      let width : at + n.used - at ≡ n.used = omega arith in
+      record { inside = w.inside; written = (w.below, subst (λ (k : ℕ). take k (drop at bytes) ≡ encode n.value) (sym width) (fewest_bytes bytes at e b)) };
+  inside = λ at n e. (fewest_within bytes at e).inside;
 }
 
 -- ---- parts

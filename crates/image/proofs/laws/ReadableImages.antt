@@ -1,17 +1,17 @@
 -- Which bytes are readable: those that the reader of images accepts, which are those of an image in range; where it stops is the first
 -- offence. Bytes have one answer. Which images are in range is not said here (ImageRanges).
-use Rattle.std.specs.Prelude.{◌≡◌, Bool, List, [], ◌∷◌, ◌++◌, ◌↔◌, length, get_or, drop}
+use Rattle.std.specs.Prelude.{◌≡◌, Bool, Option, List, [], ◌∷◌, ◌++◌, ◌↔◌, length, get_or, drop, Some, None}
 use Rattle.std.proofs.Math.Path.{refl, ap}
 use Rattle.std.proofs.Common.{sym, subst, ◌∙◌, ⊎_elim, arith, get_or-append-add}
 use Rattle.std.proofs.Math.Bool.{true, false, cond}
-use Rattle.std.proofs.Math.Option.{Option, none, some}
+use Rattle.std.proofs.Math.Option.{none, some}
+use Rattle.std.proofs.Math.Option as maybe
 use Prim.Native.Nat.{ℕ, zero, suc, ◌+◌, ◌-◌, ◌≤◌, ◌<◌}
 use Rattle.std.proofs.Math.ListN.{get_or-append}
 use Rattle.basics.proofs.laws.Order.{lt-or-le}
 use Rattle.number.specs.Number.{InGroups, encode, decode_fewest}
 use Rattle.number.proofs.laws.Laws.{encode_bytes, padded_apart}
 use Rattle.number.specs.declared.Number.{Number}
-use Rattle.number.specs.declared.Number.TheVariants.{Read, Refused}
 use Rattle.sheet.specs.Spelling.{spell}
 use Rattle.sheet.specs.Field.{Reading, stop, got, and_then, between, field_of, read_field, read_many}
 use Rattle.sheet.proofs.laws.FieldLaws.{Bytes, Stands, stands_whole, Outcome, refused, accepted, outcome_got, outcome_stop}
@@ -51,9 +51,9 @@ module _ (bytes : List ℕ) where
       by_test true v at end = refl
       by_test false v at end = refl
 
-      by_number : (at : ℕ) (n : Number) → asked 13 (λ v. cond (allowed v) none (some 13)) at n ≡ field_of 13 13 allowed at n
-      by_number at Refused = refl
-      by_number at (Read v used fewest) = by_test (allowed v) v at (at + used)
+      by_number : (at : ℕ) (n : Option Number) → asked 13 (λ v. cond (allowed v) none (some 13)) at n ≡ field_of 13 13 allowed at n
+      by_number at None = refl
+      by_number at (Some n) = by_test (allowed n.value) n.value at (at + n.used)
 
   flag_turn : InTurn (λ X. flag_field) (read_flag bytes)
   unfolding flag_field read_flag
@@ -217,7 +217,7 @@ read_back i g = readable_read (image_bytes i) (image_are_bytes i) i (image_reada
 -- The numbers from a place on are allowed in a format, up to another place, where the rest of it is due.
 pub data Reaches (bytes : List ℕ) {A : Type 0} : Format A → ℕ → Format A → ℕ → Type 0 where
   there : {f : Format A} {at : ℕ} → Reaches bytes f at f at
-  past : {ask : ℕ → Option ℕ} {next : ℕ → ℕ → Format A} {rest : Format A} {at v mid end : ℕ} → FewestAt bytes at v mid → ask v ≡ none
+  past : {ask : ℕ → maybe.Option ℕ} {next : ℕ → ℕ → Format A} {rest : Format A} {at v mid end : ℕ} → FewestAt bytes at v mid → ask v ≡ none
       → Reaches bytes (next v at) mid rest end → Reaches bytes (number ask next) at rest end
 
 reaches_answer : {bytes : List ℕ} {A : Type 0} {f rest : Format A} {at end : ℕ} {x : Reading A} → Reaches bytes f at rest end → Answered bytes rest end x
@@ -226,7 +226,7 @@ reaches_answer there a = a
 reaches_answer (past s e r) a = onward s e (reaches_answer r a)
 
 -- "still 13 in an image": where the numbers before it are allowed, a padded number offends, at its first byte, whatever its value.
-pub padded_offends : {bytes : List ℕ} {at : ℕ} {ask : ℕ → Option ℕ} {next : ℕ → ℕ → Format Image} → Reaches bytes (image_format done) 0 (number ask next) at
+pub padded_offends : {bytes : List ℕ} {at : ℕ} {ask : ℕ → maybe.Option ℕ} {next : ℕ → ℕ → Format Image} → Reaches bytes (image_format done) 0 (number ask next) at
     → {n : ℕ} {padded : List ℕ} → InGroups n padded → length (encode n) < length padded → (more : List ℕ) → drop at bytes ≡ padded ++ more
     → FirstOffence bytes at
 padded_offends {bytes} {at} r g l more e =

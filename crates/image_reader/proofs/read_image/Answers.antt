@@ -1,153 +1,167 @@
--- `read_image` meets its contract: its steps are the image's reading, and where all were taken, so was each before.
-use borrow.Author.Rules.{rules}
-use borrow.Author.Tests.{not-true, not-false}
-use mathlib.Core.Path.{◌≡◌, refl, sym}
-use mathlib.Core.Bool.{true}
-use Prim.Native.Nat.{◌≤◌}
-use Rattle.image.specs.ImageReading.{image_end, read_image}
-use Rattle.image_reader.specs.Answers.{after}
+-- `read_image` meets its contract: its steps are the image's reading.
+use Rattle.std.proofs.Common.{rules, ◌≡◌, Err}
+use native.Mathlib.Omega.{arith}
+use borrow.Author.Tests.{eq-eqb, ne_eqb}
+use mathlib.Core.Path.{refl, sym, ap, ◌∙◌}
+use mathlib.Core.Bool.{Bool}
+use mathlib.Core.List.{List}
+use Rattle.sheet.specs.Field.{got}
+use Rattle.image.specs.Image.{Image}
 use Rattle.image_reader.specs.Tables.{held_flags}
+use Rattle.image_reader.proofs.Fields.{field_range, field-set}
 use Rattle.image_reader.proofs.Flags.{length-listed}
+use Rattle.image_reader.proofs.Parts.{end_is, image_is}
 use Rattle.image_reader.proofs.Positions.{positions-swept}
-use Rattle.image_reader.proofs.Steps.{number-before, number-least, some-taken, taken-before}
-use Rattle.image_reader.proofs.Whole.{image_readable, image_refused, image-steps, image_stops, left_over, image_reads, rows-swept}
+use Rattle.image_reader.proofs.Whole.{image_readable, image_refused, rows-swept}
 use Rattle.image_reader.proofs.read_image.Goals as goal
-use Rattle.image_reader.proofs.read_image.Lts as lts
-use Rattle.image_reader.proofs.read_image.Tie as tie
-use Rattle.image_reader.proofs.read_image.Reads as reads
 
-abbrev Lts-After-read_flags-skips : Type 0
-Lts-After-read_flags-skips = lts.After-read_flags tie.the-claims reads.Pre reads.Post
+pub returns-in_err-version : goal.returns-in_err-version
+returns-in_err-version c =
+    let up : c.from_residual.result ≡ Err c.in_err-version.field-0.0 = search rules in
+    rw up (image_refused c.requires.0 c.requires.2.size (rw (image_is, ← c.in_err-version.ensures) refl))
 
-abbrev Lts-After-read_next-nonterminals : Type 0
-Lts-After-read_next-nonterminals = lts.After-read_next5 tie.the-claims reads.Pre reads.Post
+pub returns-in_err-rules : goal.returns-in_err-rules
+returns-in_err-rules c =
+    let up : c.from_residual-in_err-rules.result ≡ Err c.in_err-rules.field-0.0 = search rules in
+    rw up (image_refused c.requires.0 c.requires.2.size (rw (image_is, ← c.in_ok-version.ensures, ← c.in_err-rules.ensures) refl))
 
-abbrev Lts-After-read_rows-rows : Type 0
-Lts-After-read_rows-rows = lts.After-read_rows tie.the-claims reads.Pre reads.Post
+pub read_flags-requires : goal.read_flags-requires
+read_flags-requires c = omega (arith, field_range _ _ _ _ (sym c.in_ok-rules.ensures))
 
-pub read_next-version-requires : goal.read_next-version-requires
-read_next-version-requires c = search rules
+pub returns-in_err-skips : goal.returns-in_err-skips
+returns-in_err-skips c =
+    let up : c.from_residual-in_err-skips.result ≡ Err c.in_err-skips.field-0.0 = search rules in
+    rw up (image_refused c.requires.0 c.requires.2.size
+    (rw (image_is, ← c.in_ok-version.ensures, ← c.in_ok-rules.ensures, c.in_err-skips.ensures) refl))
 
-pub read_next-rules-requires : goal.read_next-rules-requires
-read_next-rules-requires c = search rules
+pub returns-in_err-count : goal.returns-in_err-count
+returns-in_err-count c =
+    let up : c.from_residual-in_err-count.result ≡ Err c.in_err-count.field-0.0 = search rules in
+    rw up (image_refused c.requires.0 c.requires.2.size
+    (rw (image_is, ← c.in_ok-version.ensures, ← c.in_ok-rules.ensures, c.in_ok-skips.ensures.reads, ← c.in_err-count.ensures) refl))
 
-pub read_flags-skips-requires : goal.read_flags-skips-requires
-read_flags-skips-requires c = search rules
+pub read_positions-requires : goal.read_positions-requires
+read_positions-requires c =
+    let r = field_range _ _ _ _ (sym c.in_ok-rules.ensures) in
+    (r.0, r.1, (field_range _ _ _ _ (sym c.in_ok-count.ensures)).1, c.requires.0, c.requires.1)
 
-pub read_next-count-requires : goal.read_next-count-requires
-read_next-count-requires c = search rules
-
--- Where the flags were taken, there is a rule.
-some_rules : (c : Lts-After-read_flags-skips) → c.read_flags-skips.result.ok ≡ true → 1 ≤ c.read_next-rules.result.value
-some_rules c h = number-least c.read_next-rules.ensures (taken-before _ _ _ _ c.read_flags-skips.ensures.0 h)
-
-pub read_positions-positions-requires : goal.read_positions-positions-requires
-read_positions-positions-requires c =
-    let count = c.read_next-count.ensures in
-    let flags = c.before.before.before in
-    let p = flags.requires in
-    (λ h. some_rules flags (number-before count (some-taken count h)), flags.read_next-rules.ensures.at_most, count.at_most, p.0, p.1)
+pub returns-in_err-last : goal.returns-in_err-last
+returns-in_err-last c =
+    let up : c.from_residual-in_err-last.result ≡ Err c.in_err-last.field-0.0 = search rules in
+    let e = c.in_err-last.ensures in
+    rw up (image_refused e.0 c.requires.2.size
+    (rw (image_is, ← c.in_ok-version.ensures, ← c.in_ok-rules.ensures, c.in_ok-skips.ensures.reads, ← c.in_ok-count.ensures, e.1) refl))
 
 pub all_below-requires : goal.all_below-requires
-all_below-requires c = search rules
+all_below-requires c = (field_range _ _ _ _ (sym c.in_ok-count.ensures)).1
 
-pub read_next-first-requires : goal.read_next-first-requires
-read_next-first-requires c = search rules
+pub returns-in_err-first : goal.returns-in_err-first
+returns-in_err-first c =
+    let up : c.from_residual-in_err-first.result ≡ Err c.in_err-first.field-0.0 = search rules in
+    let e = c.in_ok-last.ensures in
+    let f = sym (field-set _ _ _ c.all_below.ensures) ∙ sym c.in_err-first.ensures in
+    rw up (image_refused e.0 c.requires.2.size
+    (rw (image_is, ← c.in_ok-version.ensures, ← c.in_ok-rules.ensures, c.in_ok-skips.ensures.reads, ← c.in_ok-count.ensures, e.1.reads, f) refl))
 
-pub read_next-nonterminals-requires : goal.read_next-nonterminals-requires
-read_next-nonterminals-requires c = search rules
+pub returns-in_err-nonterminals : goal.returns-in_err-nonterminals
+returns-in_err-nonterminals c =
+    let up : c.from_residual-in_err-nonterminals.result ≡ Err c.in_err-nonterminals.field-0.0 = search rules in
+    let e = c.in_ok-last.ensures in
+    let f = sym (field-set _ _ _ c.all_below.ensures) ∙ sym c.in_ok-first.ensures in
+    rw up (image_refused e.0 c.requires.2.size
+    (rw (
+      image_is,
+      ← c.in_ok-version.ensures,
+      ← c.in_ok-rules.ensures,
+      c.in_ok-skips.ensures.reads,
+      ← c.in_ok-count.ensures,
+      e.1.reads,
+      f,
+      ← c.in_err-nonterminals.ensures,
+    ) refl))
 
--- Where the number of nonterminals was taken, so were the positions and the flags.
-positions-taken : (c : Lts-After-read_next-nonterminals) → c.read_next-nonterminals.result.ok ≡ true
-    → c.read_positions-positions.result.end.ok ≡ true
-positions-taken c h = number-before c.read_next-first.ensures (number-before c.read_next-nonterminals.ensures h)
+pub read_rows-requires : goal.read_rows-requires
+read_rows-requires c =
+    let r = field_range _ _ _ _ (sym c.in_ok-rules.ensures) in
+    let n = field_range _ _ _ _ (sym c.in_ok-nonterminals.ensures) in
+    (record { rules = r.0; most_rules = r.1; nonterminals = n.0; most_nonterminals = n.1 }, c.in_ok-last.ensures.0, c.requires.2)
 
-flags-taken : (c : Lts-After-read_next-nonterminals) → c.read_next-nonterminals.result.ok ≡ true
-    → c.before.before.before.before.before.before.before.read_flags-skips.result.ok ≡ true
-flags-taken c h =
-    let positions = c.before.before.before.before in
-    number-before positions.read_next-count.ensures
-    (taken-before _ _ _ _ positions.read_positions-positions.ensures.1.reads (positions-taken c h))
+pub returns-in_err-empty : goal.returns-in_err-empty
+returns-in_err-empty c =
+    let up : c.from_residual-in_err-empty.result ≡ Err c.in_err-empty.field-0.0 = search rules in
+    let flags = c.in_ok-skips.ensures.reads ∙ ap (λ (l : List Bool). got l c.in_ok-skips.skips.at) c.in_ok-skips.ensures.holds.held in
+    let f = sym (field-set _ _ _ c.all_below.ensures) ∙ sym c.in_ok-first.ensures in
+    let e = c.in_err-empty.ensures in
+    rw up (image_refused e.0 e.2
+    (rw (
+      image_is,
+      ← c.in_ok-version.ensures,
+      ← c.in_ok-rules.ensures,
+      flags,
+      ← c.in_ok-count.ensures,
+      c.in_ok-last.ensures.1.reads,
+      f,
+      ← c.in_ok-nonterminals.ensures,
+      e.3,
+    ) refl))
 
-pub read_rows-rows-requires : goal.read_rows-rows-requires
-read_rows-rows-requires c =
-    let n = c.before.before.before in
-    let e = n.read_next-nonterminals.ensures in
-    let positions = n.before.before.before.before in
-    let flags = positions.before.before.before in
-    let p = flags.requires in (
-      λ h. record {
-        rules = some_rules flags (flags-taken n (some-taken e h));
-        most_rules = flags.read_next-rules.ensures.at_most;
-        nonterminals = h;
-        most_nonterminals = e.at_most;
-      },
-      e.at_most,
-      positions.read_positions-positions.ensures.0,
-      p.2,
-    )
-
--- The steps up to the end of the rows are the reading up to there.
-steps : (c : Lts-After-read_rows-rows)
-    → let n = c.before.before.before in
-    let positions = n.before.before.before.before in
-    let flags = positions.before.before.before in
-    let bytes = flags.args.bytes.now in
-    read_image bytes
-    ≡ after c.read_rows-rows.result (image_end bytes (record {
-      skips = held_flags flags.read_flags-skips.result.value flags.read_next-rules.result.value;
-      positions = positions.read_positions-positions.ensures.1.what;
-      first = n.read_next-first.result.value;
-      rows = c.read_rows-rows.ensures.3.what;
-    }))
-steps c =
-    let n = c.before.before.before in
-    let positions = n.before.before.before.before in
-    let count = positions.before.before in
-    let flags = count.before in
-    let rules = flags.before in
-    image-steps _ _ _ _ _ _ _ _ _ _ _ _ n.all_below.ensures rules.read_next-version.ensures rules.read_next-rules.ensures
-    flags.read_flags-skips.ensures.0 count.read_next-count.ensures positions.read_positions-positions.ensures.1.reads n.read_next-first.ensures
-    n.read_next-nonterminals.ensures c.read_rows-rows.ensures.3.reads
-
-pub refused-requires : goal.refused-requires
-refused-requires c = search rules
-
-pub returns-then-not-rows : goal.returns-then-not-rows
-returns-then-not-rows c =
-    let rows = c.before.before.before.before in
-    image_refused rows.read_rows-rows.ensures.0 rows.read_rows-rows.ensures.2 c.refused.ensures (image_stops _ _ _ (steps rows) (not-true _ c.if-not-rows.true))
-
-pub refused-requires-then-rows-bytes : goal.refused-requires-then-rows-bytes
-refused-requires-then-rows-bytes c = search rules
-
-pub returns-then-rows-bytes : goal.returns-then-rows-bytes
-returns-then-rows-bytes c =
-    let rows = c.before.before.before.before.before.before in
-    image_refused rows.read_rows-rows.ensures.0 rows.read_rows-rows.ensures.2 c.refused-then-rows-bytes.ensures (left_over _ _ _ (steps rows) (not-false _ c.if-not-rows.false) c.if-rows-bytes.true)
-
-pub sweep-requires : goal.sweep-requires
-sweep-requires c = search rules
+pub returns-then-empty-bytes : goal.returns-then-empty-bytes
+returns-then-empty-bytes c =
+    let flags = c.in_ok-skips.ensures.reads ∙ ap (λ (l : List Bool). got l c.in_ok-skips.skips.at) c.in_ok-skips.ensures.holds.held in
+    let f = sym (field-set _ _ _ c.all_below.ensures) ∙ sym c.in_ok-first.ensures in
+    let e = c.in_ok-empty.ensures in
+    image_refused e.0 e.2
+    (rw (
+      image_is,
+      ← c.in_ok-version.ensures,
+      ← c.in_ok-rules.ensures,
+      flags,
+      ← c.in_ok-count.ensures,
+      c.in_ok-last.ensures.1.reads,
+      f,
+      ← c.in_ok-nonterminals.ensures,
+      e.3.reads,
+      end_is,
+      ne_eqb _ _ c.if-empty-bytes.true,
+    ) refl)
 
 pub returns : goal.returns
 returns c =
-    let rows = c.before.before.before.before.before.before.before in
-    let n = rows.before.before.before in
-    let positions = n.before.before.before.before in
-    let count = positions.read_next-count in
-    let flags = positions.before.before.before in
-    let r = rows.read_rows-rows.ensures in
-    let h = not-false _ c.if-not-rows.false in
-    let k = taken-before _ _ _ _ r.3.reads h in
-    let held = positions.read_positions-positions.ensures.1.holds (positions-taken n k) in
-    image_readable c.sweep.ensures.size r.2 refl _ (image_reads _ _ _ (steps rows) h c.if-rows-bytes.false) (record {
-      rules = sym (length-listed _ 0 flags.read_next-rules.result.value);
-      most_rules = flags.read_next-rules.ensures.at_most;
-      skips = flags.read_flags-skips.ensures.1 (flags-taken n k);
-      positions = positions-swept _ _ _ _ _ _ _ held count.ensures.at_most r.1 c.sweep.ensures;
+    let flags = c.in_ok-skips.ensures.reads ∙ ap (λ (l : List Bool). got l c.in_ok-skips.skips.at) c.in_ok-skips.ensures.holds.held in
+    let f = sym (field-set _ _ _ c.all_below.ensures) ∙ sym c.in_ok-first.ensures in
+    let e = c.in_ok-empty.ensures in
+    let held = c.in_ok-last.ensures.1.holds in
+    let r = field_range _ _ _ _ (sym c.in_ok-rules.ensures) in
+    let n = field_range _ _ _ _ (sym c.in_ok-nonterminals.ensures) in
+    let count = field_range _ _ _ _ (sym c.in_ok-count.ensures) in
+    let image : Image = record {
+      skips = held_flags c.in_ok-skips.skips.value c.in_ok-rules.rules.value;
+      positions = c.in_ok-last.ensures.1.what;
+      first = c.in_ok-first.first.value;
+      rows = e.3.what;
+    } in
+    image_readable c.sweep.ensures.size e.2 image
+    (rw (
+      image_is,
+      ← c.in_ok-version.ensures,
+      ← c.in_ok-rules.ensures,
+      flags,
+      ← c.in_ok-count.ensures,
+      c.in_ok-last.ensures.1.reads,
+      f,
+      ← c.in_ok-nonterminals.ensures,
+      e.3.reads,
+      end_is,
+      eq-eqb _ _ c.if-empty-bytes.false,
+    ) (ap (got image) c.if-empty-bytes.false))
+    (record {
+      rules = sym (length-listed _ 0 c.in_ok-rules.rules.value);
+      most_rules = r.1;
+      skips = rw (← c.in_ok-skips.ensures.holds.held) c.in_ok-skips.ensures.holds.bits;
+      positions = positions-swept _ _ _ _ _ _ _ held count.1 e.1 c.sweep.ensures;
       positions_below = held.below;
       first = refl;
-      some_nonterminals = number-least n.read_next-nonterminals.ensures k;
-      most_nonterminals = n.read_next-nonterminals.ensures.at_most;
-      rows = rows-swept _ _ _ _ _ _ _ c.sweep.ensures (r.3.holds h);
+      some_nonterminals = n.0;
+      most_nonterminals = n.1;
+      rows = rows-swept _ _ _ _ _ _ _ c.sweep.ensures e.3.holds;
     })

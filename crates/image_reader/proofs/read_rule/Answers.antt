@@ -1,45 +1,21 @@
 -- `read_rule` meets its contract.
-use borrow.Author.Rules.{rules}
-use borrow.Author.Tests.{not-true, not-false}
+use Rattle.std.proofs.Common.{rules, ◌≡◌, Err}
 use native.Mathlib.Omega.{arith}
 use mathlib.Core.Path.{sym, ◌∙◌}
-use Prim.Native.Nat.{◌<◌}
+use Rattle.image_reader.proofs.Fields.{field_range}
 use Rattle.image_reader.proofs.Productions.{rule_stops, rule_skips, rule_passes}
 use Rattle.image_reader.proofs.read_rule.Goals as goal
-use Rattle.image_reader.proofs.read_rule.Lts as lts
-use Rattle.image_reader.proofs.read_rule.Tie as tie
-use Rattle.image_reader.proofs.read_rule.Reads as reads
 
-abbrev Lts-After-read_next-rule : Type 0
-Lts-After-read_next-rule = lts.After-read_next tie.the-claims reads.Pre reads.Post
-
-pub overflow_sub-bounds : goal.overflow_sub-bounds
-overflow_sub-bounds c = search rules
-
-pub read_next-rule-requires : goal.read_next-rule-requires
-read_next-rule-requires c = search rules
-
--- A rule is below 32.
-small : (c : Lts-After-read_next-rule) → c.read_next-rule.result.value < 32
-small c = omega (arith, c.read_next-rule.ensures.at_most, c.requires.most_rules)
+pub returns-in_err-rule : goal.returns-in_err-rule
+returns-in_err-rule c =
+    let up : c.from_residual.result ≡ Err c.in_err-rule.field-0.0 = search rules in
+    rw up (sym (rule_stops _ _ _ _ _ (sym c.in_err-rule.ensures)))
 
 pub has-requires : goal.has-requires
-has-requires c = omega (arith, small c.before.before.before)
-
-pub returns-then-not-rule : goal.returns-then-not-rule
-returns-then-not-rule c =
-    let read = c.before.before.before in
-    (small read, rule_stops _ _ _ _ _ _ read.read_next-rule.ensures (not-true _ c.if-not-rule.true))
+has-requires c = omega (arith, field_range _ _ _ _ (sym c.in_ok-rule.ensures))
 
 pub returns-then-has : goal.returns-then-has
-returns-then-has c =
-    let read = c.before.before.before.before.before in (
-      omega arith,
-      rule_skips _ _ _ _ _ _ read.read_next-rule.ensures (not-false _ c.if-not-rule.false)
-          (sym c.has.ensures ∙ c.if-has.true),
-    )
+returns-then-has c = sym (rule_skips _ _ _ _ _ (sym c.in_ok-rule.ensures) (sym c.has.ensures ∙ c.if-has.true))
 
 pub returns : goal.returns
-returns c =
-    let read = c.before.before.before.before.before in
-    (small read, rule_passes _ _ _ _ _ _ read.read_next-rule.ensures (sym c.has.ensures ∙ c.if-has.false))
+returns c = sym (rule_passes _ _ _ _ _ (sym c.in_ok-rule.ensures) (sym c.has.ensures ∙ c.if-has.false))

@@ -1,9 +1,6 @@
--- `read_tail` meets its contract. The loop's invariant: the members so far were read, and, if all were taken, stand one byte each from
--- the tail's place on.
-use mathlib.Core.Path.{◌≡◌}
-use mathlib.Core.Bool.{true}
+-- `read_tail` meets its contract. The loop's invariant: the members so far were read, and stand one byte each from the tail's place on.
 use mathlib.Core.List.{List}
-use Prim.Native.Nat.{ℕ, ◌-◌, ◌≤◌}
+use Prim.Native.Nat.{ℕ}
 use lib.Dec.{ltb}
 use Rattle.image.specs.ImageReading.{image_field}
 use Rattle.image_reader.specs.Tables.{MembersHeld}
@@ -12,9 +9,5 @@ use Rattle.image_reader.proofs.read_tail.Given as goal
 
 abbrev pub invariant-loop-i : goal.invariant-loop-i
 invariant-loop-i l =
-    (l.i ≤ l.count)
-    × ((ms : List ℕ) × Listing (image_field (λ v. ltb v l.nonterminals) l.bytes) l.initial.next l.count l.i l.next ms
-    × (l.next.ok ≡ true → MembersHeld l.bytes l.initial.next.at l.nonterminals l.i l.next.at ms))
-
-abbrev pub decreases-loop-i : goal.decreases-loop-i
-decreases-loop-i l = l.count - l.i
+    (ms : List ℕ) × Listing (image_field (λ v. ltb v l.nonterminals) l.bytes) l.fn.size.at l.fn.size.value l._i l.next ms
+    × MembersHeld l.bytes l.fn.size.at l.nonterminals l._i l.next ms

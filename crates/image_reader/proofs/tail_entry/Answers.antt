@@ -20,15 +20,6 @@ bounds-bytes-place c = omega (arith, c.requires.2.2.members.inside)
 pub returns-then-size-eq0 : goal.returns-then-size-eq0
 returns-then-size-eq0 c = λ n tail t few. entry_empty _ _ _ _ tail t c.if-size-eq0.true
 
-pub overflow_sub-result : goal.overflow_sub-result
-overflow_sub-result c = c.requires.0
-
-pub overflow_cast-result : goal.overflow_cast-result
-overflow_cast-result c = let p = c.requires in omega (arith, p.0, p.1)
-
-pub overflow_add-result : goal.overflow_add-result
-overflow_add-result c = let p = c.requires in omega (arith, p.0, p.1)
-
 pub returns-then-size-gt2 : goal.returns-then-size-gt2
 returns-then-size-gt2 c =
     let p = c.requires in

@@ -3,9 +3,6 @@ use borrow.Author.Rules.{rules}
 use Rattle.image_reader.specs.Answers.{with_flag}
 use Rattle.image_reader.proofs.with_flag.Goals as goal
 
-pub with-requires : goal.with-requires
-with-requires c = search rules
-
 pub returns : goal.returns
 unfolding with_flag
 returns c = search rules

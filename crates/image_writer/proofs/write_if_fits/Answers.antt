@@ -27,8 +27,8 @@ returns-then-image-needed c =
     (parts_of s c.args.checked h p.result (p.ensures s.rules h.places h.rules_held) _ (c.grammar_of-grammar.ensures s h)))
     c.if-image-needed.true
 
-pub write_image-written-requires : goal.write_image-written-requires
-write_image-written-requires c =
+pub write_image-requires : goal.write_image-requires
+write_image-requires c =
     let s = c.requires.0 in
     let h = c.requires.1 in
     let p = c.positions_of-positions in
@@ -53,4 +53,4 @@ returns c =
       | then-image-lt-ROOM_FOR_ANY+else-image-needed w ↦ fits (image_bytes (plain_image s)) c.args.image.now (w.image_width-needed.ensures s made) w.if-image-needed.false
       | else-image-lt-ROOM_FOR_ANY w ↦ room_for_any s c.args.checked h c.args.image.now w.if-image-lt-ROOM_FOR_ANY.false
     ] in
-    ends_written (image_bytes (plain_image s)) c.args.image.now room (c.write_image-written.ensures s made room)
+    ends_written (image_bytes (plain_image s)) c.args.image.now room (c.write_image.ensures s made room)

@@ -6,9 +6,6 @@ use Rattle.leading_sets.specs.Leading.{leading_and_following}
 use Rattle.leading_sets.proofs.laws.LeadingLaws.{both_lower}
 use Rattle.leading_sets.proofs.leading_of.Goals as goal
 
-pub union_of-requires : goal.union_of-requires
-union_of-requires c = (omega arith, omega arith)
-
 pub returns : goal.returns
 returns c = λ follow u.
     let set = c.args.set in

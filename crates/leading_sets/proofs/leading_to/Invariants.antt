@@ -1,6 +1,6 @@
 -- `leading_sets::leading_to` meets its contract. The loop's invariant: what was found, with those from position i on, is the whole.
 use mathlib.Core.Path.{◌≡◌}
-use Prim.Native.Nat.{◌-◌, ◌≤◌}
+use Prim.Native.Nat.{◌-◌}
 use lib.Bits.{bit_or}
 use lib.ListN.{drop}
 use Rattle.leading_sets.specs.Leading.{over_positions, leading_part, leading}
@@ -8,7 +8,4 @@ use Rattle.leading_sets.proofs.leading_to.Given as goal
 
 abbrev pub invariant-loop-i : goal.invariant-loop-i
 invariant-loop-i l =
-    (l.i ≤ 64) × (bit_or l.found (over_positions (leading_part (drop 256 l.tables) l.set) l.i (64 - l.i)) ≡ leading (drop 256 l.tables) l.set)
-
-abbrev pub decreases-loop-i : goal.decreases-loop-i
-decreases-loop-i l = 64 - l.i
+    bit_or l.found (over_positions (leading_part (drop 256 l.tables) l.set) l.i (64 - l.i)) ≡ leading (drop 256 l.tables) l.set

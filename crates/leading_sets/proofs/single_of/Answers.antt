@@ -1,5 +1,4 @@
 -- `leading_sets::single_of` meets its contract.
-use borrow.Author.Rules.{rules}
 use mathlib.Core.Path.{◌≡◌, sym, ap, ◌∙◌}
 use mathlib.Core.List.{List}
 use Prim.Native.Nat.{ℕ, ◌+◌, ◌-◌, ◌*◌, ◌%◌, ◌^◌, ◌≤◌, ◌<◌}
@@ -25,25 +24,10 @@ upper_single tables y l h =
     ∙ sym (both_upper (drop 256 tables) (2 ^ (y - 64)))
     ∙ ap (leading_and_following (drop 256 tables)) (sym (pow-add 2 (y - 64) 64) ∙ ap (λ (x : ℕ). 2 ^ x) e)
 
-pub overflow_shl-y : goal.overflow_shl-y
-overflow_shl-y c = search rules
-
-pub leading_to-requires : goal.leading_to-requires
-leading_to-requires c = search rules
-
 pub returns-then-y-lt64 : goal.returns-then-y-lt64
 returns-then-y-lt64 c =
     let a = c.args in
     c.leading_to.ensures ∙ lower_single (drop 256 a.tables.now) a.y c.if-y-lt64.true
-
-pub overflow_add-result : goal.overflow_add-result
-overflow_add-result c = search rules
-
-pub offset_bounds-tables-y : goal.offset_bounds-tables-y
-offset_bounds-tables-y c = search rules
-
-pub bounds-tables-y : goal.bounds-tables-y
-bounds-tables-y c = search rules
 
 pub returns : goal.returns
 returns c =

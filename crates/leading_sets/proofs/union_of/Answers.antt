@@ -54,9 +54,6 @@ module _ (set start : ℕ) (unions : List ℕ) (left at joined : ℕ) (j : Joine
 pub loop-left-init : goal.loop-left-init
 loop-left-init c = joined-none _ _ _ (omega arith) c.requires.0 c.requires.1
 
-pub overflow_add-joined : goal.overflow_add-joined
-overflow_add-joined c = omega (arith, place_few _ _ _ _ _ _ c.loop-left.invariant c.loop-left-test.true)
-
 pub offset_bounds-unions-at : goal.offset_bounds-unions-at
 offset_bounds-unions-at c = omega (arith, place_few _ _ _ _ _ _ c.loop-left.invariant c.loop-left-test.true)
 
@@ -65,9 +62,6 @@ bounds-unions-at c = place_few _ _ _ _ _ _ c.loop-left.invariant c.loop-left-tes
 
 pub overflow_add-at : goal.overflow_add-at
 overflow_add-at c = omega (arith, place_few _ _ _ _ _ _ c.loop-left.invariant c.loop-left-test.true)
-
-pub loop-left-smaller : goal.loop-left-smaller
-loop-left-smaller c = omega arith
 
 pub loop-left-preserved : goal.loop-left-preserved
 loop-left-preserved c = joined_more _ _ _ _ _ _ c.loop-left.invariant c.loop-left-test.true

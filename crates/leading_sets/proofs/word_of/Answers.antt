@@ -1,5 +1,4 @@
 -- `leading_sets::word_of` meets its contract.
-use borrow.Author.Rules.{rules}
 use mathlib.Core.Path.{◌≡◌, sym, ap, ap₂, ◌∙◌}
 use mathlib.Core.List.{List}
 use Prim.Native.Nat.{ℕ, ◌+◌, ◌-◌, ◌*◌, ◌/◌, ◌%◌, ◌^◌, ◌<◌}
@@ -37,31 +36,10 @@ returns c =
     λ follow s u. word_some follow a.unions.now a.singles.now a.k _ c.requires
     (lowest_of_byte a.k c.if-byte-eq0.false) s u
 
-pub overflow_cast-lowest : goal.overflow_cast-lowest
-overflow_cast-lowest c = omega (arith, (lowest_of_byte c.args.k c.if-byte-eq0.false).small)
-
-pub overflow_shl-result : goal.overflow_shl-result
-overflow_shl-result c = omega (arith, (lowest_of_byte c.args.k c.if-byte-eq0.false).small)
-
 pub overflow_sub-result : goal.overflow_sub-result
 overflow_sub-result c =
     let w = lowest_of_byte c.args.k c.if-byte-eq0.false in
     rw (shl_one (count_trailing_zeros 64 (c.args.k % 256)) (omega (arith, w.small))) (omega (arith, w.within))
-
-pub offset_bounds-unions-k : goal.offset_bounds-unions-k
-offset_bounds-unions-k c = search rules
-
-pub bounds-unions-k : goal.bounds-unions-k
-bounds-unions-k c = search rules
-
-pub overflow_mul-result : goal.overflow_mul-result
-overflow_mul-result c = search rules
-
-pub overflow_add-result : goal.overflow_add-result
-overflow_add-result c = omega (arith, (lowest_of_byte c.args.k c.if-byte-eq0.false).small)
-
-pub offset_bounds-singles-k : goal.offset_bounds-singles-k
-offset_bounds-singles-k c = omega (arith, (lowest_of_byte c.args.k c.if-byte-eq0.false).small)
 
 pub bounds-singles-k : goal.bounds-singles-k
 bounds-singles-k c = omega (arith, (lowest_of_byte c.args.k c.if-byte-eq0.false).small)

@@ -1,5 +1,7 @@
 -- `look` meets its contract: by a word, or by one walk where no word is left.
+use Rattle.std.specs.Prelude.{Ok}
 use mathlib.Core.Path.{sym, ap, subst, ◌∙◌}
+use mathlib.Core.Bool.{not}
 use mathlib.Core.List.{List}
 use Prim.Native.Nat.{ℕ, suc}
 use native.Mathlib.Omega.{arith}
@@ -11,16 +13,16 @@ use Rattle.alive_scanner.specs.Ahead.{Ahead}
 use Rattle.machine_loop.specs.Turning.{SeenBy, SeenAt}
 use Rattle.machine_loop.proofs.Looking.{seen_walk, seen_word}
 use Rattle.machine_loop.proofs.look.Goals as goal
-use Rattle.machine_loop.proofs.look.Goals.{then-not-by_rows+else-turn-matches, else-not-by_rows}
+use Rattle.machine_loop.proofs.look.Goals.{then-is_none+else-turn-matches, else-is_none}
 
 pub returns-then-turn-matches : goal.returns-then-turn-matches
 returns-then-turn-matches c =
     let a = c.args in
-    λ image productions i w to ahead.
+    λ i w to ahead.
     let d = drop-cons a.matches.now a.turn 0 c.if-turn-matches.true in
-    subst (λ (l : List ℕ). SeenAt i a.text.now a.place l c.word_seen.result) (sym d)
-    (seen_word i a.text.now a.place c.word_seen.result to (get_or a.matches.now a.turn 0) (drop (suc a.turn) a.matches.now)
-    (subst (Ahead i.positions i.first a.text.now to a.place) d ahead) c.word_seen.ensures.0 c.word_seen.ensures.1)
+    subst (λ (l : List ℕ). SeenAt i a.text.now a.place l (Ok c.word_seen.result)) (sym d)
+    (seen_word i a.text.now a.place to (get_or a.matches.now a.turn 0) (drop (suc a.turn) a.matches.now)
+    (subst (Ahead i.positions i.first a.text.now to a.place) d ahead) c.word_seen.result c.word_seen.ensures)
 
 pub slice_bounds-walk-start : goal.slice_bounds-walk-start
 slice_bounds-walk-start c = omega (arith, c.requires.0)
@@ -33,12 +35,12 @@ walk-end-requires c =
 pub returns : goal.returns
 returns c =
     let a = c.args in
-    λ image productions i w to ahead.
+    λ i w to ahead.
     let d = drop_of_length-le a.matches.now {i = a.turn}
-    (elim c.if-not-by_rows.branch [
-      | then-not-by_rows+else-turn-matches w ↦ w.if-turn-matches.false
-      | else-not-by_rows w ↦ c.requires.1 w.if-not-by_rows.false
+    (elim c.if-is_none.branch [
+      | then-is_none+else-turn-matches w ↦ w.if-turn-matches.false
+      | else-is_none w ↦ c.requires.1 (c.is_none.ensures ∙ ap not w.if-is_none.false)
     ]) in
-    let e = c.walk-end.ensures image productions i w ∙ ap (told i.positions i.first) (rest_from a.text.now a.place) in
+    let e = c.walk-end.ensures i w ∙ ap (told i.positions i.first) (rest_from a.text.now a.place) in
     subst (λ (l : List ℕ). SeenAt i a.text.now a.place l c.walk_seen.result) (sym d)
     (seen_walk i a.text.now a.place c.walk_seen.result (subst (SeenBy c.walk_seen.result) e c.walk_seen.ensures))

@@ -1,19 +1,20 @@
+use Rattle.std.specs.Prelude.{Result, Ok}
 use mathlib.Core.Path.{◌≡◌, refl, ap, subst, ◌∙◌}
 use mathlib.Core.List.{List}
 use Prim.Native.Nat.{ℕ, ◌+◌, ◌≤◌, ◌<◌}
 use native.Mathlib.Omega.{arith}
 use lib.ListN.{length}
 use Rattle.image.specs.Image.{Image}
-use Rattle.image_reader.specs.Decoded.{ImageTables, tables_of}
+use Rattle.image_reader.specs.Decoded.{ImageTables}
 use Rattle.machine.specs.Trace.{Ended}
 use Rattle.machine_turn.specs.Steps.{answer_held}
-use Rattle.machine_turn.specs.declared.Turn.{Turn}
-use Rattle.machine_turn.specs.declared.Turn.TheVariants.{Next}
+use Rattle.machine_turn.specs.declared.State.{State}
+use Rattle.machine_turn.specs.declared.RunAnswer.{RunAnswer}
 use Rattle.machine_turn.proofs.laws.StackLaws.{ready_entries}
 use Rattle.machine_turn.specs.laws.Going.{Going}
 use Rattle.machine_turn.proofs.laws.Going.{going_ends}
 use Rattle.alive_scanner.specs.Blocks.{AliveHeld}
-use Rattle.machine_loop.specs.Prepared.{WithTables}
+use Rattle.machine_loop.specs.Prepared.{tables_in, WithTables}
 use Rattle.machine_loop.specs.Turning.{AheadLead}
 use Rattle.machine_loop.proofs.run_ahead.Invariants.{RestAt}
 use Rattle.machine_loop.proofs.run_ahead.Goals as goal
@@ -28,31 +29,31 @@ Lts-At-loop-state = lts.At-loop tie.the-claims reads.Pre reads.Post goal.the-inv
 abbrev Lts-After-turns_ahead-ahead : Type 0
 Lts-After-turns_ahead-ahead = lts.After-turns_ahead tie.the-claims reads.Pre reads.Post goal.the-invariant-loop-state goal.the-decreases-loop-state
 
-abbrev Lts-In-Next : Type 0
-Lts-In-Next = lts.Past-After-known_told2 tie.the-claims reads.Pre reads.Post goal.the-invariant-loop-state goal.the-decreases-loop-state
+abbrev Lts-In-Ok : Type 0
+Lts-In-Ok = lts.Past-After-known_told2 tie.the-claims reads.Pre reads.Post goal.the-invariant-loop-state goal.the-decreases-loop-state
 
 -- The start, from the head of the loop, and the head, from what the turns leave.
 abbrev start_of : Lts-At-loop-state → Start
-start_of head = head.before.before.before.before.before.before
+start_of head = head.before.before.before
 
 abbrev turns-head : Lts-After-turns_ahead-ahead → Lts-At-loop-state
 turns-head c = c.before.before.before.before.before.before
 
 -- The machine's tables, and what the turns from the first state rely on.
 abbrev tables-here : Start → ImageTables
-tables-here s = let a = s.args in tables_of a.read a.tables.now a.productions.now
+tables-here s = let a = s.args in tables_in a.machine.now
 
 abbrev Held : Start → Image → Ended → ℕ → Type 0
 Held s i whole k =
     let a = s.args in
-    WithTables a.image.now (tables-here s) a.by_rows a.table.now a.winners.now i
-    × Going i a.image.now (tables-here s) a.text.now a.stack.now a.from whole
-    × AliveHeld i.positions a.read.last a.tables.now a.unions.now a.text.now k a.marks.now a.from.place 0 a.block.now
+    WithTables a.machine.now i
+    × Going i a.machine.now.image.now (tables-here s) a.text.now a.stack.now a.from whole
+    × AliveHeld i.positions a.machine.now.read.last a.machine.now.tables.now a.unions.now a.text.now k a.marks.now a.from.place 0 a.block.now
 
 rest-here : (head : Lts-At-loop-state) (i : Image) (whole : Ended) (k : ℕ) → Held (start_of head) i whole k
     → let a = (start_of head).args in
     let l = head.loop-state in
-    RestAt i a.image.now (tables-here (start_of head)) a.text.now a.unions.now a.marks.now k l.stack l.block
+    RestAt i a.machine.now a.text.now a.unions.now a.marks.now k l.stack l.block
     l.state l.end whole
 rest-here head i whole k w = head.loop-state.invariant.4 i whole k w.0 w.1 w.2
 
@@ -63,11 +64,11 @@ stack-left c = c.turns_ahead-ahead.new.stack
 abbrev block-left : Lts-After-turns_ahead-ahead → List ℕ
 block-left c = c.turns_ahead-ahead.new.block
 
-abbrev Led : Lts-After-turns_ahead-ahead → Image → Ended → Turn → Type 0
+abbrev Led : Lts-After-turns_ahead-ahead → Image → Ended → Result State RunAnswer → Type 0
 Led c i whole =
     let head = turns-head c in
     let a = (start_of head).args in
-    AheadLead i a.image.now (tables-here (start_of head)) a.text.now head.loop-state.state.place whole (stack-left c) (block-left c)
+    AheadLead i a.machine.now a.text.now head.loop-state.state.place whole (stack-left c) (block-left c)
     c.turns_ahead-ahead.result.end
 
 led : (c : Lts-After-turns_ahead-ahead) (i : Image) (whole : Ended) (k : ℕ) → Held (start_of (turns-head c)) i whole k
@@ -80,19 +81,19 @@ led c i whole k w =
 kept_here : (c : Lts-After-turns_ahead-ahead) → length (stack-left c) ≡ length (start_of (turns-head c)).args.stack.now
 kept_here c = c.turns_ahead-ahead.auto.stack ∙ (turns-head c).loop-state.invariant.0
 
-abbrev turns_next : Lts-In-Next → Lts-After-turns_ahead-ahead
+abbrev turns_next : Lts-In-Ok → Lts-After-turns_ahead-ahead
 turns_next c = c.before.before.before
 
 -- The state that goes on.
-next_here : (c : Lts-In-Next) (i : Image) (whole : Ended) (k : ℕ)
-    → Held (start_of (turns-head (turns_next c))) i whole k → Led (turns_next c) i whole (Next c.in-Next.s)
-next_here c i whole k w = subst (Led (turns_next c) i whole) c.in-Next.is (led (turns_next c) i whole k w)
+next_here : (c : Lts-In-Ok) (i : Image) (whole : Ended) (k : ℕ)
+    → Held (start_of (turns-head (turns_next c))) i whole k → Led (turns_next c) i whole (Ok c.in-Ok.s)
+next_here c i whole k w = subst (Led (turns_next c) i whole) c.in-Ok.is (led (turns_next c) i whole k w)
 
 -- The place rises to it.
-rises : (c : Lts-In-Next)
+rises : (c : Lts-In-Ok)
     → let turns = turns_next c in
     let head = turns-head turns in
-    let s = c.in-Next.s in
+    let s = c.in-Ok.s in
     (head.loop-state.state.place < s.place) × (s.place ≤ length (start_of head).args.text.now)
     × (turns.turns_ahead-ahead.result.end ≤ s.place + 1024)
 rises c =
@@ -119,13 +120,13 @@ turns_ahead-ahead-requires c =
       (w.0, w.1, w.2, w.3, rest.going, rest.held),
     )
 
-pub shape_of-stack-in-Done : goal.shape_of-stack-in-Done
-shape_of-stack-in-Done c = kept_here c.before.before.before.before
+pub shape_of-stack-in-Err : goal.shape_of-stack-in-Err
+shape_of-stack-in-Err c = kept_here c.before.before.before.before
 
-pub returns-in-Done : goal.returns-in-Done
-returns-in-Done c =
+pub returns-in-Err : goal.returns-in-Err
+returns-in-Err c =
     let turns = c.before.before.before.before in
-    λ i whole k w g h. subst (Led turns i whole) c.in-Done.is (led turns i whole k (w, g, h))
+    λ i whole k w g h. subst (Led turns i whole) c.in-Err.is (led turns i whole k (w, g, h))
 
 pub loop-state-smaller : goal.loop-state-smaller
 loop-state-smaller c = let r = rises c.before in omega (arith, r.0, r.1)
@@ -168,5 +169,5 @@ returns c =
     let a = (start_of head).args in
     λ i whole k w g h.
     ap answer_held c.at_end.ensures
-    ∙ going_ends i a.image.now (tables-here (start_of head)) w.decoded a.text.now l.stack l.state whole
+    ∙ going_ends i a.machine.now.image.now (tables-here (start_of head)) w.decoded a.text.now l.stack l.state whole
     (rest-here head i whole k (w, g, h)).going (omega arith)

@@ -10,7 +10,7 @@ use Rattle.machine_loop.proofs.run_image.Goals as goal
 pub run_on-ran-requires : goal.run_on-ran-requires
 run_on-ran-requires c =
     let plain = c.before.before.before.before in
-    let s = c.before.before.before.before.before.before.before.before.before.before.before in
+    let s = c.before.before.before.before.before.before.before.before in
     let a = s.args in
     let w = s.requires.1 in
     (s.requires.0, (w.0, trace w.0 (length a.stack.now) a.text.now, w.1, plain.run_plain-turned.ensures w.0 w.1))

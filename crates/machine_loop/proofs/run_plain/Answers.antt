@@ -4,7 +4,7 @@ use Prim.Native.Nat.{ℕ, ◌-◌}
 use native.Mathlib.Omega.{arith}
 use lib.ListN.{length}
 use Rattle.image.specs.Image.{Image}
-use Rattle.image_reader.specs.Decoded.{ImageTables, tables_of}
+use Rattle.image_reader.specs.Decoded.{ImageTables}
 use Rattle.machine.specs.Trace.{Ended}
 use Rattle.machine.specs.Run.{trace}
 use Rattle.machine.specs.Work.{budget}
@@ -17,7 +17,7 @@ use Rattle.machine_turn.specs.declared.State.{State}
 use Rattle.machine_turn.specs.declared.RunAnswer.{RunAnswer}
 use Rattle.machine_loop.specs.declared.Turns.{Turns}
 use Rattle.machine_loop.specs.declared.Turns.TheVariants.{Reached}
-use Rattle.machine_loop.specs.Prepared.{WithTables}
+use Rattle.machine_loop.specs.Prepared.{tables_in, WithTables}
 use Rattle.machine_loop.specs.Turning.{ChargedAt, Charged, RoundLead}
 use Rattle.machine_loop.proofs.TurningLaws.{charged_at}
 use Rattle.machine_loop.proofs.Ending.{run_no_entry}
@@ -39,18 +39,18 @@ Lts-In-Reached = lts.Past-After-known_told3 tie.the-claims reads.Pre reads.Post 
 
 -- The start, from the head of the loop, and the head, from what the turns leave.
 abbrev start_of : Lts-At-loop-done → Start
-start_of head = head.before.before.before.before.before.before.before.before.before
+start_of head = head.before.before.before.before.before.before
 
 abbrev head_of : Lts-After-turns_by_walks-round → Lts-At-loop-done
 head_of c = c.before.before
 
 abbrev tables-here : Start → ImageTables
-tables-here s = let a = s.args in tables_of a.read a.tables.now a.productions.now
+tables-here s = let a = s.args in tables_in a.machine.now
 
 abbrev Held : Start → Image → Type 0
 Held s i =
     let a = s.args in
-    WithTables a.image.now (tables-here s) a.by_rows a.table.now a.winners.now i
+    WithTables a.machine.now i
 
 -- The end of the whole run.
 abbrev whole : Start → Image → Ended
@@ -64,7 +64,7 @@ abbrev Led : Lts-After-turns_by_walks-round → Image → Turns → Type 0
 Led c i =
     let s = start_of (head_of c) in
     let a = s.args in
-    RoundLead i a.image.now (tables-here s) a.text.now (head_of c).loop-done.state.place (whole s i) (stack-left c) c.turns_by_walks-round.result.left
+    RoundLead i a.machine.now a.text.now (head_of c).loop-done.state.place (whole s i) (stack-left c) c.turns_by_walks-round.result.left
 
 led : (c : Lts-After-turns_by_walks-round) (i : Image) → Held (start_of (head_of c)) i → Led c i c.turns_by_walks-round.result.turned
 led c i w = let h = (head_of c).loop-done.invariant.1 i w in c.turns_by_walks-round.ensures i _ w h.0 h.1
@@ -75,7 +75,7 @@ kept_here c = c.turns_by_walks-round.auto.stack ∙ (head_of c).loop-done.invari
 pub returns-then-stack-lt1 : goal.returns-then-stack-lt1
 unfolding answer_held
 returns-then-stack-lt1 c =
-    let start = c.before.before.before.before.before.before.before.before in
+    let start = c.before.before.before.before.before in
     λ i w. (
       ap answer_held c.answer.ensures ∙ run_no_entry i _ start.args.text.now c.if-stack-lt1.true,
       λ h. absurd (omega (arith, h, c.if-stack-lt1.true)),
@@ -84,19 +84,19 @@ returns-then-stack-lt1 c =
 pub loop-done-init : goal.loop-done-init
 unfolding budget
 loop-done-init c =
-    let s = c.before.before.before.before.before.before.before.before.before in
+    let s = c.before.before.before.before.before.before in
     let a = s.args in
     let room = c.if-stack-lt1.false in (
       refl,
       λ i w. (
-        subst (Going i a.image.now (tables_of a.read a.tables.now a.productions.now) a.text.now a.stack.now _)
+        subst (Going i a.machine.now.image.now (tables_in a.machine.now) a.text.now a.stack.now _)
             (sym (trace-some_entry i (length a.stack.now) a.text.now room))
             (going_first i _ _ w.decoded _ _ c.first_state-state.ensures room),
         (
-          omega (arith, c.budget_of-left.ensures),
-          subst (λ (p : ℕ). Charged i a.text.now p [] (budget a.text.now - c.budget_of-left.result))
+          omega (arith, c.max-left.ensures),
+          subst (λ (p : ℕ). Charged i a.text.now p [] (budget a.text.now - c.max-left.result))
               (sym (ap (λ (s : State). s.place) c.first_state-state.ensures))
-              (subst (λ (v : ℕ). Charged i a.text.now 0 [] (budget a.text.now - v)) (sym c.budget_of-left.ensures) (charged_first i a.text.now)),
+              (subst (λ (v : ℕ). Charged i a.text.now 0 [] (budget a.text.now - v)) (sym c.max-left.ensures) (charged_first i a.text.now)),
         ),
       ),
     )
@@ -157,7 +157,7 @@ returns-then-text-s c =
     let y = charged_at i a.text.now [] at.place (budget a.text.now - turns.turns_by_walks-round.result.left) []
     (λ e. none-at_end i a.text.now at.place end) x.2.1 in (
       ap answer_held c.at_end.ensures
-          ∙ going_ends i a.image.now (tables-here s) w.decoded a.text.now _ _ (whole s i) x.0 end,
+          ∙ going_ends i a.machine.now.image.now (tables-here s) w.decoded a.text.now _ _ (whole s i) x.0 end,
       λ h. subst (λ (q : ℕ). ChargedAt i a.text.now q (budget a.text.now))
           (sym (ap (λ (r : RunAnswer). r.place) c.at_end.ensures ∙ end_place _ _ at.place at.count))
           (y.0, y.1, y.2, y.3, omega (arith, y.4)),

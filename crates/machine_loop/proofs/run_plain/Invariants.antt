@@ -4,18 +4,17 @@ use mathlib.Core.Path.{◌≡◌}
 use Prim.Native.Nat.{◌-◌}
 use lib.ListN.{length}
 use Rattle.image.specs.Image.{Image}
-use Rattle.image_reader.specs.Decoded.{tables_of}
 use Rattle.machine.specs.Run.{trace}
 use Rattle.machine_turn.specs.laws.Going.{Going}
-use Rattle.machine_loop.specs.Prepared.{WithTables}
+use Rattle.machine_loop.specs.Prepared.{tables_in, WithTables}
 use Rattle.machine_loop.specs.Turning.{LeftAt}
 use Rattle.machine_loop.proofs.run_plain.Given as goal
 
 abbrev pub invariant-loop-done : goal.invariant-loop-done
 invariant-loop-done l =
     (length l.stack ≡ length l.initial.stack)
-    × ((i : Image) → WithTables l.image (tables_of l.read l.tables l.productions) l.by_rows l.table l.winners i
-    → Going i l.image (tables_of l.read l.tables l.productions) l.text l.stack l.state (trace i (length l.initial.stack) l.text) × LeftAt i l.text l.state.place l.left)
+    × ((i : Image) → WithTables l.machine i
+    → Going i l.machine.image.now (tables_in l.machine) l.text l.stack l.state (trace i (length l.initial.stack) l.text) × LeftAt i l.text l.state.place l.left)
 
 abbrev pub decreases-loop-done : goal.decreases-loop-done
 decreases-loop-done l = length l.text - l.state.place

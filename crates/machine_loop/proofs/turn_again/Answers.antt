@@ -7,16 +7,17 @@ use lib.ListN.{length, drop, length-take, length-drop}
 use Rattle.lexer.proofs.laws.LongestMatchLaws.{match_within}
 use Rattle.lexer.specs.Alive.{vain_bytes}
 use Rattle.image.specs.Image.{Image}
-use Rattle.image_reader.specs.Decoded.{ImageTables, tables_of}
+use Rattle.image_reader.specs.Decoded.{ImageTables}
 use Rattle.scanner.specs.Meaning.{match_of}
 use Rattle.machine.specs.Trace.{Ended, match_at}
 use Rattle.machine_turn.specs.laws.Going.{Going}
 use Rattle.alive_scanner.specs.Ahead.{Ahead}
 use Rattle.machine_loop.specs.declared.Turns.{Turns}
 use Rattle.machine_loop.specs.declared.Turns.TheVariants.{Done, Reached, InVain}
-use Rattle.machine_loop.specs.Prepared.{WithTables}
+use Rattle.machine_loop.specs.Prepared.{tables_in, WithTables}
+use Rattle.machine_loop.specs.declared.Machine.{Machine}
 use Rattle.machine_loop.specs.Turning.{Charged, TurnsLead, AgainLead}
-use Rattle.machine_loop.proofs.ByRows.{not-rows, without_rows}
+use Rattle.machine_loop.proofs.ByRows.{no_rows, without_rows, same_going, same_lead}
 use Rattle.machine_loop.proofs.TurningLaws.{no_walk}
 use Rattle.machine_loop.proofs.Charging.{word_fits, walk-inside, match_again, charged_again}
 use Rattle.machine_loop.proofs.turn_again.Goals as goal
@@ -38,31 +39,31 @@ abbrev Lts-After-run_turns : Type 0
 Lts-After-run_turns = lts.After-run_turns tie.the-claims reads.Pre reads.Post
 
 -- What one turn by the match leaves, as it is gone on from.
-gone_on : (i : Image) (bytes : List ℕ) (t : ImageTables) (text : List ℕ) (place word more : ℕ) (whole : Ended) (stack : List ℕ)
+gone_on : (i : Image) (m : Machine) (text : List ℕ) (place word more : ℕ) (whole : Ended) (stack : List ℕ)
     → ((v : ℕ) → Charged i text place [] v → Charged i text place (word ∷ []) (v + more)) → (turned : Turns)
-    → TurnsLead i bytes t text place (word ∷ []) (place + 1) (place + 1) whole stack turned
-    → AgainLead i bytes t text place more whole stack turned
-gone_on i bytes t text place word more whole stack charged (Done a) l = (l.0, λ v x. l.1 _ (charged v x))
-gone_on i bytes t text place word more whole stack charged (Reached s) l = (l.0, omega (arith, l.1), λ v x. used l.2.0 l.2.1 (v + more) (l.2.2 _ (charged v x)))
+    → TurnsLead i m text place (word ∷ []) (place + 1) (place + 1) whole stack turned
+    → AgainLead i m text place more whole stack turned
+gone_on i m text place word more whole stack charged (Done a) l = (l.0, λ v x. l.1 _ (charged v x))
+gone_on i m text place word more whole stack charged (Reached s) l = (l.0, omega (arith, l.1), λ v x. used l.2.0 l.2.1 (v + more) (l.2.2 _ (charged v x)))
   where
     used : (turns : ℕ) → (turns ≡ 0 → s.place ≡ place) → (v : ℕ) → Charged i text s.place (drop turns (word ∷ [])) v → Charged i text s.place [] v
     used zero h v x = absurd (omega (arith, h refl, l.1))
     used (suc zero) h v x = x
     used (suc (suc k)) h v x = x
-gone_on i bytes t text place word more whole stack charged (InVain s n) l = no_walk i bytes t text place (word ∷ []) (place + 1) whole stack (InVain s n) l
+gone_on i m text place word more whole stack charged (InVain s n) l = no_walk i m text place (word ∷ []) (place + 1) whole stack (InVain s n) l
 
 -- The start, from where the walk is made again, and from there on.
 abbrev start_of : Lts-After-scan-arg-1 → Start
-start_of c = c.before.before.before.before.before.before
+start_of c = c.before.before.before
 
 abbrev tables-here : Start → ImageTables
-tables-here s = let a = s.args in tables_of a.read a.tables.now a.productions.now
+tables-here s = let a = s.args in tables_in a.machine.now
 
 abbrev Held : Start → Image → Ended → Type 0
 Held s i whole =
     let a = s.args in
-    WithTables a.image.now (tables-here s) a.by_rows a.table.now a.winners.now i
-    × Going i a.image.now (tables-here s) a.text.now a.stack.now a.state whole
+    WithTables a.machine.now i
+    × Going i a.machine.now.image.now (tables-here s) a.text.now a.stack.now a.state whole
     × (a.n ≡ vain_bytes i.positions i.first (drop a.state.place a.text.now))
 
 -- The bytes of the walk lie within the text.
@@ -78,7 +79,7 @@ match_here : (c : Lts-After-scan-found) (i : Image) (whole : Ended)
 match_here c i whole w =
     let s = start_of c.before in
     let a = s.args in
-    c.scan-found.ensures _ _ i w.0
+    c.scan-found.ensures i w.0
     ∙ match_again i a.text.now a.state.place a.n s.requires.2 w.2 (a.state.place + a.n - a.state.place) (omega arith)
 
 -- The one word is the match found ahead, and leads past the place.
@@ -93,28 +94,32 @@ ahead-here c i whole w =
 
 -- What the turn leaves.
 led : (c : Lts-After-run_turns) (i : Image) (whole : Ended)
-    → let word = c.before.before.before in
+    → let word = c.before.before.before.before.before in
     let s = start_of word.before.before in
     let a = s.args in
     Held s i whole
-    → TurnsLead i a.image.now (tables-here s) a.text.now a.state.place (word.word_of.result ∷ []) (a.state.place + 1) (a.state.place + 1)
+    → TurnsLead i a.machine.now a.text.now a.state.place (word.word_of.result ∷ []) (a.state.place + 1) (a.state.place + 1)
     whole c.run_turns.new.stack c.run_turns.result
 led c i whole w =
-    let word = c.before.before.before in
-    c.run_turns.ensures i whole _ (without_rows w.0) w.1 (ahead-here word i whole w)
+    let word = c.before.before.before.before.before in
+    let a = (start_of word.before.before).args in
+    let m = a.machine.now in
+    let e = c.without_rows-by_sets.ensures in
+    same_lead m _ e i a.text.now whole a.state.place (word.word_of.result ∷ []) (a.state.place + 1) (a.state.place + 1) c.run_turns.new.stack c.run_turns.result
+    (c.run_turns.ensures i whole _ (without_rows m _ e w.0) (same_going m _ e i _ whole w.1) (ahead-here word i whole w))
 
 pub overflow_add-p : goal.overflow_add-p
-overflow_add-p c = let s = c.before.before.before.before.before.before in omega (arith, inside s, s.requires.0)
+overflow_add-p c = let s = c.before.before.before in omega (arith, inside s, s.requires.0)
 
 pub slice_bounds-scan-end : goal.slice_bounds-scan-end
-slice_bounds-scan-end c = omega (arith, inside c.before.before.before.before.before.before)
+slice_bounds-scan-end c = omega (arith, inside c.before.before.before)
 
 pub word_of-requires : goal.word_of-requires
 word_of-requires c =
     let s = start_of c.before.before in
     let a = s.args in
     let w = s.requires.3 in
-    word_fits w.0 _ c.scan-found.result (c.scan-found.ensures _ _ w.0 w.2)
+    word_fits w.0 _ c.scan-found.result (c.scan-found.ensures w.0 w.2)
     (omega (
       arith,
       s.requires.0,
@@ -127,21 +132,26 @@ overflow_add-stop c = let s = start_of c.before.before.before in omega (arith, i
 
 pub run_turns-requires : goal.run_turns-requires
 run_turns-requires c =
-    let word = c.before.before.before in
+    let word = c.before.before.before.before.before in
     let s = start_of word.before.before in
     let w = s.requires.3 in
-    let held : Held s w.0 w.1 = (w.2, w.3, w.4) in
-    (omega (arith, inside s, s.requires.1), λ e. absurd (not-rows e), (w.0, w.1, s.args.state.place + 1, without_rows w.2, w.3, ahead-here word w.0 w.1 held))
+    let m = s.args.machine.now in
+    let e = c.without_rows-by_sets.ensures in
+    let held : Held s w.0 w.1 = (w.2, w.3, w.4) in (
+      omega (arith, inside s, s.requires.1),
+      λ some. absurd (no_rows m _ e some),
+      (w.0, w.1, s.args.state.place + 1, without_rows m _ e w.2, same_going m _ e w.0 _ w.1 w.3, ahead-here word w.0 w.1 held),
+    )
 
 pub returns : goal.returns
 returns c =
     let turns = c.before.before.before in
-    let word = turns.before.before.before in
+    let word = turns.before.before.before.before.before in
     let s = start_of word.before.before in
     let a = s.args in
     λ i whole w g e.
     let held : Held s i whole = (w, g, e) in
     let m = word.word_of.ensures ∙ match_here word.before i whole held in
-    gone_on i a.image.now (tables-here s) a.text.now a.state.place word.word_of.result (a.n + a.n) whole _
+    gone_on i a.machine.now a.text.now a.state.place word.word_of.result (a.n + a.n) whole _
     (λ v x. charged_again i a.text.now a.state.place a.n s.requires.2 e word.word_of.result v s.requires.1 m x) turns.run_turns.result
     (led turns i whole held)

@@ -5,14 +5,15 @@ use Prim.Native.Nat.{ℕ, zero, suc, ◌+◌, ◌-◌, ◌≤◌}
 use native.Mathlib.Omega.{arith}
 use lib.ListN.{length, drop}
 use Rattle.image.specs.Image.{Image}
-use Rattle.image_reader.specs.Decoded.{ImageTables, tables_of}
+use Rattle.image_reader.specs.Decoded.{ImageTables}
 use Rattle.machine.specs.Trace.{Ended}
 use Rattle.machine.specs.Work.{budget}
 use Rattle.machine_turn.specs.laws.Going.{Going}
 use Rattle.machine_turn.specs.declared.State.{State}
 use Rattle.machine_loop.specs.declared.Turns.{Turns}
 use Rattle.machine_loop.specs.declared.Turns.TheVariants.{Done, Reached, InVain}
-use Rattle.machine_loop.specs.Prepared.{WithTables}
+use Rattle.machine_loop.specs.Prepared.{tables_in, WithTables}
+use Rattle.machine_loop.specs.declared.Machine.{Machine}
 use Rattle.machine_loop.specs.Turning.{Charged, TurnsLead, AgainLead, LeftAt, RoundLead}
 use Rattle.machine_loop.proofs.Charging.{walk-inside, charge_is}
 use Rattle.machine_loop.proofs.turns_by_walks.Goals as goal
@@ -29,19 +30,19 @@ Lts-In-InVain = lts.Past-After-known_told tie.the-claims reads.Pre reads.Post
 
 -- The start, from what the turns leave, and that, from a walk in vain.
 abbrev start_of : Lts-After-run_turns-turned → Start
-start_of c = c.before.before.before.before.before.before.before.before
+start_of c = c.before.before.before.before.before
 
 abbrev turns-of : Lts-In-InVain → Lts-After-run_turns-turned
 turns-of t = t.before.before.before
 
 abbrev tables-here : Start → ImageTables
-tables-here s = let a = s.args in tables_of a.read a.tables.now a.productions.now
+tables-here s = let a = s.args in tables_in a.machine.now
 
 abbrev Held : Start → Image → Ended → Type 0
 Held s i whole =
     let a = s.args in
-    WithTables a.image.now (tables-here s) a.by_rows a.table.now a.winners.now i
-    × Going i a.image.now (tables-here s) a.text.now a.stack.now a.from whole
+    WithTables a.machine.now i
+    × Going i a.machine.now.image.now (tables-here s) a.text.now a.stack.now a.from whole
     × LeftAt i a.text.now a.from.place a.left
 
 abbrev stack-left : Lts-After-run_turns-turned → List ℕ
@@ -52,23 +53,23 @@ abbrev Led : Lts-After-run_turns-turned → Image → Ended → Turns → Type 0
 Led c i whole =
     let s = start_of c in
     let a = s.args in
-    TurnsLead i a.image.now (tables-here s) a.text.now a.from.place [] a.from.place (length a.text.now) whole (stack-left c)
+    TurnsLead i a.machine.now a.text.now a.from.place [] a.from.place (length a.text.now) whole (stack-left c)
 
 led : (c : Lts-After-run_turns-turned) (i : Image) (whole : Ended) → Held (start_of c) i whole → Led c i whole c.run_turns-turned.result
 led c i whole w = c.run_turns-turned.ensures i whole (start_of c).args.from.place w.0 w.1 (omega arith)
 
 -- Turns that end without a walk in vain come to the answer, or to the text's end.
-ended : (i : Image) (bytes : List ℕ) (t : ImageTables) (text : List ℕ) (place left : ℕ) (whole : Ended) (stack : List ℕ) → LeftAt i text place left
-    → (turned : Turns) → ((s : State) (n : ℕ) → turned ≡ InVain s n → ⊥) → TurnsLead i bytes t text place [] place (length text) whole stack turned
-    → RoundLead i bytes t text place whole stack left turned
-ended i bytes t text place left whole stack h (Done a) tag l = let y = l.1 _ h.1 in (l.0, (y.0, y.1, y.2, y.3, omega (arith, y.4)))
-ended i bytes t text place left whole stack h (Reached s) tag l =
+ended : (i : Image) (m : Machine) (text : List ℕ) (place left : ℕ) (whole : Ended) (stack : List ℕ) → LeftAt i text place left
+    → (turned : Turns) → ((s : State) (n : ℕ) → turned ≡ InVain s n → ⊥) → TurnsLead i m text place [] place (length text) whole stack turned
+    → RoundLead i m text place whole stack left turned
+ended i m text place left whole stack h (Done a) tag l = let y = l.1 _ h.1 in (l.0, (y.0, y.1, y.2, y.3, omega (arith, y.4)))
+ended i m text place left whole stack h (Reached s) tag l =
     (l.0, λ m. absurd (omega (arith, m, l.1)), (h.0, used l.2.0 (l.2.2 _ h.1)))
   where
     used : (turns : ℕ) → Charged i text s.place (drop turns []) (budget text - left) → Charged i text s.place [] (budget text - left)
     used zero c = c
     used (suc k) c = c
-ended i bytes t text place left whole stack h (InVain s n) tag l = absurd (tag s n refl)
+ended i m text place left whole stack h (InVain s n) tag l = absurd (tag s n refl)
 
 -- ---- a walk in vain
 abbrev state-of : Lts-In-InVain → State
@@ -94,7 +95,7 @@ inside t =
 
 pub run_turns-turned-requires : goal.run_turns-turned-requires
 run_turns-turned-requires c =
-    let s = c.before.before.before.before.before.before.before.before in
+    let s = c.before.before.before.before.before in
     let w = s.requires.1 in
     (omega arith, λ e. refl, (w.0, w.1, s.args.from.place, w.2, w.3, omega arith))
 
@@ -103,7 +104,7 @@ returns-in_default c =
     let turns = c.before.before.before.before in
     let a = (start_of turns).args in
     λ i whole w g h.
-    ended i a.image.now (tables-here (start_of turns)) a.text.now a.from.place a.left whole (stack-left turns) h turns.run_turns-turned.result
+    ended i a.machine.now a.text.now a.from.place a.left whole (stack-left turns) h turns.run_turns-turned.result
     c.in_default.not-InVain (led turns i whole (w, g, h))
 
 pub overflow_add-n : goal.overflow_add-n
@@ -134,14 +135,14 @@ pub overflow_sub-result : goal.overflow_sub-result
 overflow_sub-result c = omega (arith, c.if-left-n.false)
 
 -- The turn whose walk was made again leaves so much less of the budget.
-after : (i : Image) (bytes : List ℕ) (t : ImageTables) (text : List ℕ) (place p left n : ℕ) (whole : Ended) (stack : List ℕ) → place ≤ p → n + n ≤ left
-    → left ≤ budget text → Charged i text p [] (budget text - left) → (turned : Turns) → AgainLead i bytes t text p (n + n) whole stack turned
-    → RoundLead i bytes t text place whole stack (left - (n + n)) turned
-after i bytes t text place p left n whole stack pl nl h c (Done a) l = let y = l.1 _ c in (l.0, (y.0, y.1, y.2, y.3, omega (arith, y.4)))
-after i bytes t text place p left n whole stack pl nl h c (Reached s) l =
+after : (i : Image) (m : Machine) (text : List ℕ) (place p left n : ℕ) (whole : Ended) (stack : List ℕ) → place ≤ p → n + n ≤ left
+    → left ≤ budget text → Charged i text p [] (budget text - left) → (turned : Turns) → AgainLead i m text p (n + n) whole stack turned
+    → RoundLead i m text place whole stack (left - (n + n)) turned
+after i m text place p left n whole stack pl nl h c (Done a) l = let y = l.1 _ c in (l.0, (y.0, y.1, y.2, y.3, omega (arith, y.4)))
+after i m text place p left n whole stack pl nl h c (Reached s) l =
     let e : (budget text - left) + (n + n) ≡ budget text - (left - (n + n)) = omega arith in
     (l.0, λ m. omega (arith, l.1), (omega arith, subst (Charged i text s.place []) e (l.2 _ c)))
-after i bytes t text place p left n whole stack pl nl h c (InVain s k) l = absurd l
+after i m text place p left n whole stack pl nl h c (InVain s k) l = absurd l
 
 pub returns : goal.returns
 returns c =
@@ -151,5 +152,5 @@ returns c =
     let a = s.args in
     λ i whole w g h.
     let x = vain-here t i whole (w, g, h) in
-    after i a.image.now (tables-here s) a.text.now a.from.place (state-of t).place a.left (bytes_of t) whole _ x.2
+    after i a.machine.now a.text.now a.from.place (state-of t).place a.left (bytes_of t) whole _ x.2
     again.if-left-n.false h.0 (x.5 _ h.1) again.turn_again-again.result (again.turn_again-again.ensures i whole w x.0 x.4)

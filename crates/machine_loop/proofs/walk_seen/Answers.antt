@@ -5,11 +5,11 @@ use Rattle.machine_loop.proofs.walk_seen.Goals as goal
 
 pub returns-in-Nothing : goal.returns-in-Nothing
 unfolding told_of match_of
-returns-in-Nothing c = rw c.in-Nothing.is (refl, refl)
+returns-in-Nothing c = rw c.in-Nothing.is refl
 
 pub returns-in-Rule : goal.returns-in-Rule
 unfolding told_of match_of
-returns-in-Rule c = rw c.in-Rule.is (refl, refl)
+returns-in-Rule c = rw c.in-Rule.is refl
 
 pub returns-in-InVain : goal.returns-in-InVain
 unfolding told_of match_of

@@ -7,15 +7,15 @@ use Rattle.alive_scanner.proofs.laws.WordLaws.{word_none, word_some}
 use Rattle.machine_loop.specs.Turning.{WordFits}
 use Rattle.machine_loop.proofs.word_of.Goals as goal
 
-pub returns-in-Nothing : goal.returns-in-Nothing
+pub returns-in-None : goal.returns-in-None
 unfolding match_of
-returns-in-Nothing c = word_none ∙ ap match_of (sym c.in-Nothing.is)
+returns-in-None c = word_none ∙ ap match_of (sym c.in-None.is)
 
 pub match_word-requires : goal.match_word-requires
-match_word-requires c = (subst WordFits c.in-Rule.is c.requires).1
+match_word-requires c = (subst WordFits c.in-Some.is c.requires).1
 
-pub returns-in-Rule : goal.returns-in-Rule
+pub returns-in-Some : goal.returns-in-Some
 unfolding match_of
-returns-in-Rule c =
-    let fits = subst WordFits c.in-Rule.is c.requires in
-    ap word_match c.match_word.ensures ∙ word_some _ _ (omega arith) fits.0 ∙ ap match_of (sym c.in-Rule.is)
+returns-in-Some c =
+    let fits = subst WordFits c.in-Some.is c.requires in
+    ap word_match c.match_word.ensures ∙ word_some _ _ (omega arith) fits.0 ∙ ap match_of (sym c.in-Some.is)

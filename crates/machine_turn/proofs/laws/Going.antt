@@ -1,13 +1,12 @@
 -- The turns of a run in code: the state that the loop of turns keeps, and what a turn and the end of the text make of it. The loop itself is
 -- not here: whoever goes on by turns, all of them or one, lives on these laws.
-use Rattle.std.specs.Prelude.{◌≡◌, refl, List, [], ℕ, suc, ◌-◌, ◌≤◌, ◌<◌, length, drop}
+use Rattle.std.specs.Prelude.{◌≡◌, refl, List, [], ℕ, suc, ◌-◌, ◌≤◌, ◌<◌, length, drop, Option, Some, None, Ok, Err}
 use Rattle.std.proofs.Math.Path.{sym}
 use Rattle.std.proofs.Common.{ap, ◌∙◌, arith}
 use Rattle.std.proofs.Math.ListN.{length-drop}
 use Rattle.lexer.proofs.laws.LongestMatchLaws.{match_within, match_rule-below}
 use Rattle.scanner.specs.Meaning.{match_of}
-use Rattle.scanner.specs.declared.Found.{Found}
-use Rattle.scanner.specs.declared.Found.TheVariants as found
+use Rattle.scanner.specs.declared.Match.{Match}
 use Rattle.image.specs.Image.{Image}
 use Rattle.image_reader.specs.Decoded.{ImageTables, Decoded}
 use Rattle.machine.specs.Trace as machine
@@ -20,7 +19,6 @@ use Rattle.machine_turn.specs.Steps.{answer_held, state_at, state_held, end_answ
 use Rattle.machine_turn.proofs.laws.TurnLaws.{turn_done, turn-next, end_is}
 use Rattle.machine_turn.specs.declared.RunAnswer.{RunAnswer}
 use Rattle.machine_turn.specs.declared.State.{State}
-use Rattle.machine_turn.specs.declared.Turn.TheVariants.{Next, Done}
 use Rattle.machine_turn.specs.laws.Going.{Going}
 
 -- At the start: 0 alone is pending.
@@ -61,17 +59,17 @@ module _ (i : Image) (bytes : List ℕ) (t : ImageTables) (decoded : Decoded byt
       end_is i bytes t decoded stack s going.takes going.kept going.ready
       ∙ ap answer_of (sym (trace-at_end i (length stack) text going.turns now_state h) ∙ going.same)
 
-  module _ (more : s.place < length text) (f : Found) where
+  module _ (more : s.place < length text) (f : Option Match) where
     -- The match is not empty, lies within the text, and its rule is one of the image's.
     pub going_fits : match_of f ≡ match_at i text s.place → length text < 18446744073709551616 → MatchFits f s
     unfolding match_of
     going_fits e small = by_match f e
       where
-        by_match : (g : Found) → match_of g ≡ match_at i text s.place → MatchFits g s
-        by_match found.Nothing e = tt
-        by_match (found.Rule rule n) e =
-            let w = match_within i.positions i.first (drop s.place text) rule n (sym e) in
-            let r = match_rule-below i.positions t.rules decoded.positions_below i.first (drop s.place text) rule n (sym e) in
+        by_match : (g : Option Match) → match_of g ≡ match_at i text s.place → MatchFits g s
+        by_match None e = tt
+        by_match (Some m) e =
+            let w = match_within i.positions i.first (drop s.place text) m.rule m.length (sym e) in
+            let r = match_rule-below i.positions t.rules decoded.positions_below i.first (drop s.place text) m.rule m.length (sym e) in
             let l = length-drop s.place text in
             (omega (arith, r, decoded.most_rules), omega (arith, w.1, l, more, small), omega (arith, w.0, going.counted))
 
@@ -85,7 +83,7 @@ module _ (i : Image) (bytes : List ℕ) (t : ImageTables) (decoded : Decoded byt
           let k : suc (going.turns - 1) ≡ going.turns = omega (arith, going.enough) in
           ap (λ (k : ℕ). trace_from i (length stack) text k now_state) k ∙ going.same
 
-      pub going_done : (a : RunAnswer) → (turn_step bytes (drop 384 t.tables) t.productions t.empty t.skips stack f s).outcome ≡ Done a
+      pub going_done : (a : RunAnswer) → (turn_step bytes (drop 384 t.tables) t.productions t.empty t.skips stack f s).outcome ≡ Err a
           → answer_held a ≡ answer_of whole
       unfolding answer_held answer_of
       going_done a g =
@@ -96,7 +94,7 @@ module _ (i : Image) (bytes : List ℕ) (t : ImageTables) (decoded : Decoded byt
 
       pub going_next : (stack' : List ℕ) (s' : State) → length stack' ≡ length stack
           → stack' ≡ (turn_step bytes (drop 384 t.tables) t.productions t.empty t.skips stack f s).stack
-          → (turn_step bytes (drop 384 t.tables) t.productions t.empty t.skips stack f s).outcome ≡ Next s'
+          → (turn_step bytes (drop 384 t.tables) t.productions t.empty t.skips stack f s).outcome ≡ Ok s'
           → Going i bytes t text stack' s' whole × (s.place < s'.place)
       going_next stack' s' kept g h =
           let x = turn-next i bytes t decoded stack s going.takes going.kept going.ready f fits stack' s' g h in

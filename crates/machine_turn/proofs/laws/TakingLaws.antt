@@ -1,5 +1,6 @@
 -- A take by the tables is a take by the image's rows, and the stack then holds what is pending.
-use Rattle.std.specs.Prelude.{◌≡◌, Bool, cond, ltb, eqb}
+use Rattle.std.specs.Prelude as code
+use Rattle.std.specs.Prelude.{◌≡◌, Bool, cond, ltb, eqb, Some, None}
 use Rattle.std.proofs.Math.Path.{refl, sym, subst}
 use Rattle.std.proofs.Common.{ap, ◌∙◌, arith, length-append, ltb-true, ltb-false, eqb-true}
 use Rattle.std.proofs.Math.Bool.{true, false}
@@ -18,7 +19,6 @@ use Rattle.machine.specs.Trace.{taking}
 use Rattle.machine_turn.specs.Stack.{stacked, pending, pushed, Ready}
 use Rattle.machine_turn.specs.Steps.{taker, TakeStep, replaced, replace_taker, take_step}
 use Rattle.machine_turn.specs.declared.Taker.{Taker}
-use Rattle.machine_turn.specs.declared.Taker.TheVariants.{Nothing, At}
 use Rattle.machine_turn.specs.declared.Taken.{Taken}
 use Rattle.machine_turn.specs.declared.Taken.TheVariants.{Pending, NoTaker, TooDeep}
 use Rattle.machine_turn.proofs.laws.StackLaws.{pending-stacked, length-stacked, all-joined, length-pushed, pending-pushed}
@@ -52,9 +52,9 @@ pub record TailTaken (bytes starts : List ℕ) (n : ℕ) (stack : List ℕ) (o :
   pub under : below < depth
   pub nonterminal : m < n
 
-abbrev TakesAs : List ℕ → List ℕ → ℕ → List ℕ → Option Taking → ℕ → Taker → Type 0
-TakesAs bytes starts n stack o depth Nothing = o ≡ none
-TakesAs bytes starts n stack o depth (At below m entry) = TailTaken bytes starts n stack o depth below m entry
+abbrev TakesAs : List ℕ → List ℕ → ℕ → List ℕ → Option Taking → ℕ → code.Option Taker → Type 0
+TakesAs bytes starts n stack o depth None = o ≡ none
+TakesAs bytes starts n stack o depth (Some t) = TailTaken bytes starts n stack o depth t.below t.nonterminal t.entry
 
 module _ (bytes starts productions : List ℕ) (empty : ℕ) (rows : List Row) (n : ℕ)
     (held : RowsHeld bytes n starts productions empty rows) where
@@ -63,11 +63,11 @@ module _ (bytes starts productions : List ℕ) (empty : ℕ) (rows : List Row) (
     rows_take depth first = taking rows (pending stack depth first) rule
 
     -- A taker further back takes for those before it too.
-    further : (below first : ℕ) (t : Taker) → (rows_take below (get_or stack below 0) ≡ rows_take (suc below) first)
+    further : (below first : ℕ) (t : code.Option Taker) → (rows_take below (get_or stack below 0) ≡ rows_take (suc below) first)
         → TakesAs bytes starts n stack (rows_take below (get_or stack below 0)) below t
         → TakesAs bytes starts n stack (rows_take (suc below) first) (suc below) t
-    further below first Nothing e r = sym e ∙ r
-    further below first (At k m entry) e r = record {
+    further below first None e r = sym e ∙ r
+    further below first (Some t) e r = record {
       tail = r.tail;
       next_is = sym e ∙ r.next_is;
       there = r.there;
@@ -78,9 +78,9 @@ module _ (bytes starts productions : List ℕ) (empty : ℕ) (rows : List Row) (
 
     at_first : (below m : ℕ) → m < n → All (λ k. k < n) (stacked stack below) → (x y : Bool)
         → eqb (get_or productions (m * 32 + rule) 0) 0 ≡ x → bit empty m ≡ y
-        → (t : Taker) → TakesAs bytes starts n stack (rows_take below (get_or stack below 0)) below t
+        → (t : code.Option Taker) → TakesAs bytes starts n stack (rows_take below (get_or stack below 0)) below t
         → TakesAs bytes starts n stack (rows_take (suc below) m) (suc below)
-        (cond x (cond y t Nothing) (At below m (get_or productions (m * 32 + rule) 0)))
+        (cond x (cond y t None) (Some (record { below = below; nonterminal = m; entry = get_or productions (m * 32 + rule) 0 })))
     unfolding pending
     at_first below m h b false y e f t r =
         let entry = get_or productions (m * 32 + rule) 0 in
@@ -176,12 +176,12 @@ module _ (bytes starts productions : List ℕ) (empty : ℕ) (rows : List Row) (
     by_tail [] e h = by_none e
     by_tail (m ∷ tail) e h = by_room m tail e h (ltb (length stack) (suc below + length tail)) refl
 
-  by_taker : (t : Taker) → TakesAs bytes starts n stack taken_by_rows depth t → LeadsTo (replace_taker bytes starts stack t)
+  by_taker : (t : code.Option Taker) → TakesAs bytes starts n stack taken_by_rows depth t → LeadsTo (replace_taker bytes starts stack t)
   unfolding replace_taker
-  by_taker Nothing r = r
-  by_taker (At below m entry) r =
-      subst (λ (l : List ℕ). LeadsTo (replaced stack below l)) (sym r.there.tail_is)
-      (by_tail below m r.under r.behind r.tail r.next_is r.there.below)
+  by_taker None r = r
+  by_taker (Some t) r =
+      subst (λ (l : List ℕ). LeadsTo (replaced stack t.below l)) (sym r.there.tail_is)
+      (by_tail t.below t.nonterminal r.under r.behind r.tail r.next_is r.there.below)
 
   abbrev known_taker : TakesAs bytes starts n stack taken_by_rows depth (taker productions empty stack depth first rule)
   known_taker = taker_takes bytes starts productions empty rows n ready.held stack rule small depth first ready.below
@@ -191,8 +191,9 @@ module _ (bytes starts productions : List ℕ) (empty : ℕ) (rows : List Row) (
   take_leads = by_taker (taker productions empty stack depth first rule) known_taker
 
   -- What replacing a taker that was found asks.
-  pub found_taker : (below m entry : ℕ) → taker productions empty stack depth first rule ≡ At below m entry
-      → (below < length stack) × (m < 64) × ((tail : List ℕ) × EntryTail bytes (get_or starts m 0) n entry tail)
-  found_taker below m entry e =
+  pub found_taker : (t : Taker) → taker productions empty stack depth first rule ≡ Some t
+      → (t.below < length stack) × (t.nonterminal < 64)
+      × ((tail : List ℕ) × EntryTail bytes (get_or starts t.nonterminal 0) n t.entry tail)
+  found_taker t e =
       let x = subst (TakesAs bytes starts n stack taken_by_rows depth) e known_taker in
       (omega (arith, x.under, ready.inside), omega (arith, x.nonterminal, ready.most), (x.tail, x.there))

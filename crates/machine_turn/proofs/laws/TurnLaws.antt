@@ -1,5 +1,5 @@
 -- A turn by the tables and the stack is a turn of the machine over the image that the tables hold, and so is the end of the text.
-use Rattle.std.specs.Prelude.{◌≡◌, Bool, cond, ℕ, ◌<◌, ◌≤◌, get_or, drop}
+use Rattle.std.specs.Prelude.{◌≡◌, Bool, cond, ℕ, ◌<◌, ◌≤◌, get_or, drop, Option, Some, None, Result, Ok, Err}
 use Rattle.std.proofs.Math.Path.{refl, ap₂}
 use Rattle.std.proofs.Common.{sym, subst, ◌∙◌, arith}
 use Rattle.std.proofs.Math.Bool.{true, false, ◌&&◌}
@@ -7,8 +7,7 @@ use mathlib.Core.List.{List, [], ◌∷◌, ◌++◌}
 use Rattle.std.proofs.Math.ListN.{length, length-append}
 use Rattle.basics.specs.Bits.{bit}
 use Rattle.scanner.specs.Meaning.{match_of}
-use Rattle.scanner.specs.declared.Found.{Found}
-use Rattle.scanner.specs.declared.Found.TheVariants as found
+use Rattle.scanner.specs.declared.Match.{Match}
 use Rattle.image.specs.Image.{Image}
 use Rattle.image_reader.specs.Decoded.{ImageTables, Decoded}
 use Rattle.normal_form.specs.RowNames.{taken_by}
@@ -26,8 +25,6 @@ use Rattle.machine_turn.specs.declared.RunAnswer.{RunAnswer}
 use Rattle.machine_turn.specs.declared.Taken.{Taken}
 use Rattle.machine_turn.specs.declared.Taken.TheVariants.{Pending, NoTaker, TooDeep}
 use Rattle.machine_turn.specs.declared.State.{State}
-use Rattle.machine_turn.specs.declared.Turn.{Turn}
-use Rattle.machine_turn.specs.declared.Turn.TheVariants.{Next, Done}
 
 module _ (i : Image) (bytes : List ℕ) (t : ImageTables) (decoded : Decoded bytes t i) (stack : List ℕ) (s : State) (takes : List Take)
     (counted : length takes ≡ s.count)
@@ -39,7 +36,7 @@ module _ (i : Image) (bytes : List ℕ) (t : ImageTables) (decoded : Decoded byt
   abbrev here : machine.State
   here = state_held takes stack s
 
-  abbrev machine_turn : Found → run.Turn
+  abbrev machine_turn : Option Match → run.Turn
   machine_turn f = run.turn i (length stack) (match_of f) here
 
   -- The machine goes on to the state that is held then, with the takes that are counted, and the stack is ready for the next turn.
@@ -50,56 +47,56 @@ module _ (i : Image) (bytes : List ℕ) (t : ImageTables) (decoded : Decoded byt
     pub next_ready : ReadyIn stack' s'
 
   -- What a turn leaves is what the machine's turn leads to.
-  abbrev TurnIs : run.Turn → List ℕ → Turn → Type 0
-  TurnIs x stack' (Next s') = GoesOn x stack' s'
-  TurnIs x stack' (Done a) = (x ≡ run.ends a.number) × (a.place ≡ s.place) × (a.count ≡ s.count)
+  abbrev TurnIs : run.Turn → List ℕ → Result State RunAnswer → Type 0
+  TurnIs x stack' (Ok s') = GoesOn x stack' s'
+  TurnIs x stack' (Err a) = (x ≡ run.ends a.number) × (a.place ≡ s.place) × (a.count ≡ s.count)
 
-  module _ (rule n : ℕ) (small : rule < 32) where
-    by_take : (stack' : List ℕ) (o : Taken) → get_or i.skips rule false ≡ false
+  module _ (m : Match) (small : m.rule < 32) where
+    by_take : (stack' : List ℕ) (o : Taken) → get_or i.skips m.rule false ≡ false
         → TakeLeads bytes (drop 384 t.tables) t.productions t.empty i.rows t.nonterminals stack
-        (taking i.rows (pending stack s.depth s.first) rule) stack' o
-        → TurnIs (machine_turn (found.Rule rule n)) stack' (step_after_take n s o)
+        (taking i.rows (pending stack s.depth s.first) m.rule) stack' o
+        → TurnIs (machine_turn (Some m)) stack' (step_after_take m.length s o)
     unfolding step_after_take match_of
-    by_take stack' NoTaker f x = (turn_refuses i (length stack) here rule n f x, refl, refl)
-    by_take stack' TooDeep f x = (turn_overflows i (length stack) here rule n f x.0 x.1 x.2, refl, refl)
+    by_take stack' NoTaker f x = (turn_refuses i (length stack) here m.rule m.length f x, refl, refl)
+    by_take stack' TooDeep f x = (turn_overflows i (length stack) here m.rule m.length f x.0 x.1 x.2, refl, refl)
     by_take stack' (Pending depth first) f x =
         let next = pending stack' depth first in
         let fits : length next ≤ length stack = omega (arith, length-pending stack' depth first, x.2.inside, x.3) in
-        let one : List Take = take_of s.place n rule x.0 ∷ [] in record {
+        let one : List Take = take_of s.place m.length m.rule x.0 ∷ [] in record {
           next_takes = takes ++ one;
-          next_is = turn_takes i (length stack) here rule n f (taken_by x.0 next) x.1 fits;
+          next_is = turn_takes i (length stack) here m.rule m.length f (taken_by x.0 next) x.1 fits;
           next_counted = omega (arith, length-append takes one, counted);
           next_ready = x.2;
         }
 
-    by_flag : (b : Bool) → bit t.skips rule ≡ b
-        → let x = turn_by b stack n s (take_step bytes (drop 384 t.tables) t.productions t.empty stack s.depth s.first rule) in
-        TurnIs (machine_turn (found.Rule rule n)) x.stack x.outcome
+    by_flag : (b : Bool) → bit t.skips m.rule ≡ b
+        → let x = turn_by b stack m.length s (take_step bytes (drop 384 t.tables) t.productions t.empty stack s.depth s.first m.rule) in
+        TurnIs (machine_turn (Some m)) x.stack x.outcome
     unfolding turn_by match_of
     by_flag true e = record {
       next_takes = takes;
-      next_is = turn_skips i (length stack) here rule n (sym (decoded.skips rule) ∙ e);
+      next_is = turn_skips i (length stack) here m.rule m.length (sym (decoded.skips m.rule) ∙ e);
       next_counted = counted;
       next_ready = ready;
     }
     by_flag false e =
-        by_take _ _ (sym (decoded.skips rule) ∙ e)
-        (take_leads bytes (drop 384 t.tables) t.productions t.empty i.rows t.nonterminals stack s.depth s.first rule small ready)
+        by_take _ _ (sym (decoded.skips m.rule) ∙ e)
+        (take_leads bytes (drop 384 t.tables) t.productions t.empty i.rows t.nonterminals stack s.depth s.first m.rule small ready)
 
-  abbrev step : Found → TurnStep
+  abbrev step : Option Match → TurnStep
   step f = turn_step bytes (drop 384 t.tables) t.productions t.empty t.skips stack f s
 
-  turn_is : (f : Found) → MatchFits f s → TurnIs (machine_turn f) (step f).stack (step f).outcome
+  turn_is : (f : Option Match) → MatchFits f s → TurnIs (machine_turn f) (step f).stack (step f).outcome
   unfolding turn_step match_of
-  turn_is found.Nothing h = (turn_unmatched i (length stack) here, refl, refl)
-  turn_is (found.Rule rule n) h = by_flag rule n h.0 (bit t.skips rule) refl
+  turn_is None h = (turn_unmatched i (length stack) here, refl, refl)
+  turn_is (Some m) h = by_flag m h.0 (bit t.skips m.rule) refl
 
   -- A turn that ends with an answer, and one that goes on.
-  pub turn_done : (f : Found) → MatchFits f s → (a : RunAnswer) → (step f).outcome ≡ Done a
+  pub turn_done : (f : Option Match) → MatchFits f s → (a : RunAnswer) → (step f).outcome ≡ Err a
       → (machine_turn f ≡ run.ends a.number) × (a.place ≡ s.place) × (a.count ≡ s.count)
   turn_done f h a e = subst (TurnIs (machine_turn f) (step f).stack) e (turn_is f h)
 
-  pub turn-next : (f : Found) → MatchFits f s → (stack' : List ℕ) (s' : State) → stack' ≡ (step f).stack → (step f).outcome ≡ Next s'
+  pub turn-next : (f : Option Match) → MatchFits f s → (stack' : List ℕ) (s' : State) → stack' ≡ (step f).stack → (step f).outcome ≡ Ok s'
       → GoesOn (machine_turn f) stack' s'
   turn-next f h stack' s' g e =
       subst (λ (l : List ℕ). GoesOn (machine_turn f) l s') (sym g) (subst (TurnIs (machine_turn f) (step f).stack) e (turn_is f h))

@@ -11,9 +11,6 @@ use Rattle.machine_turn.proofs.push_tail.Goals.{At-loop-left}
 pub loop-left-init : goal.loop-left-init
 loop-left-init c = (omega arith, omega arith, push_start c.args.image.now _ c.args.at c.args.size c.args.base)
 
-pub overflow_sub-left : goal.overflow_sub-left
-overflow_sub-left c = omega arith
-
 pub overflow_add-stack : goal.overflow_add-stack
 overflow_add-stack c = omega arith
 
@@ -23,9 +20,6 @@ bounds-image-at c = omega arith
 -- The stack keeps its length.
 kept : (c : At-loop-left) → length c.loop-left.stack ≡ length c.args.stack.now
 kept c = ap length c.loop-left.invariant.2 ∙ length-pushed c.args.stack.now _ _
-
-pub loop-left-smaller : goal.loop-left-smaller
-loop-left-smaller c = omega arith
 
 pub loop-left-preserved : goal.loop-left-preserved
 loop-left-preserved c =

@@ -8,6 +8,3 @@ use Rattle.machine_turn.proofs.push_tail.Given as goal
 abbrev pub invariant-loop-left : goal.invariant-loop-left
 invariant-loop-left l =
     (l.left ≤ l.size) × (l.top + l.left ≡ l.base + l.size) × (l.stack ≡ pushed l.initial.stack l.base (part l.image (l.at + l.left) (l.size - l.left)))
-
-abbrev pub decreases-loop-left : goal.decreases-loop-left
-decreases-loop-left l = l.left

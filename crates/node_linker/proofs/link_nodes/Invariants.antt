@@ -1,13 +1,10 @@
 -- `node_linker::link_nodes` meets its contract. The loop's invariant: the pass has come to
 -- the present node, for whatever expression the columns hold.
-use Prim.Native.Nat.{◌-◌, ◌≤◌}
+use Prim.Native.Nat.{◌≤◌}
 use Rattle.node_linker.proofs.Turn.{walk}
 use Rattle.node_linker.proofs.Ends.{WalkingFor}
 use Rattle.node_linker.proofs.link_nodes.Given as goal
 
 abbrev pub invariant-loop-i : goal.invariant-loop-i
 invariant-loop-i l =
-    (l.i ≤ l.nodes.count) × (l.nodes.count ≤ 64) × WalkingFor l.nodes l.i (walk l.link l.guarded l.owner l.stack l.height)
-
-abbrev pub decreases-loop-i : goal.decreases-loop-i
-decreases-loop-i l = l.nodes.count - l.i
+    (l.nodes.count ≤ 64) × WalkingFor l.nodes l.i (walk l.link l.guarded l.owner l.stack l.height)

@@ -10,7 +10,7 @@ use borrow.Author.Tests.{eq-eqb, ne_eqb, le-leb, lt-leb, lt-ltb, le-ltb, leb-tru
 use Rattle.basics.proofs.laws.Truth.{true_holds}
 use Rattle.basics.specs.Meeting.{is_met, meet, number_of}
 use Rattle.basics.proofs.laws.MeetingLaws.{met-last, number_below, number_left, number-last}
-use Rattle.node_numbering.specs.Grammar.{Numbers, numbering_of, start_numbering, numbering_after}
+use Rattle.node_numbering.specs.Grammar.{Numbers, Within, numbering_of, start_numbering, numbering_after}
 use Rattle.node_numbering.specs.declared.Numbering.{Numbering}
 
 -- ---- the start
@@ -24,6 +24,10 @@ start-numbers : (n : ℕ) → n < 64 → get_or (0 ∷ replicate 63 64) n 0 ≡ 
 unfolding is_met number_of
 start-numbers zero h = refl
 start-numbers (suc n) h = rw (ne_eqb 0 (suc n) (omega arith)) (all_same 63 n 64 0 (omega arith))
+
+pub start_within : Within start_numbering
+unfolding start_numbering
+start_within = record { count = omega arith; met = refl; number = refl }
 
 pub start-met : Numbers start_numbering (0 ∷ [])
 unfolding start_numbering
@@ -80,6 +84,9 @@ module _ (c d : Numbering) (n : ℕ) (after : d ≡ numbering_after c n) where
   number-length = subst (λ (x : Numbering). length x.number ≡ length c.number) (sym after)
       (in_each_case c n (λ x. length x.number ≡ length c.number) (λ _. refl) (λ _. refl) (λ _ _. refl)
       (λ _ _ _. length-set c.number n c.count))
+
+  pub within_after : Within c → Within d
+  within_after h = record { count = count_within h.count; met = met-length ∙ h.met; number = number-length ∙ h.number }
 
 -- ---- one node: what the numbering then holds
 

@@ -7,6 +7,6 @@ pub returns-then-count-eq1 : goal.returns-then-count-eq1
 unfolding fewest
 returns-then-count-eq1 c = rw (eq-eqb _ _ c.if-count-eq1.true)
 
-pub returns : goal.returns
+pub returns-else-count-eq1 : goal.returns-else-count-eq1
 unfolding fewest
-returns c = rw (ne_eqb _ _ c.if-count-eq1.false)
+returns-else-count-eq1 c = rw (ne_eqb _ _ c.if-count-eq1.false)

@@ -1,11 +1,11 @@
 -- Lemmas behind `Laws`: what the groups at the front of some bytes are, what an accepted number says of them, and which bytes are groups of
 -- a number, with how many there are. Nothing here is meant to be cited by other crates.
-use Rattle.std.specs.Prelude.{ℕ, zero, suc, ◌+◌, ◌*◌, ◌^◌, ◌/◌, ◌%◌, ◌≤◌, ◌<◌, ◌≡◌, refl, List, [], ◌∷◌, ◌++◌, Bool, true, false, cond, ◌||◌, leb, ltb, eqb, length, get_or, take}
+use Rattle.std.specs.Prelude.{ℕ, zero, suc, ◌+◌, ◌*◌, ◌^◌, ◌/◌, ◌%◌, ◌≤◌, ◌<◌, ◌≡◌, refl, List, [], ◌∷◌, ◌++◌, Bool, true, false, cond, ◌||◌, leb, ltb, eqb, length, get_or, take, None}
 use Rattle.std.proofs.Common.{sym, ap, ap₂, subst, ◌∙◌, ⊎_elim, arith, shr_lt, lt-ltb, le-ltb, le-leb, eq-eqb, ltb-true, ltb-false, leb-true, eqb-true}
 use Rattle.basics.proofs.laws.Order.{lt-or-le}
+use Rattle.number.specs.declared.Number.{Number}
 use Rattle.number.specs.Number.{InGroups, last_group, then_groups, Groups, last, more, count, value, highest}
-use Rattle.number.specs.Number.{Front, cut, whole, followed, front, fewest, judged, number_from, encode_in}
-use Rattle.number.specs.declared.Number.TheVariants.{Read, Refused}
+use Rattle.number.specs.Number.{Front, cut, whole, followed, front, fewest, judged, number_from, encode_in, read}
 
 -- ---- groups
 
@@ -21,8 +21,14 @@ highest-value (more g gs) = omega (arith, highest-value gs)
 
 -- ---- what an accepted number says
 
-pub refused_read : {A : Type 0} {v n : ℕ} {p : Bool} → Refused ≡ Read v n p → A
+pub refused_read : {A : Type 0} {v n : ℕ} {p : Bool} → None ≡ read v n p → A
 refused_read {A} {v} {n} {p} e = let z : ◌≡◌ {A = ℕ} 0 1 = cc in absurd (omega arith)
+
+-- Two numbers that are read are one number.
+pub read_same : {v w n m : ℕ} {p q : Bool} → read v n p ≡ read w m q → (v ≡ w) × (n ≡ m) × (p ≡ q)
+read_same {v} {w} {n} {m} {p} {q} e =
+    let same : ◌≡◌ {A = Number} (record { value = v; used = n; fewest = p }) (record { value = w; used = m; fewest = q }) = cc in
+    (ap (λ (r : Number). r.value) same, ap (λ (r : Number). r.used) same, ap (λ (r : Number). r.fewest) same)
 
 -- The two tests, passed.
 pub record JudgedRead (groups top n v w : ℕ) (p : Bool) : Type 0 where
@@ -33,18 +39,19 @@ pub record JudgedRead (groups top n v w : ℕ) (p : Bool) : Type 0 where
   pub below : n < 2 ^ 64
 
 accepted_cases : (x y : Bool) (groups top n : ℕ) {v w : ℕ} {p : Bool} → leb groups 10 ≡ x → ltb n (2 ^ 64) ≡ y
-    → cond x (cond y (Read n groups (fewest groups top)) Refused) Refused ≡ Read v w p → JudgedRead groups top n v w p
+    → cond x (cond y (read n groups (fewest groups top)) None) None ≡ read v w p → JudgedRead groups top n v w p
 accepted_cases true true g t n {v} {w} {p} hx hy e =
-    record { is_value = cc; is_count = cc; is_fewest = cc; ten = leb-true g 10 hx; below = ltb-true n _ hy }
+    let same = read_same e in
+    record { is_value = sym same.0; is_count = sym same.1; is_fewest = sym same.2; ten = leb-true g 10 hx; below = ltb-true n _ hy }
 accepted_cases true false g t n hx hy e = refused_read e
 accepted_cases false y g t n hx hy e = refused_read e
 
-pub accepted : (groups top n : ℕ) {v w : ℕ} {p : Bool} → judged groups top n ≡ Read v w p → JudgedRead groups top n v w p
+pub accepted : (groups top n : ℕ) {v w : ℕ} {p : Bool} → judged groups top n ≡ read v w p → JudgedRead groups top n v w p
 unfolding judged
 accepted g t n e = accepted_cases (leb g 10) (ltb n (2 ^ 64)) g t n refl refl e
 
 -- The other way: what passes the two tests is accepted.
-pub judged-read : (groups top n : ℕ) → groups ≤ 10 → n < 2 ^ 64 → judged groups top n ≡ Read n groups (fewest groups top)
+pub judged-read : (groups top n : ℕ) → groups ≤ 10 → n < 2 ^ 64 → judged groups top n ≡ read n groups (fewest groups top)
 unfolding judged
 judged-read g t n h b = rw (le-leb g 10 h, lt-ltb n (2 ^ 64) b)
 
@@ -76,12 +83,12 @@ pub record Found (s : List ℕ) (v w : ℕ) (p : Bool) : Type 0 where
   pub at_front : front s ≡ whole gs
   pub passed : JudgedRead (count gs) (highest gs) (value gs) v w p
 
-found_cases : (f : Front) (s : List ℕ) {v w : ℕ} {p : Bool} → front s ≡ f → number_from f ≡ Read v w p → Found s v w p
+found_cases : (f : Front) (s : List ℕ) {v w : ℕ} {p : Bool} → front s ≡ f → number_from f ≡ read v w p → Found s v w p
 unfolding number_from
 found_cases cut s h e = refused_read e
 found_cases (whole gs) s h e = record { gs = gs; at_front = h; passed = accepted (count gs) (highest gs) (value gs) e }
 
-pub found : (s : List ℕ) {v w : ℕ} {p : Bool} → number_from (front s) ≡ Read v w p → Found s v w p
+pub found : (s : List ℕ) {v w : ℕ} {p : Bool} → number_from (front s) ≡ read v w p → Found s v w p
 found s e = found_cases (front s) s refl e
 
 -- ---- the groups at the front, by the first byte

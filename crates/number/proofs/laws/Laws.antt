@@ -1,16 +1,16 @@
 -- The laws of numbers, for readers of the definitions and for other crates to cite: reading finds just what is written in groups, and
 -- tells whether the bytes were the fewest; nothing past the end is looked at, and no two numbers share their bytes. What writing leaves
 -- in a buffer is in `Splice`.
-use Rattle.std.specs.Prelude.{ℕ, zero, suc, ◌+◌, ◌^◌, ◌≤◌, ◌<◌, ◌≡◌, refl, Bool, true, false, List, [], ◌++◌, ◌↔◌, length, get_or, take, drop}
+use Rattle.std.specs.Prelude.{ℕ, zero, suc, ◌+◌, ◌^◌, ◌≤◌, ◌<◌, ◌≡◌, refl, Bool, true, false, cond, List, [], ◌++◌, ◌↔◌, length, get_or, take, drop, Option, Some, None}
 use Rattle.std.proofs.Common.{sym, ap, ap₂, subst, ◌∙◌, ⊎_elim, arith, length-take, length-drop, take-append-drop, get_or-drop, length-take-le}
 use Rattle.std.proofs.Math.Seq.{drop-append-add}
 use Rattle.basics.proofs.laws.Order.{lt-or-le}
-use Rattle.number.specs.Number.{InGroups, whole, count, value, highest, front, fewest, number_from, decode, unpadded, decode_fewest, encode_in, encode}
-use Rattle.number.proofs.laws.Groups.{count_positive, judged-read, refused_read, fewest_alone, fewest_is, found}
+use Rattle.number.specs.Number.{InGroups, whole, count, value, highest, front, fewest, number_from, decode, unpadded, decode_fewest, encode_in, encode, read}
+use Rattle.number.proofs.laws.Groups.{count_positive, judged-read, fewest_alone, fewest_is, found}
+pub use Rattle.number.proofs.laws.Groups.{refused_read, read_same}
 use Rattle.number.proofs.laws.Groups.{front_within, front-kept, front_small, groups_in_front, front_in_groups, groups_same, one_wider}
 use Rattle.number.proofs.laws.Groups.{encode_in_groups, encode_in-fewest, fewest_as_many, as_many_fewest, length-encode_in, encode_in_there, encode_in_bytes}
 use Rattle.number.specs.declared.Number.{Number}
-use Rattle.number.specs.declared.Number.TheVariants.{Read, Refused}
 
 -- ---- the bytes of a number
 
@@ -66,7 +66,7 @@ pub record Within (s : List ℕ) (at v n : ℕ) : Type 0 where
   pub ten : n ≤ 10
   pub below : v < 2 ^ 64
 
-pub decode_within : (s : List ℕ) (at : ℕ) {v n : ℕ} {p : Bool} → decode s at ≡ Read v n p → Within s at v n
+pub decode_within : (s : List ℕ) (at : ℕ) {v n : ℕ} {p : Bool} → decode s at ≡ read v n p → Within s at v n
 unfolding decode
 decode_within s at {v} {n} {p} e =
     let f = found (drop at s) e in
@@ -79,8 +79,8 @@ decode_within s at {v} {n} {p} e =
     }
 
 -- Only those that it used: where the same stand, the same is read.
-pub decode-kept : (s : List ℕ) (at : ℕ) (t : List ℕ) (k : ℕ) {v n : ℕ} {p : Bool} → decode s at ≡ Read v n p
-    → take n (drop k t) ≡ take n (drop at s) → decode t k ≡ Read v n p
+pub decode-kept : (s : List ℕ) (at : ℕ) (t : List ℕ) (k : ℕ) {v n : ℕ} {p : Bool} → decode s at ≡ read v n p
+    → take n (drop k t) ≡ take n (drop at s) → decode t k ≡ read v n p
 unfolding decode
 decode-kept s at t k {v} {n} {p} e h =
     let f = found (drop at s) e in
@@ -94,7 +94,7 @@ decode-kept s at t k {v} {n} {p} e h =
 -- ---- reading what is in groups
 
 -- Whatever is read is in groups.
-pub decode_groups : (s : List ℕ) (at : ℕ) {v n : ℕ} {p : Bool} → ((i : ℕ) → get_or s i 0 < 256) → decode s at ≡ Read v n p
+pub decode_groups : (s : List ℕ) (at : ℕ) {v n : ℕ} {p : Bool} → ((i : ℕ) → get_or s i 0 < 256) → decode s at ≡ read v n p
     → InGroups v (take n (drop at s))
 unfolding decode
 decode_groups s at {v} {n} hb e =
@@ -104,7 +104,7 @@ decode_groups s at {v} {n} hb e =
     (subst (λ (x : ℕ). InGroups x (take (count f.gs) (drop at s))) (sym f.passed.is_value) g)
 
 -- The answer says whether they are as many as are written.
-fewest_as_written : (s : List ℕ) (at : ℕ) {v n : ℕ} {p : Bool} → decode s at ≡ Read v n p → (p ≡ true) ↔ (n ≡ length (encode v))
+fewest_as_written : (s : List ℕ) (at : ℕ) {v n : ℕ} {p : Bool} → decode s at ≡ read v n p → (p ≡ true) ↔ (n ≡ length (encode v))
 unfolding decode encode
 fewest_as_written s at {v} {n} {p} e =
     let f = found (drop at s) e in
@@ -118,7 +118,7 @@ fewest_as_written s at {v} {n} {p} e =
     )
 
 -- So it says whether the bytes read were the fewest: no groups of that number are fewer.
-pub fewest_exactly : (s : List ℕ) (at : ℕ) {v n : ℕ} {p : Bool} → ((i : ℕ) → get_or s i 0 < 256) → decode s at ≡ Read v n p
+pub fewest_exactly : (s : List ℕ) (at : ℕ) {v n : ℕ} {p : Bool} → ((i : ℕ) → get_or s i 0 < 256) → decode s at ≡ read v n p
     → (p ≡ true) ↔ ((bytes : List ℕ) → InGroups v bytes → n ≤ length bytes)
 fewest_exactly s at {v} {n} {p} hb e =
     let same = fewest_as_written s at e in
@@ -130,7 +130,7 @@ fewest_exactly s at {v} {n} {p} hb e =
 
 -- Whatever stands in at most ten groups and is below 2^64 is read, at any place of any bytes.
 pub groups_decode : (s : List ℕ) (at k : ℕ) {n : ℕ} → InGroups n (take k (drop at s)) → at + k ≤ length s → k ≤ 10 → n < 2 ^ 64
-    → (p : Bool) × (decode s at ≡ Read n k p)
+    → (p : Bool) × (decode s at ≡ read n k p)
 unfolding decode number_from
 groups_decode s at k {n} g inside ten below =
     let rest = drop k (drop at s) in
@@ -142,34 +142,37 @@ groups_decode s at k {n} g inside ten below =
       p,
       ap number_from there
           ∙ judged-read (count f.gs) (highest f.gs) (value f.gs) (omega arith) (omega (arith, f.is_value))
-          ∙ ap₂ (λ (x y : ℕ). Read x y p) f.is_value many,
+          ∙ ap₂ (λ (x y : ℕ). read x y p) f.is_value many,
     )
 
 -- ---- numbers in the fewest bytes, as an image has them
 
 -- By what the reader found: no number, a padded one, or one in its fewest bytes.
 module _ (s : List ℕ) (at : ℕ) where
-  pub none-fewest : decode s at ≡ Refused → decode_fewest s at ≡ Refused
+  pub none-fewest : decode s at ≡ None → decode_fewest s at ≡ None
   unfolding decode_fewest unpadded
   none-fewest e = rw e
 
-  pub padded_refused : {v n : ℕ} {p : Bool} → decode s at ≡ Read v n p → p ≡ false → decode_fewest s at ≡ Refused
+  pub padded_refused : {v n : ℕ} {p : Bool} → decode s at ≡ read v n p → p ≡ false → decode_fewest s at ≡ None
   unfolding decode_fewest unpadded
   padded_refused e h = rw (e, h)
 
-  pub fewest-read : {v n : ℕ} {p : Bool} → decode s at ≡ Read v n p → p ≡ true → decode_fewest s at ≡ Read v n p
+  pub fewest-read : {v n : ℕ} {p : Bool} → decode s at ≡ read v n p → p ≡ true → decode_fewest s at ≡ read v n p
   unfolding decode_fewest unpadded
   fewest-read e h = rw (e, h)
 
 -- What is read there is read with the fewest bytes.
-unpadded-read : (m : Number) {v n : ℕ} {p : Bool} → unpadded m ≡ Read v n p → m ≡ Read v n true
+unpadded-read : (m : Option Number) {v n : ℕ} {p : Bool} → unpadded m ≡ read v n p → m ≡ read v n true
 unfolding unpadded
-unpadded-read Refused e = refused_read e
-unpadded-read (Read w k true) e = cc
-unpadded-read (Read w k false) e = refused_read e
+unpadded-read None e = refused_read e
+unpadded-read (Some r) {v} {n} {p} e = by_flag r.fewest refl e
+  where
+    by_flag : (b : Bool) → r.fewest ≡ b → cond b (Some r) None ≡ read v n p → Some r ≡ read v n true
+    by_flag true h e = e ∙ ap (λ (b : Bool). read v n b) (sym (read_same e).2 ∙ h)
+    by_flag false h e = refused_read e
 
-module _ (s : List ℕ) (at : ℕ) {v n : ℕ} {p : Bool} (e : decode_fewest s at ≡ Read v n p) where
-  pub decode-unpadded : decode s at ≡ Read v n true
+module _ (s : List ℕ) (at : ℕ) {v n : ℕ} {p : Bool} (e : decode_fewest s at ≡ read v n p) where
+  pub decode-unpadded : decode s at ≡ read v n true
   unfolding decode_fewest
   decode-unpadded = unpadded-read (decode s at) e
 
@@ -187,15 +190,15 @@ module _ (s : List ℕ) (at : ℕ) {v n : ℕ} {p : Bool} (e : decode_fewest s a
 
 -- Where the bytes of a number stand, that number is read.
 pub decode_there : (s : List ℕ) (at n : ℕ) → n < 2 ^ 64 → take (length (encode n)) (drop at s) ≡ encode n
-    → decode s at ≡ Read n (length (encode n)) true
+    → decode s at ≡ read n (length (encode n)) true
 decode_there s at n h e =
     let w = encode_ten n in
     let i : at + length (encode n) ≤ length s = omega (arith, ap length e, length-take (length (encode n)) (drop at s), length-drop at s, encode_there n) in
     let r = groups_decode s at (length (encode n)) (subst (InGroups n) (sym e) (encode_groups n h)) i w h in
-    r.1 ∙ ap (λ (p : Bool). Read n (length (encode n)) p) ((fewest_as_written s at r.1).1 refl)
+    r.1 ∙ ap (λ (p : Bool). read n (length (encode n)) p) ((fewest_as_written s at r.1).1 refl)
 
 pub fewest_there : (s : List ℕ) (at n : ℕ) → n < 2 ^ 64 → take (length (encode n)) (drop at s) ≡ encode n
-    → decode_fewest s at ≡ Read n (length (encode n)) true
+    → decode_fewest s at ≡ read n (length (encode n)) true
 unfolding decode_fewest unpadded
 fewest_there s at n h e = rw (decode_there s at n h e)
 

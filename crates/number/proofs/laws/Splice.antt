@@ -1,6 +1,6 @@
 -- The laws of writing: what a buffer holds after one number, or after several one after another, was written into it.
 -- Lists of numbers are not defined here: a caller joins the bytes of its numbers by `splice-splice`.
-use Rattle.std.specs.Prelude.{ℕ, ◌+◌, ◌≤◌, ◌<◌, ◌≡◌, refl, List, [], ◌++◌, take, drop}
+use Rattle.std.specs.Prelude.{ℕ, ◌+◌, ◌≤◌, ◌<◌, ◌≡◌, refl, List, [], ◌++◌, take, drop, Some, None}
 use Rattle.std.proofs.Common.{sym, ap, ap₂, ◌∙◌, append_assoc, ⊎_elim, arith, add_assoc, length-append, length-take, length-drop, take-append-drop, take_at, drop_at, le-leb}
 use Rattle.std.proofs.Math.ListN.{length}
 use Rattle.std.proofs.Math.Seq.{drop-drop}
@@ -63,7 +63,7 @@ module _ (part : List ℕ) (n : ℕ) where
   unfolding written
   written_fits h = rw (le-leb (length (encode n)) (length part))
 
-  pub used_fits : length (encode n) ≤ length part → used part n ≡ length (encode n)
+  pub used_fits : length (encode n) ≤ length part → used part n ≡ Some (length (encode n))
   unfolding used
   used_fits h = rw (le-leb (length (encode n)) (length part))
 
@@ -71,7 +71,7 @@ module _ (part : List ℕ) (n : ℕ) where
   unfolding written
   written_short h = rw (lt-leb (length (encode n)) (length part))
 
-  pub used_short : length part < length (encode n) → used part n ≡ 0
+  pub used_short : length part < length (encode n) → used part n ≡ None
   unfolding used
   used_short h = rw (lt-leb (length (encode n)) (length part))
 
@@ -90,7 +90,7 @@ module _ (d : List ℕ) (at n : ℕ) where
       let l : length (encode n) ≤ length (drop at d) = rw (length-drop at d) (omega arith) in
       rw (written_fits (drop at d) n l, drop-drop (length (encode n)) at d)
 
-  pub used_at_fits : at + length (encode n) ≤ length d → used_at d at n ≡ length (encode n)
+  pub used_at_fits : at + length (encode n) ≤ length d → used_at d at n ≡ Some (length (encode n))
   unfolding used_at
   used_at_fits h = used_fits (drop at d) n (rw (length-drop at d) (omega arith))
 
@@ -100,16 +100,16 @@ module _ (d : List ℕ) (at n : ℕ) where
       let l : length (drop at d) < length (encode n) = rw (length-drop at d) (omega (arith, encode_there n)) in
       rw (written_short (drop at d) n l) (take-append-drop at d)
 
-  pub used_at_short : length d < at + length (encode n) → used_at d at n ≡ 0
+  pub used_at_short : length d < at + length (encode n) → used_at d at n ≡ None
   unfolding used_at
   used_at_short h = used_short (drop at d) n (rw (length-drop at d) (omega (arith, encode_there n)))
 
   -- The answer tells which of the two it was.
-  pub used_at-none : used_at d at n ≡ 0 → length d < at + length (encode n)
-  used_at-none e = ⊎_elim (λ h. h) (λ h. absurd (omega (arith, used_at_fits h, encode_there n))) (lt-or-le (length d) (at + length (encode n)))
+  pub used_at-none : used_at d at n ≡ None → length d < at + length (encode n)
+  used_at-none e = ⊎_elim (λ h. h) (λ h. let k : Some (length (encode n)) ≡ None = sym (used_at_fits h) ∙ e in cc) (lt-or-le (length d) (at + length (encode n)))
 
-  pub used_at-some : 0 < used_at d at n → at + length (encode n) ≤ length d
-  used_at-some e = ⊎_elim (λ h. absurd (omega (arith, used_at_short h))) (λ h. h) (lt-or-le (length d) (at + length (encode n)))
+  pub used_at-some : {w : ℕ} → used_at d at n ≡ Some w → at + length (encode n) ≤ length d
+  used_at-some {w} e = ⊎_elim (λ h. let k : None ≡ Some w = sym (used_at_short h) ∙ e in cc) (λ h. h) (lt-or-le (length d) (at + length (encode n)))
 
   pub length-written_at : length (written_at d at n) ≡ length d
   length-written_at = ⊎_elim

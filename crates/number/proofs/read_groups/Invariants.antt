@@ -7,9 +7,9 @@ use Rattle.number.specs.Number.{front, decode}
 use Rattle.number.proofs.Reading.{after}
 use Rattle.number.proofs.read_groups.Given as goal
 
-abbrev pub invariant-loop-i : goal.invariant-loop-i
-invariant-loop-i l =
+abbrev pub invariant-loop-byte : goal.invariant-loop-byte
+invariant-loop-byte l =
     (l.count < 10) × (l.scale ≡ 2 ^ (7 * l.count)) × (l.value < l.scale) × (decode l.bytes l.at ≡ after l.count l.scale l.value (front (drop l.i l.bytes)))
 
-abbrev pub decreases-loop-i : goal.decreases-loop-i
-decreases-loop-i l = 10 - l.count
+abbrev pub decreases-loop-byte : goal.decreases-loop-byte
+decreases-loop-byte l = 10 - l.count

@@ -1,19 +1,12 @@
 -- `position_finder::empty_rule` meets its contract, by those of its steps.
-use borrow.Author.Rules.{rules}
 use Rattle.position_finder.proofs.Joined.{regexes_of, tags_held, empty_answered}
 use Rattle.position_finder.proofs.empty_rule.Goals as goal
-
-pub overflow_cast-count : goal.overflow_cast-count
-overflow_cast-count c = search rules
 
 pub flags_of-flags-requires : goal.flags_of-flags-requires
 flags_of-flags-requires c =
     let z = c.before in
     let w = z.requires in
     (regexes_of w.0, tags_held z.args.rules w.0 w.1 w.2)
-
-pub first_up-requires : goal.first_up-requires
-first_up-requires c = search rules
 
 pub returns : goal.returns
 returns c =

@@ -2,14 +2,10 @@
 use mathlib.Core.Path.{◌≡◌}
 use mathlib.Core.Bool.{Bool, false}
 use mathlib.Core.List.{List}
-use Prim.Native.Nat.{◌≤◌, ◌-◌}
 use lib.ListN.{length, drop}
 use Rattle.position_finder.specs.Stacks.{Stacked, first_up}
 use Rattle.position_finder.proofs.first_up.Given as goal
 
 abbrev pub invariant-loop-k : goal.invariant-loop-k
 invariant-loop-k l =
-    (l.k ≤ l.count) × ((up : List Bool) → Stacked false l.flags up → l.count ≡ length up → first_up (drop l.k up) l.k ≡ first_up up 0)
-
-abbrev pub decreases-loop-k : goal.decreases-loop-k
-decreases-loop-k l = l.count - l.k
+    (up : List Bool) → Stacked false l.flags up → l.count ≡ length up → first_up (drop l.k up) l.k ≡ first_up up 0

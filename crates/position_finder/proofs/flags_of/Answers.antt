@@ -12,37 +12,19 @@ turn_at c =
     let z = c.before.before in
     let l = c.loop-at in
     let w = z.requires in
-    flag_turn _ _ w.0 _ l.flags _ w.1 c.loop-at-test.true l.invariant.0 (l.invariant.1 w.0 w.1)
+    flag_turn _ _ w.0 _ l.flags _ w.1 c.loop-at-test.true l.auto.at (l.invariant w.0 w.1)
 
 pub loop-at-init : goal.loop-at-init
-loop-at-init c = (omega arith, λ rs h. flagged_start c.args.tag.now c.args.items rs h)
-
-pub overflow_sub-at : goal.overflow_sub-at
-overflow_sub-at c = omega arith
-
-pub bounds-tag-at : goal.bounds-tag-at
-bounds-tag-at c = omega (arith, c.requires.1.nodes_fit)
+loop-at-init c = λ rs h. flagged_start c.args.tag.now c.args.items rs h
 
 pub bounds-flags-top : goal.bounds-flags-top
 bounds-flags-top c = omega (arith, (turn_at c.before.before.before).most)
 
-pub overflow_sub-top : goal.overflow_sub-top
-overflow_sub-top c = (turn_at c.before.before.before).least
-
 pub bounds-flags-top-in-loop-at : goal.bounds-flags-top-in-loop-at
 bounds-flags-top-in-loop-at c = omega (arith, (turn_at c.before.before.before).most)
 
-pub flag_of-flag-requires : goal.flag_of-flag-requires
-flag_of-flag-requires c = tt
-
 pub overflow_add-top : goal.overflow_add-top
 overflow_add-top c = omega (arith, (turn_at c.before.before.before.before).most)
-
-pub bounds-tag-at-in-loop-at : goal.bounds-tag-at-in-loop-at
-bounds-tag-at-in-loop-at c = omega (arith, c.requires.1.nodes_fit)
-
-pub parts_of-requires : goal.parts_of-requires
-parts_of-requires c = tt
 
 pub overflow_sub-top-in-loop-at : goal.overflow_sub-top-in-loop-at
 overflow_sub-top-in-loop-at c = omega (arith, (turn_at c.before.before.before.before.before.before).parts_most, c.parts_of.ensures)
@@ -50,22 +32,17 @@ overflow_sub-top-in-loop-at c = omega (arith, (turn_at c.before.before.before.be
 pub bounds-flags-top-in-loop-at-2 : goal.bounds-flags-top-in-loop-at-2
 bounds-flags-top-in-loop-at-2 c = omega (arith, (turn_at c.before.before.before.before.before.before).most)
 
-pub loop-at-smaller : goal.loop-at-smaller
-loop-at-smaller c = omega arith
-
 pub loop-at-preserved : goal.loop-at-preserved
 loop-at-preserved c =
     let f = c.before.before.before in
     let i = f.before.before in
     let l = i.loop-at in
-    let z = i.args in (
-      omega arith,
-      λ rs h. flagged_more z.tag.now z.items rs _ l.flags _ h i.loop-at-test.true l.invariant.0 (l.invariant.1 rs h) _ _
-          f.flag_of-flag.ensures c.parts_of.ensures,
-    )
+    let z = i.args in
+    λ rs h. flagged_more z.tag.now z.items rs _ l.flags _ h i.loop-at-test.true l.auto.at (l.invariant rs h) _ _
+    f.flag_of-flag.ensures c.parts_of.ensures
 
 pub returns : goal.returns
 returns c =
     let l = c.loop-at in
     let e : l.at ≡ 0 = omega arith in
-    λ rs h. flagged_end rs l.flags l.top (subst (λ (n : ℕ). Flagged rs n l.flags l.top) e (l.invariant.1 rs h))
+    λ rs h. flagged_end rs l.flags l.top (subst (λ (n : ℕ). Flagged rs n l.flags l.top) e (l.invariant rs h))

@@ -1,28 +1,12 @@
 use native.Mathlib.Omega.{arith}
 use Prim.Native.Nat.{◌-◌}
 use lib.Bits.{and_le_l}
-use lib.Count.{trailing_le}
 use Rattle.basics.proofs.laws.LowestMember.{lowest, ones_cleared}
 use Rattle.position_finder.proofs.Changes.{joined_start, joined_step, joined_end}
 use Rattle.position_finder.proofs.join_follow.Goals as goal
 
 pub loop-left-init : goal.loop-left-init
 loop-left-init c = (c.requires, omega arith, joined_start _ _ _ c.requires)
-
-pub overflow_cast-i : goal.overflow_cast-i
-overflow_cast-i c = omega (arith, trailing_le 64 c.loop-left.left)
-
-pub offset_bounds-follow-i : goal.offset_bounds-follow-i
-offset_bounds-follow-i c = let l = c.loop-left in omega (arith, (lowest 64 l.left c.loop-left-test.true l.invariant.1).small)
-
-pub bounds-follow-i : goal.bounds-follow-i
-bounds-follow-i c = let l = c.loop-left in (lowest 64 l.left c.loop-left-test.true l.invariant.1).small
-
-pub bounds-follow-i-in-loop-left : goal.bounds-follow-i-in-loop-left
-bounds-follow-i-in-loop-left c = let l = c.loop-left in (lowest 64 l.left c.loop-left-test.true l.invariant.1).small
-
-pub overflow_sub-left : goal.overflow_sub-left
-overflow_sub-left c = let some = c.loop-left-test.true in omega arith
 
 pub loop-left-smaller : goal.loop-left-smaller
 loop-left-smaller c =

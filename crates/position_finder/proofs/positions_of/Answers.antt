@@ -1,10 +1,6 @@
 -- `position_finder::positions_of` meets its contract, by those of its steps.
-use borrow.Author.Rules.{rules}
 use Rattle.position_finder.proofs.Joined.{regexes_of, regexes-held, rules-counted, answered}
 use Rattle.position_finder.proofs.positions_of.Goals as goal
-
-pub overflow_cast-count : goal.overflow_cast-count
-overflow_cast-count c = search rules
 
 pub sweep-forest-requires : goal.sweep-forest-requires
 sweep-forest-requires c =

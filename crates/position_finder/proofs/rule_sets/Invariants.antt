@@ -1,6 +1,5 @@
 -- `position_finder::rule_sets` meets its contract. The invariant: for all regexes that the stack may hold, the first k of them are done.
 use mathlib.Core.List.{List}
-use Prim.Native.Nat.{◌≤◌, ◌-◌}
 use lib.ListN.{drop}
 use Rattle.sheet.specs.Regex.{Regex}
 use Rattle.position_finder.specs.Forests.{RulesStacked}
@@ -9,7 +8,4 @@ use Rattle.position_finder.proofs.rule_sets.Given as goal
 
 abbrev pub invariant-loop-k : goal.invariant-loop-k
 invariant-loop-k l =
-    (l.k ≤ l.count) × ((rs : List Regex) → RulesStacked l.stack l.count rs → Gathering rs (drop l.k rs) l.stack l.k l.base l.first l.last l.rule)
-
-abbrev pub decreases-loop-k : goal.decreases-loop-k
-decreases-loop-k l = l.count - l.k
+    (rs : List Regex) → RulesStacked l.stack l.count rs → Gathering rs (drop l.k rs) l.stack l.k l.base l.first l.last l.rule

@@ -1,10 +1,5 @@
 use native.Mathlib.Omega.{arith}
-use mathlib.Core.Path.{◌≡◌, subst}
-use mathlib.Core.List.{List}
-use Prim.Native.Nat.{ℕ}
-use Rattle.sheet.specs.Regex.{Regex}
-use Rattle.position_finder.specs.Forests.{RegexesHeld}
-use Rattle.position_finder.proofs.SweepLoop.{Swept, swept-start, Turn, turn, swept_more, swept_stack, swept_end}
+use Rattle.position_finder.proofs.SweepLoop.{swept-start, Turn, turn, swept_more, swept_stack, swept_end}
 use Rattle.position_finder.proofs.sweep.Goals as goal
 use Rattle.position_finder.proofs.sweep.Goals.{In-loop-at, After-loop-at}
 
@@ -15,25 +10,16 @@ turn_at c =
     let z = c.before.before in
     let l = c.loop-at in
     let w = z.requires in
-    turn _ _ _ w.0 _ _ _ _ _ w.1 c.loop-at-test.true l.invariant.0 (l.invariant.1 w.0 w.1)
+    turn _ _ _ w.0 _ _ _ _ _ w.1 c.loop-at-test.true l.auto.at (l.invariant w.0 w.1)
 
 pub loop-at-init : goal.loop-at-init
-loop-at-init c = (omega arith, λ rs h. swept-start c.args.tag.now c.args.items c.args.classes rs h)
-
-pub overflow_sub-at : goal.overflow_sub-at
-overflow_sub-at c = omega arith
-
-pub bounds-tag-at : goal.bounds-tag-at
-bounds-tag-at c = omega (arith, c.requires.1.held.nodes_fit)
+loop-at-init c = λ rs h. swept-start c.args.tag.now c.args.items c.args.classes rs h
 
 pub offset_bounds-stack-top : goal.offset_bounds-stack-top
 offset_bounds-stack-top c = omega (arith, (turn_at c.before.before.before).at_top.most)
 
 pub bounds-stack-top : goal.bounds-stack-top
 bounds-stack-top c = omega (arith, (turn_at c.before.before.before).at_top.most)
-
-pub overflow_sub-top : goal.overflow_sub-top
-overflow_sub-top c = (turn_at c.before.before.before.before).at_top.least
 
 pub offset_bounds-stack-top-in-loop-at : goal.offset_bounds-stack-top-in-loop-at
 offset_bounds-stack-top-in-loop-at c = omega (arith, (turn_at c.before.before.before.before).at_top.most)
@@ -44,19 +30,8 @@ bounds-stack-top-in-loop-at c = omega (arith, (turn_at c.before.before.before.be
 pub node_of-node-requires : goal.node_of-node-requires
 node_of-node-requires c = let t = turn_at c.before.before.before.before.before in (t.base_most, t.base_least)
 
-pub join_follow-requires : goal.join_follow-requires
-join_follow-requires c = (turn_at c.before.before.before.before.before.before.before).follow_size
-
 pub overflow_add-top : goal.overflow_add-top
 overflow_add-top c = omega (arith, (turn_at c.before.before.before.before.before.before.before.before).at_top.most)
-
-pub bounds-tag-at-in-loop-at : goal.bounds-tag-at-in-loop-at
-bounds-tag-at-in-loop-at c =
-    let i = c.before.before.before.before.before.before.before in
-    omega (arith, i.requires.1.held.nodes_fit)
-
-pub parts_of-requires : goal.parts_of-requires
-parts_of-requires c = tt
 
 pub overflow_sub-top-in-loop-at : goal.overflow_sub-top-in-loop-at
 overflow_sub-top-in-loop-at c =
@@ -69,9 +44,6 @@ offset_bounds-stack-top-in-loop-at-2 c = omega (arith, (turn_at c.before.before.
 pub bounds-stack-top-in-loop-at-2 : goal.bounds-stack-top-in-loop-at-2
 bounds-stack-top-in-loop-at-2 c = omega (arith, (turn_at c.before.before.before.before.before.before.before.before.before.before.before).at_top.most)
 
-pub loop-at-smaller : goal.loop-at-smaller
-loop-at-smaller c = omega arith
-
 pub loop-at-preserved : goal.loop-at-preserved
 loop-at-preserved c =
     let p = c.before.before in
@@ -79,32 +51,19 @@ loop-at-preserved c =
     let n = f.before.before in
     let i = n.before.before.before.before in
     let l = i.loop-at in
-    let z = i.args in (
-      omega arith,
-      λ rs h. swept_more z.tag.now z.items z.classes rs _ _ _ _ _ h i.loop-at-test.true l.invariant.0 (l.invariant.1 rs h)
-          n.node_of-node.result _ _ n.node_of-node.ensures f.join_follow.ensures p.parts_of.ensures,
-    )
-
--- All items are done when the loop ends.
-all-swept : (c : After-loop-at) (rs : List Regex)
-    → let a = c.args in RegexesHeld a.tag.now a.items a.classes rs
-    → let l = c.loop-at in Swept rs 0 l.stack l.follow l.top l.base
-all-swept c rs h =
-    let l = c.loop-at in
-    let e : l.at ≡ 0 = omega arith in
-    subst (λ (n : ℕ). Swept rs n l.stack l.follow l.top l.base) e (l.invariant.1 rs h)
+    let z = i.args in
+    λ rs h. swept_more z.tag.now z.items z.classes rs _ _ _ _ _ h i.loop-at-test.true l.auto.at (l.invariant rs h)
+    n.node_of-node.result _ _ n.node_of-node.ensures f.join_follow.ensures p.parts_of.ensures
 
 pub rule_sets-sets-requires : goal.rule_sets-sets-requires
 rule_sets-sets-requires c =
-    let z = c.before.before in
     let l = c.loop-at in
-    let w = z.requires in
-    (w.0, swept_stack w.0 l.stack l.follow l.top l.base (all-swept c w.0 w.1) _ _ _ _ w.1 w.2)
+    let w = c.requires in
+    (w.0, swept_stack w.0 l.at l.stack l.follow l.top l.base (omega arith) (l.invariant w.0 w.1) _ _ _ _ w.1 w.2)
 
 pub returns : goal.returns
 returns c =
     let l = c.loop-at in
     λ rs h counted.
-    let w = all-swept c.before rs h in
-    swept_end rs l.stack l.follow l.top l.base w c.rule_sets-sets.result
-    (c.rule_sets-sets.ensures rs (swept_stack rs l.stack l.follow l.top l.base w _ _ _ _ h counted))
+    swept_end rs l.at l.stack l.follow l.top l.base (omega arith) (l.invariant rs h) c.rule_sets-sets.result
+    (c.rule_sets-sets.ensures rs (swept_stack rs l.at l.stack l.follow l.top l.base (omega arith) (l.invariant rs h) _ _ _ _ h counted))

@@ -1,41 +1,32 @@
-use borrow.Author.Rules.{rules}
+-- `production_finder::walk` meets its contract, one law for each way through a step.
 use native.Mathlib.Omega.{arith}
-use mathlib.Core.Path.{◌≡◌}
-use lib.ListN.{length}
-use Rattle.production_finder.proofs.Walking.{remembers, remembers_not, walking_first, walking_right, walking_on}
-use Rattle.production_finder.proofs.Walking.{ended-steps, ended_past, ended-here}
+use mathlib.Core.Path.{sym, ◌∙◌}
+use Prim.Native.Nat.{◌+◌, ◌-◌}
+use Rattle.production_finder.proofs.Walking.{recounted, remembers, remembers_not, walking_right, walking_on}
+use Rattle.production_finder.proofs.Walking.{ended-steps, ended_past, ended-here, ended-nowhere}
 use Rattle.production_finder.proofs.walk.Goals as goal
 
-pub loop-left-init : goal.loop-left-init
-loop-left-init c =
-    let w = c.first_walked-w.result in
-    let e = c.first_walked-w.ensures in
-    let full : length w.rights ≡ 64 = search rules in
-    walking_first _ _ _ _ _ w e full
+pub returns-then-at-ge64-clause-same : goal.returns-then-at-ge64-clause-same
+returns-then-at-ge64-clause-same c = let l = c.loop in
+    ended_past (64 - (l.counter + 1)) (recounted (omega arith) l.invariant) c.if-at-ge64.true
 
-pub returns-then-at-ge64 : goal.returns-then-at-ge64
-returns-then-at-ge64 c = let l = c.loop-left in
-    ended_past _ _ _ _ _ l.w l.at l.left l.invariant (omega arith) c.if-at-ge64.true
+pub returns-then-kind-lt3-clause-same : goal.returns-then-kind-lt3-clause-same
+returns-then-kind-lt3-clause-same c = let l = c.loop in
+    ended-here (64 - (l.counter + 1)) (recounted (omega arith) l.invariant) c.if-at-ge64.false c.if-kind-lt3.true
 
-pub returns-then-kind-lt3 : goal.returns-then-kind-lt3
-returns-then-kind-lt3 c = let l = c.loop-left in
-    ended-here _ _ _ _ _ l.w l.at l.left l.invariant (omega arith) (omega arith) c.if-kind-lt3.true
+pub loop-preserved-then-kind : goal.loop-preserved-then-kind
+loop-preserved-then-kind c = let l = c.loop in
+    walking_right _ (recounted (omega arith) l.invariant) c.if-at-ge64.false (remembers _ c.if-kind.true)
 
-pub overflow_sub-start : goal.overflow_sub-start
-overflow_sub-start c = let l = c.loop-left in omega (arith, l.invariant.room)
+pub returns-in_default-clause-same : goal.returns-in_default-clause-same
+returns-in_default-clause-same c = let l = c.loop in
+    ended-nowhere (64 - (l.counter + 1)) (recounted (omega arith) l.invariant) c.if-at-ge64.false
+    (λ h. omega arith) (remembers_not _ c.if-kind.false) (sym c.in_default.is ∙ c.next_node.ensures)
 
-pub bounds-w-start : goal.bounds-w-start
-bounds-w-start c = let l = c.loop-left in omega (arith, l.invariant.room, l.invariant.within)
+pub loop-preserved : goal.loop-preserved
+loop-preserved c = let l = c.loop in
+    walking_on _ (recounted (omega arith) l.invariant) c.if-at-ge64.false
+    (λ h. omega arith) (remembers_not _ c.if-kind.false) _ (sym c.in-Some.is ∙ c.next_node.ensures)
 
-pub loop-left-preserved-then-kind : goal.loop-left-preserved-then-kind
-loop-left-preserved-then-kind c = let l = c.loop-left in
-    walking_right _ _ _ _ _ l.w l.at l.left l.invariant (omega arith) (omega arith) (remembers _ c.if-kind.true)
-
-pub loop-left-preserved : goal.loop-left-preserved
-loop-left-preserved c = let l = c.loop-left in
-    walking_on _ _ _ _ _ l.w l.at l.left l.invariant (omega arith) (omega arith)
-    (λ h. omega (arith, h, c.if-kind-lt3.false)) (remembers_not _ c.if-kind.false) _ c.next_node-at.ensures
-
-pub returns : goal.returns
-returns c = let l = c.loop-left in
-    ended-steps _ _ _ _ _ l.w l.at l.left l.invariant (omega arith)
+pub returns-clause-same : goal.returns-clause-same
+returns-clause-same c = ended-steps (recounted (omega arith) c.loop.invariant)

@@ -1,6 +1,6 @@
 -- `rule_sorter::append_kind` meets its contract. The invariant: for all rules that the columns may hold, the first k are done.
 use mathlib.Core.List.{List}
-use Prim.Native.Nat.{ℕ, ◌-◌, ◌≤◌}
+use Prim.Native.Nat.{ℕ}
 use Rattle.sheet.specs.Sheet.{Rule}
 use Rattle.columns.specs.Holds.{RulesOf}
 use Rattle.rule_sorter.specs.Kinds.{kind_before}
@@ -9,8 +9,7 @@ use Rattle.rule_sorter.proofs.append_kind.Given as goal
 
 abbrev pub invariant-loop-k : goal.invariant-loop-k
 invariant-loop-k l =
-    (l.k ≤ l.rules.count)
-    × ((held : List Rule) (places moved : List ℕ) → RulesOf l.rules held places → RulesOf l.sorted (kind_before l.words held) moved
+    (held : List Rule) (places moved : List ℕ) → RulesOf l.rules held places → RulesOf l.sorted (kind_before l.words held) moved
     → Sorting l.rules (record {
       count = l.count;
       action = l.action;
@@ -20,8 +19,4 @@ invariant-loop-k l =
       classes = l.classes;
       low = l.low;
       high = l.high;
-    }) l.item l.class l.words held l.k)
-
-abbrev pub decreases-loop-k : goal.decreases-loop-k
-decreases-loop-k l =
-    l.rules.count - l.k
+    }) l.item l.class l.words held l.k

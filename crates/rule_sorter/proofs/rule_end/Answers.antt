@@ -33,19 +33,10 @@ bounds-tag-i c = (turn c.before.before).below
 pub word_item-word-requires : goal.word_item-word-requires
 word_item-word-requires c = class_below (turn c.before.before.before) c.loop-due.invariant.1
 
-pub classes_of-c-requires : goal.classes_of-c-requires
-classes_of-c-requires c = tt
-
 pub overflow_add-c : goal.overflow_add-c
 overflow_add-c c =
     let t = c.before.before.before.before in
     omega (arith, c.classes_of-c.ensures, (turn t.before).class_room t.loop-due.invariant.1)
-
-pub overflow_sub-due : goal.overflow_sub-due
-overflow_sub-due c = omega arith
-
-pub parts_of-requires : goal.parts_of-requires
-parts_of-requires c = tt
 
 pub overflow_add-due : goal.overflow_add-due
 overflow_add-due c =

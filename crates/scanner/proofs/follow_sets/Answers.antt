@@ -11,9 +11,6 @@ use Rattle.scanner.proofs.follow_sets.Goals as goal
 pub loop-left-init : goal.loop-left-init
 loop-left-init c = (omega arith, walked_start _ _ (omega arith))
 
-pub lowest_first-step-requires : goal.lowest_first-step-requires
-lowest_first-step-requires c = omega arith
-
 pub overflow_add-next : goal.overflow_add-next
 overflow_add-next c = omega (arith, first_member-below _ _ _ c.lowest_first-step.ensures)
 

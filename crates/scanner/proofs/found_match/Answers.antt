@@ -1,28 +1,18 @@
 -- `scanner::found_match` meets its contract.
-use borrow.Author.Rules.{rules}
-use mathlib.Core.Path.{sym, ap, ◌∙◌}
+use mathlib.Core.Path.{◌≡◌, sym}
+use native.Mathlib.Omega.{arith}
+use Rattle.std.specs.Prelude.{None}
 use Rattle.lexer.specs.Match.{longer}
 use Rattle.scanner.specs.Meaning.{match_of, rule_of}
 use Rattle.scanner.specs.Sets.{match_by}
 use Rattle.scanner.proofs.found_match.Goals as goal
 
-pub lowest_rule-ended-requires : goal.lowest_rule-ended-requires
-lowest_rule-ended-requires c = search rules
-
-pub enum_told-1 : goal.enum_told-1
-enum_told-1 c = search rules
-
-pub returns-in-NoRule : goal.returns-in-NoRule
+pub returns-in_err-rule : goal.returns-in_err-rule
 unfolding match_of rule_of match_by longer
-returns-in-NoRule c =
-    let called = c.before in
-    rw (sym called.lowest_rule-ended.ensures ∙ ap rule_of c.in-NoRule.is)
+returns-in_err-rule c =
+    let gone : c.from_residual.result ≡ None = grind arith in
+    rw (gone, sym c.in_err-rule.ensures)
 
-pub enum_known-ended : goal.enum_known-ended
-enum_known-ended c = search rules
-
-pub returns-in-Lowest : goal.returns-in-Lowest
+pub returns : goal.returns
 unfolding match_of rule_of match_by longer
-returns-in-Lowest c =
-    let called = c.before in
-    rw (sym called.lowest_rule-ended.ensures ∙ ap rule_of c.in-Lowest.is)
+returns c = rw (sym c.in_ok-rule.ensures)

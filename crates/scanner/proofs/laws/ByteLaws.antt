@@ -1,6 +1,6 @@
 -- One byte by the class table and by sets: the positions that it keeps, their follow sets, and the rule that ends with it. How a set's
 -- positions are met one after the other is said in lexer's SetWalkLaws.
-use Rattle.std.specs.Prelude.{◌≡◌, Bool, ◌&&◌, ◌||◌, cond, eqb, length, get_or, drop}
+use Rattle.std.specs.Prelude.{◌≡◌, Bool, ◌&&◌, ◌||◌, cond, eqb, length, get_or, drop, Option}
 use Rattle.std.proofs.Math.Path.{refl, sym, ap}
 use Rattle.std.proofs.Common.{◌∙◌, arith, eqb-true, ne_eqb}
 use Rattle.std.proofs.Math.Bool.{true, false}
@@ -20,7 +20,6 @@ use Rattle.scanner.specs.ClassTable.{having}
 use Rattle.scanner.proofs.laws.ClassTableLaws.{having-first}
 use Rattle.scanner.specs.Meaning.{rule_of, LeadsTo, HeldAt, Prepared}
 use Rattle.scanner.specs.Sets.{joined, first_entry}
-use Rattle.scanner.specs.declared.EndedRule.{EndedRule}
 
 -- ---- the kept positions
 
@@ -128,7 +127,7 @@ module _ (tables : List ℕ) (last : ℕ) where
     ended-kept held b kept e = ended_of kept (λ j h. ap (λ (x : ℕ). bit x j) e ∙ kept_high held b j h)
 
     -- What a byte leads to, by the follow sets and the lowest rule of the positions that it keeps.
-    pub leads_to : (held b next : ℕ) (e : EndedRule) → b < 256
+    pub leads_to : (held b next : ℕ) (e : Option ℕ) → b < 256
         → let kept = bit_and held (get_or tables b 0) in
         kept < 2 ^ 64 → next ≡ joined follow_sets (set_walk kept) → rule_of e ≡ first_entry rules (members (bit_and kept last))
         → LeadsTo ps held b (record { held = next; ended = e })

@@ -38,18 +38,6 @@ returns-then-text-lt1 c = λ ps h.
     let s = c.before.before.before in
     walk_end ps s.args.text.now s.args.first 0 _ (omega arith) ∙ walk-start ps s.args.text.now s.args.first
 
-pub bounds-text-0 : goal.bounds-text-0
-bounds-text-0 c = omega arith
-
-pub overflow_cast-kept : goal.overflow_cast-kept
-overflow_cast-kept c = omega (arith, c.shared_slice_known-2-1.given 0)
-
-pub offset_bounds-tables-front : goal.offset_bounds-tables-front
-offset_bounds-tables-front c = omega (arith, c.shared_slice_known-2-1.given 0)
-
-pub bounds-tables-front : goal.bounds-tables-front
-bounds-tables-front c = omega (arith, (c.shared_slice_known-2-1.given 0).fits)
-
 pub returns-then-kept-eq0 : goal.returns-then-kept-eq0
 unfolding match_of
 returns-then-kept-eq0 c = λ ps h.
@@ -58,9 +46,6 @@ returns-then-kept-eq0 c = λ ps h.
     let kept = kept_is _ _ ps h s.args.first _ (known.shared_slice_known-2-1.given 0).fits in
     walk_stops ps s.args.text.now s.args.first 0 _ (omega arith) (sym kept ∙ c.if-kept-eq0.true)
     ∙ walk-start ps s.args.text.now s.args.first
-
-pub after_byte-begun-requires : goal.after_byte-begun-requires
-after_byte-begun-requires c = c.requires
 
 pub loop-n-init : goal.loop-n-init
 loop-n-init c = (
@@ -80,28 +65,6 @@ loop-n-init c = (
 -- ---- a turn
 pub bounds-text-n : goal.bounds-text-n
 bounds-text-n c = omega arith
-
-pub overflow_cast-next : goal.overflow_cast-next
-overflow_cast-next c = omega (arith, c.shared_slice_known-in-loop-n-1.given c.loop-n.n)
-
-pub offset_bounds-tables-byte : goal.offset_bounds-tables-byte
-offset_bounds-tables-byte c = omega (arith, c.shared_slice_known-in-loop-n-1.given c.loop-n.n)
-
-pub bounds-tables-byte : goal.bounds-tables-byte
-bounds-tables-byte c = omega (arith, (c.shared_slice_known-in-loop-n-1.given c.loop-n.n).fits)
-
-pub latest-earlier-requires : goal.latest-earlier-requires
-latest-earlier-requires c = tt
-
-pub after_byte-after-requires : goal.after_byte-after-requires
-after_byte-after-requires c =
-    c.requires
-
-pub overflow_add-n : goal.overflow_add-n
-overflow_add-n c = omega arith
-
-pub loop-n-smaller : goal.loop-n-smaller
-loop-n-smaller c = omega arith
 
 -- What the byte keeps, and what is held after it.
 step-here : (c : Lts-Joined-next-kept)
@@ -178,9 +141,6 @@ ended-here c ps h =
     c.loop-n-test.branch-raw
     ∙ (l.invariant.1 ps h).0
 
-pub found_match-requires : goal.found_match-requires
-found_match-requires c = tt
-
 pub returns-then-ending-ne0 : goal.returns-then-ending-ne0
 returns-then-ending-ne0 c = λ ps h.
     let left = c.before.before.before in
@@ -188,9 +148,6 @@ returns-then-ending-ne0 c = λ ps h.
     let set = bit_and left.loop-n.kept a.last in
     let small : set < 2 ^ 64 = omega (arith, and_le_r left.loop-n.kept a.last) in
     c.found_match.ensures ∙ match_new (drop 320 a.tables.now) set _ _ c.if-ending-ne0.true small ∙ ended-here left ps h
-
-pub found_match-requires-2 : goal.found_match-requires-2
-found_match-requires-2 c = tt
 
 pub returns : goal.returns
 returns c = λ ps h.

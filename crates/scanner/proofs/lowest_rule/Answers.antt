@@ -4,7 +4,6 @@ use mathlib.Core.Option.{some}
 use Prim.Native.Nat.{ℕ, ◌%◌}
 use native.Mathlib.Omega.{arith}
 use lib.Seq.{get_or-drop}
-use borrow.Author.Rules.{rules}
 use Rattle.lexer.proofs.laws.SetWalkLaws.{members-zero, first_member-below}
 use Rattle.scanner.specs.Meaning.{rule_of}
 use Rattle.scanner.specs.Sets.{first_entry}
@@ -14,9 +13,6 @@ pub returns-then-ending-eq0 : goal.returns-then-ending-eq0
 unfolding rule_of first_entry
 returns-then-ending-eq0 c = rw (c.if-ending-eq0.true, members-zero)
 
-pub lowest_first-step-requires : goal.lowest_first-step-requires
-lowest_first-step-requires c = search rules
-
 pub overflow_add-word : goal.overflow_add-word
 overflow_add-word c = omega (arith, first_member-below _ _ _ c.lowest_first-step.ensures)
 
@@ -25,9 +21,6 @@ offset_bounds-tables-i c = omega (arith, first_member-below _ _ _ c.lowest_first
 
 pub bounds-tables-i : goal.bounds-tables-i
 bounds-tables-i c = omega (arith, first_member-below _ _ _ c.lowest_first-step.ensures)
-
-pub overflow_cast-number : goal.overflow_cast-number
-overflow_cast-number c = omega arith
 
 pub returns : goal.returns
 unfolding rule_of first_entry

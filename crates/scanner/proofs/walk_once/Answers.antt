@@ -2,7 +2,6 @@ use mathlib.Core.Path.{◌≡◌, sym, ap, ◌∙◌}
 use mathlib.Core.List.{List}
 use mathlib.Core.Logic.{⊎_elim}
 use native.Mathlib.Omega.{arith}
-use borrow.Author.Rules.{rules}
 use lib.ListN.{get_or}
 use Rattle.lexer.specs.Positions.{Position}
 use Rattle.lexer.specs.Walk.{keep, follows, ended_rule}
@@ -35,7 +34,6 @@ Held s ps = Prepared ps s.args.last s.args.tables.now
 abbrev start : Lts-At-loop-walked → Start
 start c = c.before.before.before.before.before.before.before
 
--- ---- the facts
 pub returns-then-kept-eq0 : goal.returns-then-kept-eq0
 unfolding told_of
 returns-then-kept-eq0 c = λ ps h.
@@ -102,66 +100,20 @@ rule-here c ps h =
     let byte = (c.loop-walked.invariant.0 ps h).by_byte in
     c.lowest_rule-winner.ensures ∙ ended-kept _ _ ps h byte.0 byte.1 _ byte.2
 
-pub returns-in-NoRule : goal.returns-in-NoRule
+pub returns-in-None : goal.returns-in-None
 unfolding told_of rule_of
-returns-in-NoRule c = λ ps h.
+returns-in-None c = λ ps h.
     let ended = c.before.before in
     let left = ended.before in
     let a = (start left.before).args in
     tells_vain ps a.text.now a.first (left.loop-walked.invariant.0 ps h) (ended-here left ps h)
-    (ap rule_of (sym c.in-NoRule.is) ∙ rule-here ended ps h)
+    (ap rule_of (sym c.in-None.is) ∙ rule-here ended ps h)
 
-pub returns-in-Lowest : goal.returns-in-Lowest
+pub returns-in-Some : goal.returns-in-Some
 unfolding told_of rule_of
-returns-in-Lowest c = λ ps h.
+returns-in-Some c = λ ps h.
     let ended = c.before.before in
     let left = ended.before in
     let a = (start left.before).args in
     tells_match ps a.text.now a.first (left.loop-walked.invariant.0 ps h) (ended-here left ps h) _
-    (ap rule_of (sym c.in-Lowest.is) ∙ rule-here ended ps h)
-
--- ---- what the operations ask for
-pub bounds-text-0 : goal.bounds-text-0
-bounds-text-0 c = omega arith
-
-pub overflow_cast-kept : goal.overflow_cast-kept
-overflow_cast-kept c = omega (arith, c.shared_slice_known-2-1.given 0)
-
-pub offset_bounds-tables-front : goal.offset_bounds-tables-front
-offset_bounds-tables-front c = omega (arith, c.shared_slice_known-2-1.given 0)
-
-pub bounds-tables-front : goal.bounds-tables-front
-bounds-tables-front c = omega (arith, (c.shared_slice_known-2-1.given 0).fits)
-
-pub after_byte-begun-requires : goal.after_byte-begun-requires
-after_byte-begun-requires c = c.requires.1
-
-pub bounds-text-walked : goal.bounds-text-walked
-bounds-text-walked c = omega arith
-
-pub overflow_cast-next : goal.overflow_cast-next
-overflow_cast-next c = omega (arith, c.shared_slice_known-in-loop-walked-1.given c.loop-walked.walked)
-
-pub offset_bounds-tables-byte : goal.offset_bounds-tables-byte
-offset_bounds-tables-byte c = omega (arith, c.shared_slice_known-in-loop-walked-1.given c.loop-walked.walked)
-
-pub bounds-tables-byte : goal.bounds-tables-byte
-bounds-tables-byte c = omega (arith, (c.shared_slice_known-in-loop-walked-1.given c.loop-walked.walked).fits)
-
-pub after_byte-after-requires : goal.after_byte-after-requires
-after_byte-after-requires c = (start c.before.before.before.before.before.before.before).requires.1
-
-pub overflow_add-walked : goal.overflow_add-walked
-overflow_add-walked c = omega arith
-
-pub loop-walked-smaller : goal.loop-walked-smaller
-loop-walked-smaller c = omega arith
-
-pub lowest_rule-winner-requires : goal.lowest_rule-winner-requires
-lowest_rule-winner-requires c = tt
-
-pub enum_told-1 : goal.enum_told-1
-enum_told-1 c = search rules
-
-pub enum_known-winner : goal.enum_known-winner
-enum_known-winner c = search rules
+    (ap rule_of (sym c.in-Some.is) ∙ rule-here ended ps h)

@@ -1,5 +1,4 @@
--- `scanner::walk_once` meets its contract. The facts stand before what the operations ask for, so that a walk which goes another way is
--- refused at them.
+-- `scanner::walk_once` meets its contract. The loop's invariant: where the walk is.
 use mathlib.Core.List.{List}
 use Prim.Native.Nat.{◌-◌, ◌≤◌}
 use lib.ListN.{length}

@@ -1,27 +1,27 @@
 -- The laws of formats: bytes have exactly one answer, and reading from the left gives it. Which formats there are is not asked here.
-use Rattle.std.specs.Prelude.{◌≡◌, refl, Bool, true, false, cond, List, ◌↔◌, ℕ, ◌+◌, ◌≤◌, ◌<◌, eqb, length}
+use Rattle.std.specs.Prelude.{◌≡◌, refl, Bool, true, false, cond, List, ◌↔◌, ℕ, ◌+◌, ◌≤◌, ◌<◌, eqb, length, Option, Some, None}
 use Rattle.std.proofs.Common.{sym, ap, subst, subst₂, ◌∙◌, arith, eqb-true}
-use Rattle.std.proofs.Math.Option.{Option, none, some}
+use Rattle.std.proofs.Math.Option.{none, some}
+use Rattle.std.proofs.Math.Option as maybe
 use Rattle.std.proofs.lemmas.Bool.{eqb-false}
 use Rattle.number.specs.declared.Number.{Number}
-use Rattle.number.specs.declared.Number.TheVariants.{Read, Refused}
 use Rattle.sheet.specs.Spelling.{StandsAt}
 use Rattle.sheet.specs.Field.{Reading, stop, got, and_then}
 use Rattle.sheet.specs.Format.{Format, done, number, FormatAnswer, made, left_over, no_number, not_allowed, onward}
 
 -- ---- reading
 
-abbrev pub judged : Option ℕ → ℕ → ℕ → ℕ → Reading ℕ
+abbrev pub judged : maybe.Option ℕ → ℕ → ℕ → ℕ → Reading ℕ
 judged none v at next = got v next
 judged (some question) v at next = stop question at
 
 -- The number that was found at a place, by what is asked of it.
-abbrev pub asked : ℕ → (ℕ → Option ℕ) → ℕ → Number → Reading ℕ
-asked missing ask at Refused = stop missing at
-asked missing ask at (Read v used fewest) = judged (ask v) v at (at + used)
+abbrev pub asked : ℕ → (ℕ → maybe.Option ℕ) → ℕ → Option Number → Reading ℕ
+asked missing ask at None = stop missing at
+asked missing ask at (Some n) = judged (ask n.value) n.value at (at + n.used)
 
 -- A part: what follows it is not looked at. `find` tells the number at a place.
-abbrev pub read_part : (ℕ → Number) → ℕ → {A : Type 0} → Format A → ℕ → Reading A
+abbrev pub read_part : (ℕ → Option Number) → ℕ → {A : Type 0} → Format A → ℕ → Reading A
 read_part find missing (done a) at = got a at
 read_part find missing (number ask next) at = and_then (asked missing ask at (find at)) (λ v end. read_part find missing (next v at) end)
 
@@ -29,7 +29,7 @@ abbrev pub at_end : ℕ → ℕ → {A : Type 0} → A → ℕ → Reading A
 at_end whole leftover a at = cond (eqb at whole) (got a at) (stop leftover at)
 
 -- The whole, with nothing after it.
-abbrev pub read : (ℕ → Number) → ℕ → ℕ → ℕ → {A : Type 0} → Format A → ℕ → Reading A
+abbrev pub read : (ℕ → Option Number) → ℕ → ℕ → ℕ → {A : Type 0} → Format A → ℕ → Reading A
 read find whole missing leftover f at = and_then (read_part find missing f at) (at_end whole leftover)
 
 pub then_same : {A B : Type 0} (r : Reading A) {f g : A → ℕ → Reading B} → ((a : A) (end : ℕ) → f a end ≡ g a end) → and_then r f ≡ and_then r g
@@ -48,7 +48,7 @@ abbrev pub Once : (ℕ → ℕ → ℕ → Type 0) → Type 0
 Once At = (at m n x y : ℕ) → At at m x → At at n y → (m ≡ n) × (x ≡ y)
 
 module _ (Written : ℕ → List ℕ → Type 0) (bytes : List ℕ) (missing leftover : ℕ) (once : Once (StandsAt Written bytes)) where
-  apart : {C : Type 0} {v : Option ℕ} {k : ℕ} → v ≡ none → v ≡ some k → C
+  apart : {C : Type 0} {v : maybe.Option ℕ} {k : ℕ} → v ≡ none → v ≡ some k → C
   apart e f = let z : ◌≡◌ {A = ℕ} 0 1 = cc in absurd (omega arith)
 
   pub answer_one : {A : Type 0} {f : Format A} {at : ℕ} {x y : Reading A} → FormatAnswer Written bytes missing leftover f at x → FormatAnswer Written bytes missing leftover f at y → x ≡ y
@@ -74,12 +74,12 @@ module _ (Written : ℕ → List ℕ → Type 0) (bytes : List ℕ) (missing lef
 -- ---- reading gives the answer
 
 -- A number is found exactly where one stands, within the bytes.
-pub record Finds (At : ℕ → ℕ → ℕ → Type 0) (whole : ℕ) (find : ℕ → Number) : Type 0 where
-  pub none_there : (at : ℕ) → find at ≡ Refused → (v mid : ℕ) → At at v mid → ⊥
-  pub there : (at v used : ℕ) (fewest : Bool) → find at ≡ Read v used fewest → At at v (at + used)
-  pub inside : (at v used : ℕ) (fewest : Bool) → find at ≡ Read v used fewest → at + used ≤ whole
+pub record Finds (At : ℕ → ℕ → ℕ → Type 0) (whole : ℕ) (find : ℕ → Option Number) : Type 0 where
+  pub none_there : (at : ℕ) → find at ≡ None → (v mid : ℕ) → At at v mid → ⊥
+  pub there : (at : ℕ) (n : Number) → find at ≡ Some n → At at n.value (at + n.used)
+  pub inside : (at : ℕ) (n : Number) → find at ≡ Some n → at + n.used ≤ whole
 
-module _ (Written : ℕ → List ℕ → Type 0) (bytes : List ℕ) (missing leftover : ℕ) (find : ℕ → Number)
+module _ (Written : ℕ → List ℕ → Type 0) (bytes : List ℕ) (missing leftover : ℕ) (find : ℕ → Option Number)
     (finds : Finds (StandsAt Written bytes) (length bytes) find) where
   pub read_answers : {A : Type 0} (f : Format A) (at : ℕ) → at ≤ length bytes → FormatAnswer Written bytes missing leftover f at (read find (length bytes) missing leftover f at)
   read_answers (done a) at l = by_test (eqb at (length bytes)) refl
@@ -89,19 +89,18 @@ module _ (Written : ℕ → List ℕ → Type 0) (bytes : List ℕ) (missing lef
       by_test false e = let less : at < length bytes = omega (arith, eqb-false at (length bytes) e) in left_over less
   read_answers (number ask next) at l = by_number (λ v. read_answers (next v at)) (find at) refl
     where
-      by_value : ((v p : ℕ) → p ≤ length bytes → FormatAnswer Written bytes missing leftover (next v at) p (read find (length bytes) missing leftover (next v at) p)) → (v used : ℕ) (fewest : Bool)
-          → find at ≡ Read v used fewest → (o : Option ℕ) → ask v ≡ o
+      by_value : ((v p : ℕ) → p ≤ length bytes → FormatAnswer Written bytes missing leftover (next v at) p (read find (length bytes) missing leftover (next v at) p)) → (n : Number)
+          → find at ≡ Some n → (o : maybe.Option ℕ) → ask n.value ≡ o
           → FormatAnswer Written bytes missing leftover (number ask next) at
-          (and_then (and_then (judged o v at (at + used)) (λ v end. read_part find missing (next v at) end)) (at_end (length bytes) leftover))
-      by_value later v used fewest e none h =
-          onward (finds.there at v used fewest e) h (later v (at + used) (finds.inside at v used fewest e))
-      by_value later v used fewest e (some question) h = not_allowed (finds.there at v used fewest e) h
+          (and_then (and_then (judged o n.value at (at + n.used)) (λ v end. read_part find missing (next v at) end)) (at_end (length bytes) leftover))
+      by_value later n e none h = onward (finds.there at n e) h (later n.value (at + n.used) (finds.inside at n e))
+      by_value later n e (some question) h = not_allowed (finds.there at n e) h
 
-      by_number : ((v p : ℕ) → p ≤ length bytes → FormatAnswer Written bytes missing leftover (next v at) p (read find (length bytes) missing leftover (next v at) p)) → (n : Number) → find at ≡ n
+      by_number : ((v p : ℕ) → p ≤ length bytes → FormatAnswer Written bytes missing leftover (next v at) p (read find (length bytes) missing leftover (next v at) p)) → (n : Option Number) → find at ≡ n
           → FormatAnswer Written bytes missing leftover (number ask next) at
           (and_then (and_then (asked missing ask at n) (λ v end. read_part find missing (next v at) end)) (at_end (length bytes) leftover))
-      by_number later Refused e = no_number (finds.none_there at e)
-      by_number later (Read v used fewest) e = by_value later v used fewest e (ask v) refl
+      by_number later None e = no_number (finds.none_there at e)
+      by_number later (Some n) e = by_value later n e (ask n.value) refl
 
   -- What reading gives is the answer, and nothing else is.
   pub read_iff : Once (StandsAt Written bytes) → {A : Type 0} (f : Format A) (at : ℕ) → at ≤ length bytes → (x : Reading A) → (read find (length bytes) missing leftover f at ≡ x) ↔ FormatAnswer Written bytes missing leftover f at x

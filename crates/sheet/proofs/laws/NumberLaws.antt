@@ -2,10 +2,9 @@
 -- one after the other. Only the laws of one number know which bytes are written for it.
 use Rattle.std.specs.Prelude.{◌≡◌, refl, Bool, List, [], ◌∷◌, ◌++◌, ◌↔◌, ℕ, ◌+◌, ◌-◌, ◌^◌, ◌≤◌, ◌<◌, length, drop}
 use Rattle.std.proofs.Common.{sym, ap₂, subst, ◌∙◌, arith, length-take}
-use Rattle.number.specs.Number.{encode, decode}
+use Rattle.number.specs.Number.{encode, decode, read}
 use Rattle.number.proofs.laws.Laws.{encode_there, encode_ten, encode_groups, encode-fewest, groups_once, any-width}
-use Rattle.number.proofs.laws.Laws.{length_part, decode_within, decode_groups, groups_decode}
-use Rattle.number.specs.declared.Number.TheVariants.{Read}
+use Rattle.number.proofs.laws.Laws.{length_part, decode_within, decode_groups, groups_decode, read_same}
 use Rattle.sheet.specs.Spelling.{Bytes, NumberBytes, NumberAt, NumbersAt, no_more, one_more}
 
 -- ---- one number
@@ -23,7 +22,7 @@ number-fewest {bytes} {at} {n} {next} h =
 
 -- A number that stands somewhere is read there, in fewest bytes or not, and takes at least one byte.
 pub number-read : {bytes : List ℕ} {at n next : ℕ} → NumberAt bytes at n next
-    → (fewest : Bool) × (decode bytes at ≡ Read n (next - at) fewest) × (at < next)
+    → (fewest : Bool) × (decode bytes at ≡ read n (next - at) fewest) × (at < next)
 number-read {bytes} {at} {n} {next} h =
     let w = h.written in
     let wide = number-fewest h in
@@ -33,7 +32,7 @@ number-read {bytes} {at} {n} {next} h =
     (r.0, r.1, omega (arith, encode_there n))
 
 -- Whatever is read stands there.
-pub read-number : (bytes : List ℕ) (at : ℕ) {n used : ℕ} {fewest : Bool} → Bytes bytes → decode bytes at ≡ Read n used fewest
+pub read-number : (bytes : List ℕ) (at : ℕ) {n used : ℕ} {fewest : Bool} → Bytes bytes → decode bytes at ≡ read n used fewest
     → NumberAt bytes at n (at + used)
 read-number bytes at {n} {used} b e =
     let w = decode_within bytes at e in
@@ -64,10 +63,8 @@ pub number_once : {bytes : List ℕ} {at m n x y : ℕ} → NumberAt bytes at m 
 number_once {bytes} {at} {m} {n} {x} {y} h k =
     let p = number-read h in
     let q = number-read k in
-    let same : Read m (x - at) p.0 ≡ Read n (y - at) q.0 = sym p.1 ∙ q.1 in
-    let width : x - at ≡ y - at = cc in
-    let first : m ≡ n = cc in
-    (first, omega (arith, p.2, q.2))
+    let same = read_same (sym p.1 ∙ q.1) in
+    (same.0, omega (arith, same.1, p.2, q.2))
 
 module _ {bytes : List ℕ} where
   pub none_stand : {at end : ℕ} → NumbersAt bytes at [] end → at ≡ end

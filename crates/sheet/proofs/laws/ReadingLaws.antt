@@ -3,7 +3,7 @@
 use Rattle.std.specs.Prelude.{◌≡◌, refl, List, ◌↔◌, ℕ, ◌+◌, ◌-◌, ◌≤◌, length}
 use Rattle.std.proofs.Common.{sym, ap, subst, ◌∙◌, arith, eq-eqb}
 use Rattle.number.specs.Number.{decode}
-use Rattle.number.specs.declared.Number.TheVariants.{Read, Refused}
+use Rattle.number.proofs.laws.Laws.{refused_read}
 use Rattle.sheet.specs.Limits.{most_sheet_bytes}
 use Rattle.sheet.specs.Expression.{size}
 use Rattle.sheet.specs.Sheet.{Sheet}
@@ -86,10 +86,9 @@ module _ (bytes : List ℕ) where
   module _ (b : Bytes bytes) where
     sheet_finds : Finds (NumberAt bytes) (length bytes) (decode bytes)
     sheet_finds = record {
-      none_there = λ at e v mid h. let n = number-read h in let z : Refused ≡ Read v (mid - at) n.0 = sym e ∙ n.1 in
-          let y : ◌≡◌ {A = ℕ} 0 1 = cc in omega arith;
-      there = λ at v used fewest e. read-number bytes at b e;
-      inside = λ at v used fewest e. (read-number bytes at b e).inside;
+      none_there = λ at e v mid h. let n = number-read h in refused_read (sym e ∙ n.1);
+      there = λ at n e. read-number bytes at b e;
+      inside = λ at n e. (read-number bytes at b e).inside;
     }
 
     -- What is read is the answer, and nothing else is.

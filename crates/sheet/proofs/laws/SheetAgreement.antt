@@ -1,6 +1,6 @@
 -- Reading a sheet as the code does it is reading the sheet's format: the items that are due are the regexes and expressions that the format
 -- has still to make. What the questions are is not said here.
-use Rattle.std.specs.Prelude.{◌≡◌, Bool, ◌&&◌, ◌||◌, cond, eqb, get_or}
+use Rattle.std.specs.Prelude.{◌≡◌, Bool, ◌&&◌, ◌||◌, cond, eqb, get_or, Option, Some, None}
 use Rattle.std.proofs.Math.Path.{refl, sym, ap, ap₂}
 use Rattle.std.proofs.Common.{◌∙◌, true≢false, length-append}
 use Rattle.std.proofs.Math.Bool.{true, false, not}
@@ -14,7 +14,6 @@ use Rattle.basics.specs.Lists.{sum}
 use Rattle.basics.proofs.laws.Truth.{and-true-second}
 use Rattle.number.specs.Number.{decode}
 use Rattle.number.specs.declared.Number.{Number}
-use Rattle.number.specs.declared.Number.TheVariants.{Read, Refused}
 use Rattle.sheet.specs.Limits.{most_tokens, most_rules, most_classes, most_regex_nodes, most_expression_nodes}
 use Rattle.sheet.specs.Regex.{Regex, empty, class, concat, union, star}
 use Rattle.sheet.specs.Expression.{Expression, epsilon, bottom, token, sequence, alternative, fixed_point, variable, repetition}
@@ -51,9 +50,9 @@ module _ (bytes : List ℕ) where
       by_tests v next true false ea ek = five v next ea ek
       by_tests v next false k ea ek = refl
 
-      by_number : (n : Number) → and_then (asked 3 (λ v. judge (allowed v) (kept v)) at n) f ≡ and_then (field_of 3 4 allowed at n) g
-      by_number Refused = refl
-      by_number (Read v used fewest) = by_tests v (at + used) (allowed v) (kept v) refl refl
+      by_number : (n : Option Number) → and_then (asked 3 (λ v. judge (allowed v) (kept v)) at n) f ≡ and_then (field_of 3 4 allowed at n) g
+      by_number None = refl
+      by_number (Some n) = by_tests n.value (at + n.used) (allowed n.value) (kept n.value) refl refl
 
   -- A number that is no tag.
   value_same : {X : Type 0} (allowed : ℕ → Bool) (at : ℕ) {f g : ℕ → ℕ → Reading X} → ((v end : ℕ) → allowed v ≡ true → f v end ≡ g v end)

@@ -1,6 +1,6 @@
 -- Twins are read alike: they spell the same sheet, or reading refuses both with the same question at the same number. Bytes that are the
 -- same numbers to their ends are twins.
-use Rattle.std.specs.Prelude.{◌≡◌, refl, Bool, true, false, ◌&&◌, ℕ, ◌+◌, ◌-◌, ◌^◌, ◌≤◌, ◌<◌, eqb}
+use Rattle.std.specs.Prelude.{◌≡◌, refl, Bool, true, false, ◌&&◌, ℕ, ◌+◌, ◌-◌, ◌^◌, ◌≤◌, ◌<◌, eqb, Option, Some, None}
 use Rattle.std.proofs.Common.{sym, subst, ◌∙◌, true≢false, ⊎_elim, length-drop, drop-drop, eqb-true}
 use Rattle.std.proofs.Math.Path.{ap}
 use mathlib.Core.List.{List, [], ◌∷◌, ◌++◌, append-nil}
@@ -11,7 +11,6 @@ use Rattle.basics.proofs.laws.Order.{lt-or-le}
 use Rattle.basics.proofs.laws.Truth.{and-true-first, and-true-second}
 use Rattle.number.specs.Number.{encode, decode}
 use Rattle.number.specs.declared.Number.{Number}
-use Rattle.number.specs.declared.Number.TheVariants.{Read, Refused}
 use Rattle.sheet.specs.Limits.{most_sheet_bytes}
 use Rattle.sheet.specs.Sheet.{Sheet}
 use Rattle.sheet.specs.Spelling.{Bytes, NumberBytes, NumberAt, NumbersAt, no_more, one_more, spell}
@@ -79,9 +78,9 @@ numbers_twins {a} {b} s t = numbers_same s t (drop-length a ∙ sym (drop-length
 
 -- ---- twins that are written out
 
-abbrev taken : ℕ → (ℕ → Bool) → Number → Bool
-taken n rest Refused = false
-taken n rest (Read v used fewest) = eqb v n && rest used
+abbrev taken : ℕ → (ℕ → Bool) → Option Number → Bool
+taken n rest None = false
+taken n rest (Some m) = eqb m.value n && rest m.used
 
 -- Whether from a place on these numbers are read, one after the other, to the end.
 abbrev pub reads_as : List ℕ → List ℕ → ℕ → Bool
@@ -92,13 +91,13 @@ pub read_as : (bytes : List ℕ) → Bytes bytes → (ns : List ℕ) (at : ℕ) 
 read_as bytes b [] at e = subst (NumbersAt bytes at []) (eqb-true at (length bytes) e) no_more
 read_as bytes b (n ∷ ns) at e = go (λ p. read_as bytes b ns p) (decode bytes at) refl e
   where
-    go : ((p : ℕ) → reads_as bytes ns p ≡ true → NumbersAt bytes p ns (length bytes)) → (m : Number) → decode bytes at ≡ m
+    go : ((p : ℕ) → reads_as bytes ns p ≡ true → NumbersAt bytes p ns (length bytes)) → (m : Option Number) → decode bytes at ≡ m
         → taken n (λ used. reads_as bytes ns (at + used)) m ≡ true → NumbersAt bytes at (n ∷ ns) (length bytes)
-    go later Refused d t = absurd (true≢false (sym t))
-    go later (Read v used fewest) d t =
-        let same = eqb-true v n (and-true-first (eqb v n) (reads_as bytes ns (at + used)) t) in
-        one_more (subst (λ (k : ℕ). NumberAt bytes at k (at + used)) same (read-number bytes at b d))
-        (later (at + used) (and-true-second (eqb v n) (reads_as bytes ns (at + used)) t))
+    go later None d t = absurd (true≢false (sym t))
+    go later (Some m) d t =
+        let same = eqb-true m.value n (and-true-first (eqb m.value n) (reads_as bytes ns (at + m.used)) t) in
+        one_more (subst (λ (k : ℕ). NumberAt bytes at k (at + m.used)) same (read-number bytes at b d))
+        (later (at + m.used) (and-true-second (eqb m.value n) (reads_as bytes ns (at + m.used)) t))
 
 -- ---- answers
 

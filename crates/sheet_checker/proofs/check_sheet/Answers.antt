@@ -3,8 +3,7 @@ use Rattle.sheet_checker.proofs.Endings.{work_short, work_enough}
 use Rattle.sheet_checker.proofs.check_sheet.Goals as goal
 
 pub returns-then-work-lt-WORK_BYTES : goal.returns-then-work-lt-WORK_BYTES
-returns-then-work-lt-WORK_BYTES c =
-    work_short c.args.sheet.now c.args.work.now c.failed.result c.failed.ensures c.if-work-lt-WORK_BYTES.true
+returns-then-work-lt-WORK_BYTES c = work_short c.args.sheet.now c.args.work.now c.if-work-lt-WORK_BYTES.true
 
 pub returns : goal.returns
 returns c =

@@ -4,19 +4,22 @@ use mathlib.Core.Path.{sym, ◌∙◌}
 use Rattle.number.proofs.laws.Laws.{decode_within}
 use Rattle.sheet_reader.proofs.Fields.{field_unreadable, field_over, field_under, field_fits}
 use Rattle.sheet_reader.proofs.read_field.Goals as goal
+use Rattle.sheet_reader.proofs.read_field.Goals.{then-number-from-via-then-number-from, then-number-from-via-else-number-from+then-limit-number}
 
-pub returns-in-Refused : goal.returns-in-Refused
-returns-in-Refused c = field_unreadable _ _ c.args.sheet.now _ (sym c.read_number.ensures ∙ c.in-Refused.is)
+pub returns-in_default : goal.returns-in_default
+returns-in_default c = field_unreadable _ _ c.args.sheet.now _ (sym c.read_number.ensures ∙ c.in_default.is)
 
-pub returns-then-v-limit : goal.returns-then-v-limit
-returns-then-v-limit c = field_over _ _ c.args.sheet.now _ (sym c.read_number.ensures ∙ c.in-Read.is) c.if-v-limit.true
-
-pub returns-then-value-least : goal.returns-then-value-least
-returns-then-value-least c = field_under _ _ c.args.sheet.now _ (sym c.read_number.ensures ∙ c.in-Read.is) c.if-value-least.true
+pub returns-then-number-from : goal.returns-then-number-from
+returns-then-number-from c =
+    let e = sym c.read_number.ensures ∙ c.in-Some.is in
+    elim c.then-number-from.branch [
+      | then-number-from-via-then-number-from w ↦ field_under _ _ c.args.sheet.now _ e (omega (arith, w.if-number-from.true, c.from.ensures))
+      | then-number-from-via-else-number-from+then-limit-number w ↦ field_over _ _ c.args.sheet.now _ e w.if-limit-number.true
+    ]
 
 pub overflow_add-result : goal.overflow_add-result
-overflow_add-result c = omega (arith, (decode_within c.args.sheet.now c.args.at (sym c.read_number.ensures ∙ c.in-Read.is)).inside)
+overflow_add-result c = omega (arith, (decode_within c.args.sheet.now c.args.at (sym c.read_number.ensures ∙ c.in-Some.is)).inside)
 
-pub returns-else-value-least : goal.returns-else-value-least
-returns-else-value-least c =
-    field_fits _ _ c.args.sheet.now _ (sym c.read_number.ensures ∙ c.in-Read.is) c.if-value-least.false c.if-v-limit.false
+pub returns : goal.returns
+returns c =
+    field_fits _ _ c.args.sheet.now _ (sym c.read_number.ensures ∙ c.in-Some.is) (omega (arith, c.from.ensures)) c.if-limit-number.false

@@ -1,26 +1,30 @@
 -- `sheet_reader::read_header` meets its contract.
-use Rattle.sheet_reader.proofs.Fields.{up_to, field-value, field_unfit}
+use mathlib.Core.Path.{◌∙◌}
+use Rattle.sheet_reader.proofs.Told.{passed_on}
+use Rattle.sheet_reader.proofs.Fields.{up_to, field-got, field_unfit}
 use Rattle.sheet_reader.proofs.Whole.{head_version, head_tokens, head-count, head-whole}
 use Rattle.sheet_reader.proofs.read_header.Goals as goal
 
-pub returns-in-Refused : goal.returns-in-Refused
-returns-in-Refused c = head_version c.args.sheet.now (field_unfit (up_to 1 1) c.args.sheet.now _ c.read_field.ensures c.in-Refused.is)
+pub returns-in_err-version : goal.returns-in_err-version
+returns-in_err-version c =
+    passed_on _ c.from_residual.ensures.1
+    ∙ head_version c.args.sheet.now (field_unfit (up_to 1 1) c.args.sheet.now _ c.read_field.ensures c.in_err-version.was)
 
-pub returns-in-Refused-read_field : goal.returns-in-Refused-read_field
-returns-in-Refused-read_field c =
-    let version = field-value (up_to 1 1) c.args.sheet.now _ c.read_field.ensures c.in-Value.is in
-    head_tokens c.args.sheet.now version (field_unfit (up_to 1 24) c.args.sheet.now _ c.read_field-in-Value.ensures c.in-Refused-read_field.is)
+pub returns-in_err-tokens : goal.returns-in_err-tokens
+returns-in_err-tokens c =
+    let version = field-got (up_to 1 1) c.args.sheet.now _ c.read_field.ensures c.in_ok-version.was in
+    passed_on _ c.from_residual-in_err-tokens.ensures.1
+    ∙ head_tokens c.args.sheet.now version (field_unfit (up_to 1 24) c.args.sheet.now _ c.read_field-2.ensures c.in_err-tokens.was)
 
-pub returns-in-Refused-read_field-2 : goal.returns-in-Refused-read_field-2
-returns-in-Refused-read_field-2 c =
-    let version = field-value (up_to 1 1) c.args.sheet.now _ c.read_field.ensures c.in-Value.is in
-    let tokens = field-value (up_to 1 24) c.args.sheet.now _ c.read_field-in-Value.ensures c.in-Value-read_field.is in
-    let count = field_unfit (up_to 1 32) c.args.sheet.now _ c.read_field-in-Value-read_field.ensures c.in-Refused-read_field-2.is in
-    head-count c.args.sheet.now version tokens count
+pub returns-in_err-rules : goal.returns-in_err-rules
+returns-in_err-rules c =
+    let version = field-got (up_to 1 1) c.args.sheet.now _ c.read_field.ensures c.in_ok-version.was in
+    let tokens = field-got (up_to 1 24) c.args.sheet.now _ c.read_field-2.ensures c.in_ok-tokens.was in
+    passed_on _ c.from_residual-in_err-rules.ensures.1
+    ∙ head-count c.args.sheet.now version tokens (field_unfit (up_to 1 32) c.args.sheet.now _ c.read_field-3.ensures c.in_err-rules.was)
 
-pub returns-in-Value-read_field-2 : goal.returns-in-Value-read_field-2
-returns-in-Value-read_field-2 c =
-    let version = field-value (up_to 1 1) c.args.sheet.now _ c.read_field.ensures c.in-Value.is in
-    let tokens = field-value (up_to 1 24) c.args.sheet.now _ c.read_field-in-Value.ensures c.in-Value-read_field.is in
-    let count = field-value (up_to 1 32) c.args.sheet.now _ c.read_field-in-Value-read_field.ensures c.in-Value-read_field-2.is in
-    head-whole c.args.sheet.now version tokens count
+pub returns : goal.returns
+returns c =
+    let version = field-got (up_to 1 1) c.args.sheet.now _ c.read_field.ensures c.in_ok-version.was in
+    let tokens = field-got (up_to 1 24) c.args.sheet.now _ c.read_field-2.ensures c.in_ok-tokens.was in
+    head-whole c.args.sheet.now version tokens (field-got (up_to 1 32) c.args.sheet.now _ c.read_field-3.ensures c.in_ok-rules.was)

@@ -1,26 +1,16 @@
 -- `winner` meets its contract, by the rule that is lowest.
-use borrow.Author.Rules.{rules}
-use mathlib.Core.Path.{sym, ap, ◌∙◌}
+use mathlib.Core.Path.{◌≡◌, ap, ◌∙◌}
+use Prim.Native.Nat.{ℕ}
+use Rattle.std.specs.Prelude.{Option, Some, None}
+use Rattle.std.specs.Option.{MatchOption}
 use Rattle.lexer.specs.Table.{rule_or_none}
 use Rattle.scanner.specs.Meaning.{rule_of}
 use Rattle.table_builder.proofs.winner.Goals as goal
 
-pub lowest_rule-ended-requires : goal.lowest_rule-ended-requires
-lowest_rule-ended-requires c = search rules
-
-pub enum_told-1 : goal.enum_told-1
-enum_told-1 c = search rules
-
-pub returns-in-NoRule : goal.returns-in-NoRule
+number_of_rule : (o : Option ℕ) (x : ℕ) → MatchOption o (x ≡ 32) (λ rule. x ≡ rule) → x ≡ rule_or_none (rule_of o)
 unfolding rule_or_none rule_of
-returns-in-NoRule c = ap rule_or_none (sym (ap rule_of c.in-NoRule.is) ∙ c.lowest_rule-ended.ensures)
+number_of_rule None x h = h
+number_of_rule (Some rule) x h = h
 
-pub enum_known-ended : goal.enum_known-ended
-enum_known-ended c = search rules
-
-pub overflow_cast-result : goal.overflow_cast-result
-overflow_cast-result c = search rules
-
-pub returns-in-Lowest : goal.returns-in-Lowest
-unfolding rule_or_none rule_of
-returns-in-Lowest c = ap rule_or_none (sym (ap rule_of c.in-Lowest.is) ∙ c.lowest_rule-ended.ensures)
+pub returns : goal.returns
+returns c = number_of_rule c.lowest_rule-ended.result _ c.map_or.ensures ∙ ap rule_or_none c.lowest_rule-ended.ensures

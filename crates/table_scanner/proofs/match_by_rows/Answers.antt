@@ -15,7 +15,6 @@ use Rattle.table_scanner.proofs.match_by_rows.Reads as reads
 abbrev Lts-After-shared_slice_known-1 : Type 0
 Lts-After-shared_slice_known-1 = lts.After-shared_slice_known reads.Pre reads.Post goal.the-invariant-loop-n goal.the-decreases-loop-n
 
--- ---- the facts
 pub loop-n-init : goal.loop-n-init
 loop-n-init c =
     let a = c.args in (
@@ -81,61 +80,6 @@ loop-n-preserved c =
       next_below known,
       l.invariant.4,
     )
-
--- ---- what the operations ask for
-pub overflow_mul-next : goal.overflow_mul-next
-overflow_mul-next c = let k = c.requires in omega (arith, c.loop-n.invariant.3 k, k.few_rows)
-
-pub bounds-text-n : goal.bounds-text-n
-bounds-text-n c = c.loop-n-test.true
-
-pub overflow_cast-next : goal.overflow_cast-next
-overflow_cast-next c = omega (arith, c.shared_slice_known-1.given c.loop-n.n)
-
-pub overflow_add-next : goal.overflow_add-next
-overflow_add-next c =
-    let l = c.loop-n in
-    let k = c.requires in
-    omega (arith, c.shared_slice_known-1.given l.n, l.invariant.3 k, k.few_rows)
-
-pub offset_bounds-table-row : goal.offset_bounds-table-row
-offset_bounds-table-row c =
-    let l = c.loop-n in
-    let k = c.requires in
-    omega (arith, c.shared_slice_known-1.given l.n, l.invariant.3 k, k.few_rows)
-
-pub bounds-table-row : goal.bounds-table-row
-bounds-table-row c =
-    let l = c.loop-n in
-    let k = c.requires in
-    omega (arith, c.shared_slice_known-1.given l.n, l.invariant.3 k, k.few_rows, k.entries_lent)
-
-pub overflow_cast-next-in-loop-n : goal.overflow_cast-next-in-loop-n
-overflow_cast-next-in-loop-n c =
-    let k = c.requires in
-    omega (arith, next_below c.before.before k, k.few_rows)
-
-pub offset_bounds-winners-next : goal.offset_bounds-winners-next
-offset_bounds-winners-next c =
-    let k = c.requires in
-    omega (arith, next_below c.before.before k, k.few_rows)
-
-pub bounds-winners-next : goal.bounds-winners-next
-bounds-winners-next c =
-    let k = c.requires in
-    omega (arith, next_below c.before.before.before k, k.few_rows, k.winners_lent)
-
-pub overflow_add-n : goal.overflow_add-n
-overflow_add-n c = omega arith
-
-pub loop-n-smaller-then-latest-ne32 : goal.loop-n-smaller-then-latest-ne32
-loop-n-smaller-then-latest-ne32 c = omega arith
-
-pub loop-n-smaller : goal.loop-n-smaller
-loop-n-smaller c = omega arith
-
-pub overflow_cast-result : goal.overflow_cast-result
-overflow_cast-result c = omega arith
 
 pub returns : goal.returns
 unfolding match_of

@@ -1,5 +1,4 @@
--- `table_scanner::match_by_rows` meets its contract. The facts of a turn stand before what the operations ask for, so that a turn which
--- notes another match is refused at them.
+-- `table_scanner::match_by_rows` meets its contract. The loop's invariant: the row and the match are those of the first n bytes.
 use mathlib.Core.Path.{◌≡◌}
 use Prim.Native.Nat.{◌-◌, ◌≤◌, ◌<◌}
 use lib.ListN.{length}

@@ -26,7 +26,6 @@ Lts-Joined-next-row = lts.Joined2 reads.Pre reads.Post goal.the-invariant-loop-n
 abbrev Lts-Left-loop-n : Type 0
 Lts-Left-loop-n = lts.Left-loop reads.Pre reads.Post goal.the-invariant-loop-n goal.the-decreases-loop-n
 
--- ---- the facts
 pub returns-then-row-eq1 : goal.returns-then-row-eq1
 unfolding told_of
 returns-then-row-eq1 c =
@@ -108,76 +107,6 @@ returns c =
     let ended = ended-here c.before.before.before in
     tells_vain a.table.now a.winners.now a.text.now l.row l.n l.invariant.1 l.invariant.2 l.invariant.0 ended.0 ended.1 _
     (winner_read c.requires.1 l.row (l.invariant.3 c.requires.1)) c.if-winner-ne32.false
-
--- ---- what the operations ask for
-pub bounds-text-0 : goal.bounds-text-0
-bounds-text-0 c = omega arith
-
-pub overflow_cast-row : goal.overflow_cast-row
-overflow_cast-row c = omega (arith, c.shared_slice_known-1.given 0)
-
-pub offset_bounds-table-text : goal.offset_bounds-table-text
-offset_bounds-table-text c = omega (arith, c.shared_slice_known-1.given 0)
-
-pub bounds-table-text : goal.bounds-table-text
-bounds-table-text c =
-    omega (arith, c.shared_slice_known-1.given 0, c.requires.1.entries_lent)
-
-pub overflow_cast-row-2 : goal.overflow_cast-row-2
-overflow_cast-row-2 c =
-    let k = c.requires.1 in
-    omega (arith, first_below k _ (c.shared_slice_known-1.given 0).fits, k.few_rows)
-
-pub overflow_mul-next : goal.overflow_mul-next
-overflow_mul-next c =
-    let k = c.requires.1 in
-    omega (arith, c.loop-n.invariant.3 k, k.few_rows)
-
-pub bounds-text-n : goal.bounds-text-n
-bounds-text-n c = c.loop-n-test.true
-
-pub overflow_cast-next : goal.overflow_cast-next
-overflow_cast-next c = omega (arith, c.shared_slice_known-in-loop-n-1.given c.loop-n.n)
-
-pub overflow_add-next : goal.overflow_add-next
-overflow_add-next c =
-    let l = c.loop-n in
-    let k = c.requires.1 in
-    omega (arith, c.shared_slice_known-in-loop-n-1.given l.n, l.invariant.3 k, k.few_rows)
-
-pub offset_bounds-table-row : goal.offset_bounds-table-row
-offset_bounds-table-row c =
-    let l = c.loop-n in
-    let k = c.requires.1 in
-    omega (arith, c.shared_slice_known-in-loop-n-1.given l.n, l.invariant.3 k, k.few_rows)
-
-pub bounds-table-row : goal.bounds-table-row
-bounds-table-row c =
-    let l = c.loop-n in
-    let k = c.requires.1 in
-    omega (arith, c.shared_slice_known-in-loop-n-1.given l.n, l.invariant.3 k, k.few_rows, k.entries_lent)
-
-pub overflow_cast-next-in-loop-n : goal.overflow_cast-next-in-loop-n
-overflow_cast-next-in-loop-n c =
-    let l = c.loop-n in
-    let k = c.requires.1 in
-    omega (arith, k.next_row l.row _ (l.invariant.3 k) (c.shared_slice_known-in-loop-n-1.given l.n).fits, k.few_rows)
-
-pub overflow_add-n : goal.overflow_add-n
-overflow_add-n c = omega arith
-
-pub loop-n-smaller : goal.loop-n-smaller
-loop-n-smaller c = omega arith
-
-pub offset_bounds-winners-row : goal.offset_bounds-winners-row
-offset_bounds-winners-row c =
-    let k = c.requires.1 in
-    omega (arith, c.loop-n.invariant.3 k, k.few_rows)
-
-pub bounds-winners-row : goal.bounds-winners-row
-bounds-winners-row c =
-    let k = c.requires.1 in
-    omega (arith, c.loop-n.invariant.3 k, k.few_rows, k.winners_lent)
 
 pub overflow_cast-result : goal.overflow_cast-result
 overflow_cast-result c =

@@ -1,5 +1,4 @@
--- `table_scanner::walk_rows` meets its contract. The facts stand before what the operations ask for, so that a walk which goes
--- another way is refused at them.
+-- `table_scanner::walk_rows` meets its contract. The loop's invariant: the row is the one that the first n bytes lead to.
 use mathlib.Core.Path.{◌≡◌}
 use Prim.Native.Nat.{◌-◌, ◌≤◌, ◌<◌}
 use lib.ListN.{length}

@@ -2,11 +2,11 @@
 use Rattle.text_reader.proofs.Ways.{line_sheet, line_accepted, line_refused}
 use Rattle.text_reader.proofs.line_for.Goals as goal
 
-pub returns-in-Sheet : goal.returns-in-Sheet
-returns-in-Sheet c = line_sheet c.args.read _ _ c.in-Sheet.is
+pub returns-in-Err : goal.returns-in-Err
+returns-in-Err c = line_sheet c.args.read c.in-Err.refusal c.in-Err.is
 
-pub returns-then-number-eq0 : goal.returns-then-number-eq0
-returns-then-number-eq0 c = line_accepted c.args.read c.in-Text.answer c.in-Text.is c.if-number-eq0.true
+pub returns-then-answer-eq0 : goal.returns-then-answer-eq0
+returns-then-answer-eq0 c = line_accepted c.args.read c.in-Ok.answer c.in-Ok.is c.if-answer-eq0.true
 
-pub returns-else-number-eq0 : goal.returns-else-number-eq0
-returns-else-number-eq0 c = line_refused c.args.read c.in-Text.answer c.in-Text.is c.if-number-eq0.false
+pub returns-else-answer-eq0 : goal.returns-else-answer-eq0
+returns-else-answer-eq0 c = line_refused c.args.read c.in-Ok.answer c.in-Ok.is c.if-answer-eq0.false

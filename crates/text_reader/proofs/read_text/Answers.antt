@@ -11,6 +11,9 @@ use Rattle.image.proofs.laws.WriteLaws.{written_passed}
 use Rattle.machine.specs.Lent.{stack_alone, Ran}
 use Rattle.machine.specs.Run.{run}
 use Rattle.machine_turn.specs.Steps.{answer_held}
+use Rattle.std.specs.Prelude.{Err}
+use Rattle.image_writer.specs.Answer.{case_of}
+use Rattle.image_writer.specs.declared.WriteError.TheVariants.{TooLong, Refused}
 use Rattle.image_writer.proofs.laws.AnswerLaws.{case_done, case_too_long, case_refused}
 use Rattle.demands.proofs.laws.Proofs.{image-kept}
 use Rattle.text_reader.specs.Reading.{text_answered, OwnReading}
@@ -18,11 +21,12 @@ use Rattle.text_reader.proofs.Ways.{own_refused, own_long, own_over, own-run}
 use Rattle.text_reader.proofs.Ways.{told_refused, told_long, told_over, told-run, written-image}
 use Rattle.text_reader.proofs.read_text.Goals as goal
 
-pub returns-in-Refused : goal.returns-in-Refused
-returns-in-Refused c =
+pub returns-in-Err-Refused : goal.returns-in-Err-Refused
+returns-in-Err-Refused c =
     let z = c.args in
-    let k = c.write-made in
-    let e = case_refused (write z.sheet.now (length z.work.now) (length z.image.now)) (sym k.ensures.0 ∙ c.in-Refused.is) in
+    let k = c.write in
+    let is : case_of (write z.sheet.now (length z.work.now) (length z.image.now)) ≡ Err (Refused c.in-Err-Refused.refusal) = cc k.ensures.0 in
+    let e = case_refused (write z.sheet.now (length z.work.now) (length z.image.now)) is in
     let t = told_refused z.limit z.text.now z.stack.now _ _ e in (
       t.0,
       k.ensures.1,
@@ -31,11 +35,12 @@ returns-in-Refused c =
       own_refused z.limit z.sheet.now z.text.now (length z.work.now) (length z.image.now) (length z.stack.now) _ _ e,
     )
 
-pub returns-in-TooLong : goal.returns-in-TooLong
-returns-in-TooLong c =
+pub returns-in-Err-TooLong : goal.returns-in-Err-TooLong
+returns-in-Err-TooLong c =
     let z = c.args in
-    let k = c.write-made in
-    let e = case_too_long (write z.sheet.now (length z.work.now) (length z.image.now)) (sym k.ensures.0 ∙ c.in-TooLong.is) in
+    let k = c.write in
+    let is : case_of (write z.sheet.now (length z.work.now) (length z.image.now)) ≡ Err (TooLong c.in-Err-TooLong.field-0-0) = cc k.ensures.0 in
+    let e = case_too_long (write z.sheet.now (length z.work.now) (length z.image.now)) is in
     let t = told_long z.limit z.text.now z.stack.now _ e in (
       t.0,
       k.ensures.1,
@@ -48,8 +53,8 @@ pub returns-then-limit-text : goal.returns-then-limit-text
 unfolding answer_held
 returns-then-limit-text c =
     let z = c.args in
-    let k = c.write-made in
-    let d = case_done (write z.sheet.now (length z.work.now) (length z.image.now)) (sym k.ensures.0 ∙ c.in-Done.is) in
+    let k = c.write in
+    let d = case_done (write z.sheet.now (length z.work.now) (length z.image.now)) (sym k.ensures.0 ∙ c.in-Ok.is) in
     let t = told_over z.limit z.text.now z.stack.now d.0 d.1 c.if-limit-text.true in (
       t.0,
       k.ensures.1,
@@ -61,32 +66,32 @@ returns-then-limit-text c =
 pub slice_bounds-run-end : goal.slice_bounds-run-end
 slice_bounds-run-end c =
     let z = c.args in
-    let k = c.write-made in
-    let d = case_done (write z.sheet.now (length z.work.now) (length z.image.now)) (sym k.ensures.0 ∙ c.in-Done.is) in
+    let k = c.write in
+    let d = case_done (write z.sheet.now (length z.work.now) (length z.image.now)) (sym k.ensures.0 ∙ c.in-Ok.is) in
     let f = (written_passed z.sheet.now (length z.work.now) (length z.image.now) d.0 d.1).3 in
     let l = ap length k.ensures.1 ∙ image-kept z.sheet.now (length z.work.now) z.image.now in
     omega (arith, d.2, f, l)
 
-pub slice_bounds-run-end-in-Done : goal.slice_bounds-run-end-in-Done
-slice_bounds-run-end-in-Done c =
+pub slice_bounds-run-end-2 : goal.slice_bounds-run-end-2
+slice_bounds-run-end-2 c =
     let z = c.args in
-    let k = c.write-made in
-    let d = case_done (write z.sheet.now (length z.work.now) (length z.image.now)) (sym k.ensures.0 ∙ c.in-Done.is) in
+    let k = c.write in
+    let d = case_done (write z.sheet.now (length z.work.now) (length z.image.now)) (sym k.ensures.0 ∙ c.in-Ok.is) in
     let f = (written_passed z.sheet.now (length z.work.now) (length z.image.now) d.0 d.1).3 in
     let l = ap length k.ensures.1 ∙ image-kept z.sheet.now (length z.work.now) z.image.now in
-    sym (length-take-le c.in-Done.size k.new.image (omega (arith, d.2, f, l)))
+    sym (length-take-le c.in-Ok.size k.new.image (omega (arith, d.2, f, l)))
 
-pub returns-else-limit-text : goal.returns-else-limit-text
+pub returns : goal.returns
 unfolding answer_held
-returns-else-limit-text c =
+returns c =
     let z = c.args in
-    let k = c.write-made in
+    let k = c.write in
     let m = write z.sheet.now (length z.work.now) (length z.image.now) in
-    let d = case_done m (sym k.ensures.0 ∙ c.in-Done.is) in
-    let r = c.run-ran in
+    let d = case_done m (sym k.ensures.0 ∙ c.in-Ok.is) in
+    let r = c.run in
     let bytes : Bytes z.sheet.now = λ i. (c.type_inv.sheet i).fits in
     let w = written-image m d.0 z.image.now _ d.1 k.ensures.1 in
-    let i : take c.in-Done.size k.new.image ≡ d.0 = ap (λ (n : ℕ). take n k.new.image) d.2 ∙ w in
+    let i : take c.in-Ok.size k.new.image ≡ d.0 = ap (λ (n : ℕ). take n k.new.image) d.2 ∙ w in
     let e : record { answer = answer_held r.result; left = stack_alone r.new.stack } ≡ run d.0 z.text.now (stack_alone z.stack.now) =
     r.ensures ∙ ap (λ (l : List ℕ). run l z.text.now (stack_alone z.stack.now)) i in
     let t = told-run z.limit z.text.now z.stack.now d.0 (answer_held r.result) r.new.stack d.1 c.if-limit-text.false e in

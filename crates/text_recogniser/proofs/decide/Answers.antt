@@ -19,14 +19,14 @@ returns-then-told-eq0 c o h =
     ∙ decided_all (take a.count a.starts) a.count a.end (length-take-le a.count a.starts (omega (arith, long, c.requires.0))) a.told o h
     c.if-told-eq0.true
 
-pub returns-then-left-eq0 : goal.returns-then-left-eq0
+pub returns-then-told-eq1 : goal.returns-then-told-eq1
 unfolding answer_held
-returns-then-left-eq0 c o h =
+returns-then-told-eq1 c o h =
     let a = c.args in
     let long : length a.starts ≡ 2048 = search rules in
-    ap answer_held c.answer-then-left-eq0.ensures
+    ap answer_held c.answer-then-told-eq1.ensures
     ∙ decided_early (take a.count a.starts) a.count a.end (length-take-le a.count a.starts (omega (arith, long, c.requires.0))) a.told o h
-    c.if-left-eq0.true c.if-told-eq0.false
+    c.if-told-eq1.true
 
 pub returns : goal.returns
 unfolding answer_held
@@ -34,7 +34,9 @@ returns c o h =
     let a = c.args in
     let long : length a.starts ≡ 2048 = search rules in
     let within = told_within o h in
+    let some : a.told / 2 ≡ 0 → ⊥ = λ z. omega (arith, z) in
     ap answer_held c.answer-2.ensures
-    ∙ (ap (λ (p : ℕ). answer 15 p a.count) (sym (get_or-take a.count a.starts (a.count - a.told / 2) 0 (omega (arith, within, c.if-left-eq0.false))))
+    ∙ (ap (λ (p : ℕ). answer 15 p a.count)
+    (c.from.ensures ∙ sym (get_or-take a.count a.starts (a.count - a.told / 2) 0 (omega (arith, within))))
     ∙ decided_left (take a.count a.starts) a.count a.end (length-take-le a.count a.starts (omega (arith, long, c.requires.0))) a.told o h
-    c.if-left-eq0.false)
+    some)

@@ -8,9 +8,6 @@ use Rattle.token_lister.proofs.list_matches.Goals as goal
 pub loop-place-init : goal.loop-place-init
 loop-place-init c = (omega arith, omega arith, refl, c.requires.2, λ rules ready. reached_start rules _ _ _)
 
-pub longest_match-found-requires : goal.longest_match-found-requires
-longest_match-found-requires c = (positions c.requires.3.0, c.requires.3.1.prepared)
-
 pub returns-in_default : goal.returns-in_default
 returns-in_default c =
     λ rules ready.
@@ -19,29 +16,19 @@ returns-in_default c =
     (c.longest_match-found.ensures (positions rules) ready.prepared) c.in_default.is)
 
 pub overflow_add-end : goal.overflow_add-end
-overflow_add-end c = omega (arith, (fits_here _ _ _ _ _ _ c.requires.3 _ c.longest_match-found.ensures _ _ c.in-Rule.is c.loop-place.invariant.1).1)
+overflow_add-end c = omega (arith, (fits_here _ _ _ _ _ _ c.requires.3 _ c.longest_match-found.ensures _ _ c.in-Some.is c.loop-place.invariant.1).1)
 
-pub overflow_cast-number : goal.overflow_cast-number
-overflow_cast-number c = omega (arith, (fits_here _ _ _ _ _ _ c.requires.3 _ c.longest_match-found.ensures _ _ c.in-Rule.is c.loop-place.invariant.1).2)
-
-pub bounds-action-rule : goal.bounds-action-rule
-bounds-action-rule c = (fits_here _ _ _ _ _ _ c.requires.3 _ c.longest_match-found.ensures _ _ c.in-Rule.is c.loop-place.invariant.1).2
+pub bounds-action-m : goal.bounds-action-m
+bounds-action-m c = (fits_here _ _ _ _ _ _ c.requires.3 _ c.longest_match-found.ensures _ _ c.in-Some.is c.loop-place.invariant.1).2
 
 pub loop-place-smaller : goal.loop-place-smaller
-loop-place-smaller c = let f = fits_here _ _ _ _ _ _ c.requires.3 _ c.longest_match-found.ensures _ _ c.in-Rule.is c.loop-place.invariant.1 in omega (arith, f.0, f.1)
-
-pub put_token-count-requires : goal.put_token-count-requires
-put_token-count-requires c =
-    let f = fits_here _ _ _ _ _ _ c.requires.3 _ c.longest_match-found.ensures _ _ c.in-Rule.is c.loop-place.invariant.1 in
-    let i = c.loop-place.invariant in
-    let p = c.requires in
-    (omega (arith, i.0, i.2, p.1, f.0, f.1), omega (arith, i.0, p.0, f.0, f.1), omega (arith, p.0, f.0, f.1), i.3)
+loop-place-smaller c = let f = fits_here _ _ _ _ _ _ c.requires.3 _ c.longest_match-found.ensures _ _ c.in-Some.is c.loop-place.invariant.1 in omega (arith, f.0, f.1)
 
 pub loop-place-preserved : goal.loop-place-preserved
 loop-place-preserved c =
     let put = c.put_token-count in
     let i = c.loop-place.invariant in
-    let f = fits_here _ _ _ _ _ _ c.requires.3 _ c.longest_match-found.ensures _ _ c.in-Rule.is c.loop-place.invariant.1 in (
+    let f = fits_here _ _ _ _ _ _ c.requires.3 _ c.longest_match-found.ensures _ _ c.in-Some.is c.loop-place.invariant.1 in (
       omega (arith, put.ensures.0, i.0, f.0),
       f.1,
       put.auto.list ∙ i.2,
@@ -51,7 +38,7 @@ loop-place-preserved c =
           let text = c.args.text.now in
           let place = c.loop-place.place in
           let e = c.longest_match-found.ensures (positions rules) ready.prepared in
-          let is = c.in-Rule.is in
+          let is = c.in-Some.is in
           reached_next rules text c.loop-place.count place _ _ _ _ r _ _ _ _ _ _ c.loop-place-test.true
           (match_is rules _ _ _ _ ready text place c.longest_match-found.result e _ _ is) f.0
           (action_is rules _ _ _ _ ready text place c.longest_match-found.result e _ _ is i.1)

@@ -1,6 +1,6 @@
 -- `tables_of` meets its contract. The loop's invariant: the tables hold the positions so far.
 use mathlib.Core.Path.{◌≡◌}
-use Prim.Native.Nat.{◌-◌, ◌≤◌}
+use Prim.Native.Nat.{◌≤◌}
 use lib.ListN.{length, take}
 use Rattle.columns.specs.HeldPositions.{held_positions}
 use Rattle.class_table.specs.Holding.{Holding}
@@ -8,7 +8,4 @@ use Rattle.token_lister.proofs.tables_of.Given as goal
 
 abbrev pub invariant-loop-i : goal.invariant-loop-i
 invariant-loop-i l =
-    (l.i ≤ l.count) × (length l.tables ≡ 448) × Holding (take l.i (held_positions l.positions)) l.tables
-
-abbrev pub decreases-loop-i : goal.decreases-loop-i
-decreases-loop-i l = l.count - l.i
+    (l.positions.count ≤ 64) × (length l.tables ≡ 448) × Holding (take l.i (held_positions l.positions)) l.tables

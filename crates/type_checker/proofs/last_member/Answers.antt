@@ -2,7 +2,7 @@
 use mathlib.Core.Path.{◌≡◌}
 use Prim.Native.Nat.{◌-◌, ◌^◌, ◌<◌}
 use native.Mathlib.Omega.{arith}
-use lib.Count.{count_leading_zeros, leading_le}
+use lib.Count.{count_leading_zeros}
 use borrow.Author.Rules.{rules}
 use Rattle.type_checker.proofs.Sets.{last_place}
 use Rattle.type_checker.proofs.last_member.Goals as goal
@@ -10,12 +10,6 @@ use Rattle.type_checker.proofs.last_member.Goals.{Start}
 
 small : (c : Start) → c.args.s < 2 ^ 64
 small c = search rules
-
-pub overflow_cast-result : goal.overflow_cast-result
-overflow_cast-result c = omega (arith, leading_le 64 c.args.s)
-
-pub overflow_sub-result : goal.overflow_sub-result
-overflow_sub-result c = omega (arith, (last_place c.args.s c.requires (small c)).1)
 
 pub returns : goal.returns
 returns c =

@@ -15,6 +15,6 @@ returns-then-out-lt3 c =
 pub returns : goal.returns
 returns c =
     let z = c.args in
-    let k = c.check-verdict.ensures in
-    let n = c.verdict_numbers-told.ensures ∙ ap numbers_of k.2 in
+    let k = c.check-checked.ensures in
+    let n = c.from.ensures ∙ ap numbers_of k.2 in
     (c.put.ensures ∙ ap (λ (l : List ℕ). out_after l z.out.now) n, k.1 ∙ after_long z.out.now _ z.work.now c.if-out-lt3.false)

@@ -17,7 +17,7 @@ pub returns : goal.returns
 returns c =
     let z = c.args in
     let e = c.run-ran.ensures in
-    let n = c.run_numbers-told.ensures ∙ ap (λ (r : Ran). numbers_of r.answer) e in (
+    let n = c.from.ensures ∙ ap (λ (r : Ran). numbers_of r.answer) e in (
       c.put.ensures ∙ ap (λ (l : List ℕ). out_after l z.out.now) n,
       ap (λ (r : Ran). r.left) e ∙ after_long z.out.now _ (stack_alone z.stack.now) c.if-out-lt3.false,
     )

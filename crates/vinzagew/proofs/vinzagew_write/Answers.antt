@@ -17,7 +17,7 @@ pub returns : goal.returns
 returns c =
     let z = c.args in
     let k = c.write-written.ensures in
-    let n = c.written_numbers-told.ensures ∙ ap numbers_of k.3 in (
+    let n = c.from.ensures ∙ ap numbers_of k.3 in (
       c.put.ensures ∙ ap (λ (l : List ℕ). out_after l z.out.now) n,
       k.1 ∙ after_long z.out.now _ z.image.now c.if-out-lt3.false,
       k.2 ∙ after_long z.out.now _ z.work.now c.if-out-lt3.false,

@@ -1,0 +1,3 @@
+-- What the functions answer: digits and bytes (`Hex`), and where lines end (`LineEnds`).
+pub mod Hex
+pub mod LineEnds

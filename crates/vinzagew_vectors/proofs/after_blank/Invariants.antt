@@ -1,6 +1,0 @@
--- The loop of `vinzagew_vectors::after_blank`: each turn leaves less of the text.
-use Rattle.std.proofs.Common.{length, ◌-◌}
-use Rattle.vinzagew_vectors.proofs.after_blank.Given as goal
-
-abbrev pub decreases-loop-i : goal.decreases-loop-i
-decreases-loop-i l = length l.text - l.i
