@@ -83,9 +83,9 @@ fn walk_seen(end: WalkEnd) -> Result<Option<Match>, usize>
     ensures { SeenBy result (told_of end) }
 {
     match end {
-        WalkEnd::Nothing => return Ok(None),
-        WalkEnd::Rule(rule, length) => return Ok(Some(Match { rule, length })),
-        WalkEnd::InVain(n) => return Err(n),
+        WalkEnd::Nothing => Ok(None),
+        WalkEnd::Rule(rule, length) => Ok(Some(Match { rule, length })),
+        WalkEnd::InVain(n) => Err(n),
     }
 }
 
@@ -94,11 +94,8 @@ fn without_rows<'a>(machine: &Machine<'a>) -> Machine<'a>
     ensures { result ≡ record machine.now { scanner = None } }
 {
     Machine {
-        image: machine.image,
-        read: machine.read,
-        tables: machine.tables,
-        productions: machine.productions,
         scanner: None,
+        ..*machine
     }
 }
 
@@ -111,10 +108,8 @@ fn walk<'a>(text: &'a [u8], machine: &Machine<'a>) -> WalkEnd
 {
     let scanner = machine.scanner;
     match scanner {
-        Some(rows) => return table_scanner::walk_rows(text, rows.table, rows.winners),
-        None => {
-            return scanner::walk_once(text, machine.tables, machine.read.last, machine.read.first);
-        }
+        Some(rows) => table_scanner::walk_rows(text, rows.table, rows.winners),
+        None => scanner::walk_once(text, machine.tables, machine.read.last, machine.read.first),
     }
 }
 
@@ -204,15 +199,8 @@ fn scan<'a>(text: &'a [u8], machine: &Machine<'a>) -> Option<Match>
 {
     let scanner = machine.scanner;
     match scanner {
-        Some(rows) => return table_scanner::match_by_rows(text, rows.table, rows.winners),
-        None => {
-            return scanner::longest_match(
-                text,
-                machine.tables,
-                machine.read.last,
-                machine.read.first,
-            );
-        }
+        Some(rows) => table_scanner::match_by_rows(text, rows.table, rows.winners),
+        None => scanner::longest_match(text, machine.tables, machine.read.last, machine.read.first),
     }
 }
 
@@ -222,8 +210,8 @@ fn word_of(found: Option<Match>) -> u64
     ensures { word_match result ≡ match_of found }
 {
     match found {
-        None => return 0,
-        Some(matched) => return alive_scanner::match_word(matched.rule, matched.length),
+        None => 0,
+        Some(matched) => alive_scanner::match_word(matched.rule, matched.length),
     }
 }
 
@@ -306,7 +294,7 @@ fn run_plain<'a>(
         → PlainLead i machine.now text.now
         (trace i (length stack.old) text.now) stack.new result }
 {
-    if stack.len() < 1 {
+    if stack.is_empty() {
         return Ok(machine_turn::answer(17, 0, 0));
     }
     let mut state = machine_turn::first_state();
@@ -334,9 +322,9 @@ fn turn_left(turned: Turns) -> Result<State, RunAnswer>
     ensures { result ≡ turn_left turned }
 {
     match turned {
-        Turns::Done(done) => return Err(done),
-        Turns::Reached(s) => return Ok(s),
-        Turns::InVain(s, n) => return Ok(s),
+        Turns::Done(done) => Err(done),
+        Turns::Reached(s) => Ok(s),
+        Turns::InVain(s, n) => Ok(s),
     }
 }
 
@@ -472,10 +460,8 @@ fn run_on<'a>(
         → answer_held result ≡ answer_of whole }
 {
     match turned {
-        Ok(done) => return done,
-        Err(at) => {
-            return run_rest(machine, text, stack, at);
-        }
+        Ok(done) => done,
+        Err(at) => run_rest(machine, text, stack, at),
     }
 }
 

@@ -210,9 +210,7 @@ pub fn one_turn(
     if sets::has(skips, matched.rule as usize) {
         return Ok(State {
             place: state.place + matched.length,
-            depth: state.depth,
-            first: state.first,
-            count: state.count,
+            ..state
         });
     }
     let taken = take_rule(
@@ -226,16 +224,14 @@ pub fn one_turn(
         matched.rule,
     );
     match taken {
-        Taken::NoTaker => return Err(answer(15, state.place, state.count)),
-        Taken::TooDeep => return Err(answer(17, state.place, state.count)),
-        Taken::Pending(depth, first) => {
-            return Ok(State {
-                place: state.place + matched.length,
-                depth,
-                first,
-                count: state.count + 1,
-            });
-        }
+        Taken::NoTaker => Err(answer(15, state.place, state.count)),
+        Taken::TooDeep => Err(answer(17, state.place, state.count)),
+        Taken::Pending(depth, first) => Ok(State {
+            place: state.place + matched.length,
+            depth,
+            first,
+            count: state.count + 1,
+        }),
     }
 }
 

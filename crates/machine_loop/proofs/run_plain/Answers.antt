@@ -1,7 +1,8 @@
 use mathlib.Core.Path.{◌≡◌, refl, sym, ap, subst, ◌∙◌}
 use mathlib.Core.List.{List, []}
-use Prim.Native.Nat.{ℕ, ◌-◌}
+use Prim.Native.Nat.{ℕ, ◌-◌, ◌≤◌}
 use native.Mathlib.Omega.{arith}
+use borrow.Author.Tests.{eqb-true, eqb-false}
 use lib.ListN.{length}
 use Rattle.image.specs.Image.{Image}
 use Rattle.image_reader.specs.Decoded.{ImageTables}
@@ -39,7 +40,7 @@ Lts-In-Reached = lts.Past-After-known_told3 tie.the-claims reads.Pre reads.Post 
 
 -- The start, from the head of the loop, and the head, from what the turns leave.
 abbrev start_of : Lts-At-loop-done → Start
-start_of head = head.before.before.before.before.before.before
+start_of head = head.before.before.before.before.before.before.before
 
 abbrev head_of : Lts-After-turns_by_walks-round → Lts-At-loop-done
 head_of c = c.before.before
@@ -72,21 +73,20 @@ led c i w = let h = (head_of c).loop-done.invariant.1 i w in c.turns_by_walks-ro
 kept_here : (c : Lts-After-turns_by_walks-round) → length (stack-left c) ≡ length (start_of (head_of c)).args.stack.now
 kept_here c = c.turns_by_walks-round.auto.stack ∙ (head_of c).loop-done.invariant.0
 
-pub returns-then-stack-lt1 : goal.returns-then-stack-lt1
+pub returns-then-is_empty : goal.returns-then-is_empty
 unfolding answer_held
-returns-then-stack-lt1 c =
-    let start = c.before.before.before.before.before in
+returns-then-is_empty c =
+    let none = eqb-true _ 0 (sym c.is_empty.ensures ∙ c.if-is_empty.true) in
     λ i w. (
-      ap answer_held c.answer.ensures ∙ run_no_entry i _ start.args.text.now c.if-stack-lt1.true,
-      λ h. absurd (omega (arith, h, c.if-stack-lt1.true)),
+      ap answer_held c.answer.ensures ∙ run_no_entry i _ c.args.text.now (omega (arith, none)),
+      λ h. absurd (omega (arith, h, none)),
     )
 
 pub loop-done-init : goal.loop-done-init
 unfolding budget
 loop-done-init c =
-    let s = c.before.before.before.before.before.before in
-    let a = s.args in
-    let room = c.if-stack-lt1.false in (
+    let a = c.args in
+    let room : 1 ≤ length a.stack.now = omega (arith, eqb-false _ 0 (sym c.is_empty.ensures ∙ c.if-is_empty.false)) in (
       refl,
       λ i w. (
         subst (Going i a.machine.now.image.now (tables_in a.machine.now) a.text.now a.stack.now _)
