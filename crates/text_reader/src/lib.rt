@@ -44,11 +44,7 @@ pub fn read_text(
         }
     };
     if limit < text.len() {
-        return Ok(RunAnswer {
-            number: 12,
-            place: 0,
-            count: 0,
-        });
+        return Ok(machine_turn::answer(12, 0, 0));
     }
     Ok(image_runner::run(&image[..size], text, stack))
 }

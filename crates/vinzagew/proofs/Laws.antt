@@ -37,15 +37,15 @@ module _ (out : List ℕ) where
   unfolding if_room
   after_long after lent h = rw (le-ltb (length out) 3 h)
 
--- The numbers of each case, where n is the question that a refusal names.
+-- The numbers of each case.
 pub told_passed : (c : Result Unit Refusal) → c ≡ Ok tt → 0 ∷ 0 ∷ 0 ∷ [] ≡ numbers_of (checker.answer_of c)
 unfolding numbers_of checker.answer_of
 told_passed c e = rw e refl
 
-pub told_failed : (c : Result Unit Refusal) (refusal : Refusal) → c ≡ Err refusal → {n : ℕ} → n ≡ refusal.question
-    → n ∷ refusal.place ∷ 0 ∷ [] ≡ numbers_of (checker.answer_of c)
+pub told_failed : (c : Result Unit Refusal) (refusal : Refusal) → c ≡ Err refusal
+    → refusal.question ∷ refusal.place ∷ 0 ∷ [] ≡ numbers_of (checker.answer_of c)
 unfolding numbers_of checker.answer_of
-told_failed c refusal e same = rw (e, same) refl
+told_failed c refusal e = rw e refl
 
 module _ (w : Result ℕ WriteError) where
   pub told_done : (length : ℕ) → w ≡ Ok length → 0 ∷ 0 ∷ length ∷ [] ≡ numbers_of (compiler.answer_of w)
@@ -56,7 +56,7 @@ module _ (w : Result ℕ WriteError) where
   unfolding numbers_of compiler.answer_of
   told_long needed e = rw e refl
 
-  pub told_refused : (refusal : Refusal) → w ≡ Err (Refused refusal) → {n : ℕ} → n ≡ refusal.question
-      → n ∷ refusal.place ∷ 0 ∷ [] ≡ numbers_of (compiler.answer_of w)
+  pub told_refused : (refusal : Refusal) → w ≡ Err (Refused refusal)
+      → refusal.question ∷ refusal.place ∷ 0 ∷ [] ≡ numbers_of (compiler.answer_of w)
   unfolding numbers_of compiler.answer_of
-  told_refused refusal e same = rw (e, same) refl
+  told_refused refusal e = rw e refl

@@ -38,6 +38,15 @@ fn three(number: u64, place: u64, amount: u64) -> Numbers
     }
 }
 
+// A refused sheet has no length.
+impl From<Refusal> for Numbers {
+    ghost from_gives = { λ refusal numbers. numbers_held numbers ≡ refusal.question ∷ refusal.place ∷ 0 ∷ [] };
+
+    fn from(refusal: Refusal) -> Numbers {
+        three(u64::from(refusal.question), refusal.place as u64, 0)
+    }
+}
+
 // Checking has no length.
 impl From<Result<(), Refusal>> for Numbers {
     ghost from_gives = { λ checked numbers. numbers_held numbers ≡ numbers_of (checker.answer_of checked) };
@@ -45,7 +54,7 @@ impl From<Result<(), Refusal>> for Numbers {
     fn from(checked: Result<(), Refusal>) -> Numbers {
         match checked {
             Ok(()) => three(0, 0, 0),
-            Err(refusal) => three(u64::from(refusal.question), refusal.place as u64, 0),
+            Err(refusal) => Numbers::from(refusal),
         }
     }
 }
@@ -59,9 +68,7 @@ impl From<Result<usize, WriteError>> for Numbers {
             Ok(length) => three(0, 0, length as u64),
             Err(error) => match error {
                 WriteError::TooLong(needed) => three(11, 0, needed as u64),
-                WriteError::Refused(refusal) => {
-                    three(u64::from(refusal.question), refusal.place as u64, 0)
-                }
+                WriteError::Refused(refusal) => Numbers::from(refusal),
             },
         }
     }

@@ -11,6 +11,7 @@ use Rattle.image.proofs.laws.WriteLaws.{written_passed}
 use Rattle.machine.specs.Lent.{stack_alone, Ran}
 use Rattle.machine.specs.Run.{run}
 use Rattle.machine_turn.specs.Steps.{answer_held}
+use Rattle.machine_turn.specs.declared.RunAnswer.{RunAnswer}
 use Rattle.std.specs.Prelude.{Err}
 use Rattle.image_writer.specs.Answer.{case_of}
 use Rattle.image_writer.specs.declared.WriteError.TheVariants.{TooLong, Refused}
@@ -56,7 +57,7 @@ returns-then-limit-text c =
     let k = c.write in
     let d = case_done (write z.sheet.now (length z.work.now) (length z.image.now)) (sym k.ensures.0 ∙ c.in-Ok.is) in
     let t = told_over z.limit z.text.now z.stack.now d.0 d.1 c.if-limit-text.true in (
-      t.0,
+      ap (λ (r : RunAnswer). text_answered (answer_held r)) c.answer.ensures ∙ t.0,
       k.ensures.1,
       k.ensures.2,
       t.1,

@@ -7,4 +7,4 @@ pub returns-in-Ok : goal.returns-in-Ok
 returns-in-Ok c = c.three.ensures ∙ told_passed c.args.checked c.in-Ok.is
 
 pub returns-in-Err : goal.returns-in-Err
-returns-in-Err c = c.three-in-Err.ensures ∙ told_failed c.args.checked c.in-Err.refusal c.in-Err.is c.from.ensures
+returns-in-Err c = c.from.ensures ∙ told_failed c.args.checked c.in-Err.refusal c.in-Err.is

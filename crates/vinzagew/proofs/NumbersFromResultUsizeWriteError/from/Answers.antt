@@ -16,4 +16,4 @@ returns-in-TooLong c =
 pub returns-in-Refused : goal.returns-in-Refused
 returns-in-Refused c =
     let h = c.in-Refused in
-    c.three-in-Refused.ensures ∙ told_refused c.args.written h.refusal (c.in-Err.is ∙ ap (λ (e : WriteError). Err e) h.is) c.from.ensures
+    c.from.ensures ∙ told_refused c.args.written h.refusal (c.in-Err.is ∙ ap (λ (e : WriteError). Err e) h.is)
