@@ -100,6 +100,7 @@ fn without_rows<'a>(machine: &Machine<'a>) -> Machine<'a>
 }
 
 // One walk over the front of a text: by the rows of the image's table, or by sets of positions.
+#[inline(always)]
 fn walk<'a>(text: &'a [u8], machine: &Machine<'a>) -> WalkEnd
     requires { (1 ≤ length text.now) × ((i : Image) × WithTables machine.now i) }
     ensures { (i : Image)
@@ -115,6 +116,7 @@ fn walk<'a>(text: &'a [u8], machine: &Machine<'a>) -> WalkEnd
 
 // What is seen at a place in a turn: the match that was found ahead for it, or what one walk tells, where an Err is how many bytes the walk went
 // over in vain. Turns by rows have no matches found ahead: the list is not looked at.
+#[inline(always)]
 fn look<'a>(
     text: &'a [u8],
     place: usize,
@@ -140,6 +142,7 @@ fn look<'a>(
 // The turns of a readable image over a text, from a state on until a place is reached, a walk is in vain, or the run ends: the first by the
 // matches that were found ahead, the others by walks. There is one loop for all ways of finding a match, so that the compiler puts the code of
 // a turn into it: a function that is called from two places it leaves apart. So the walk that a walk in vain leads to is not made here.
+#[inline(always)]
 fn run_turns<'a>(
     machine: &Machine<'a>,
     matches: &[u64],
@@ -188,6 +191,38 @@ fn run_turns<'a>(
         turn += 1;
     }
     Turns::Reached(state)
+}
+
+// The same turns. The loop stands here twice, for images with a scanner's table and for those without: then no turn asks which it is, and neither
+// loop holds what the other one needs. In one loop for both, reading with a table took up to 1.5 times as long.
+#[inline(never)]
+fn turns_from<'a>(
+    machine: &Machine<'a>,
+    matches: &[u64],
+    text: &'a [u8],
+    stack: &mut [u8],
+    from: State,
+    stop: usize,
+) -> Turns
+    requires { (stop ≤ length text.now) × (IsSome machine.now.scanner → length matches.now ≡ 0) × ((i : Image) × (whole : Ended) × (to : ℕ)
+        × WithTables machine.now i
+        × Going i machine.now.image.now (tables_in machine.now) text.now stack.old from whole
+        × Ahead i.positions i.first text.now to from.place matches.now) }
+    ensures { (i : Image) (whole : Ended) (to : ℕ)
+        → WithTables machine.now i
+        → Going i machine.now.image.now (tables_in machine.now) text.now
+        stack.old from whole
+        → Ahead i.positions i.first text.now to from.place matches.now
+        → TurnsLead i machine.now text.now from.place
+        matches.now to stop whole stack.new result }
+{
+    match machine.scanner {
+        Some(_) => run_turns(machine, matches, text, stack, from, stop),
+        None => {
+            let by_sets = without_rows(machine);
+            run_turns(&by_sets, matches, text, stack, from, stop)
+        }
+    }
 }
 
 // The longest match at the front of a text, by a walk that notes it: by the rows of the image's table, or by sets of positions.
@@ -241,7 +276,7 @@ fn turn_again<'a>(
     let words = [word_of(found); 1];
     let stop = p + 1;
     let by_sets = without_rows(machine);
-    run_turns(&by_sets, &words[..1], text, stack, state, stop)
+    turns_from(&by_sets, &words[..1], text, stack, state, stop)
 }
 
 // Turns by walks from a state on, up to the first whose walk is in vain and is made again. Both walks are charged. A walk in vain that the
@@ -267,7 +302,7 @@ fn turns_by_walks<'a>(
 {
     let none = [0u64; 1];
     let stop = text.len();
-    let turned = run_turns(machine, &none[..0], text, stack, from, stop);
+    let turned = turns_from(machine, &none[..0], text, stack, from, stop);
     let Turns::InVain(s, n) = turned else {
         return Round { turned, left };
     };
@@ -367,7 +402,7 @@ fn turns_ahead<'a, 'b>(
     let count = ahead.count;
     let found: &[u64] = words;
     let by_sets = without_rows(machine);
-    let turned = run_turns(&by_sets, &found[..count], text, stack, state, ahead.stop);
+    let turned = turns_from(&by_sets, &found[..count], text, stack, state, ahead.stop);
     AheadTurns {
         turned: turn_left(turned),
         end: ahead.end,

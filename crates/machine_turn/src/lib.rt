@@ -184,7 +184,9 @@ fn take_rule(
     replace_taker(image, start as usize, taker.entry, stack, taker.below)
 }
 
-// One turn: what matched at the state's place is skipped, taken or refused. A refusal is an Err, and is the run's answer.
+// One turn: what matched at the state's place is skipped, taken or refused. A refusal is an Err, and is the run's answer. It is put into the loops
+// that call it.
+#[inline(always)]
 pub fn one_turn(
     image: &[u8],
     tables: &[u64; 448],

@@ -168,6 +168,7 @@ pub fn longest_match<'a>(
 
 // What one walk over a text of a byte or more tells. The walk goes as in `longest_match`, but notes no match on
 // the way: where no match ends with its latest byte, the answer is only how many bytes it went over.
+#[inline(always)]
 pub fn walk_once<'a>(text: &'a [u8], tables: &'a [u64; 448], last: u64, first: u64) -> WalkEnd
     requires { (1 ≤ length text.now) × ((ps : List Position) × Prepared ps last tables.now) }
     ensures { (ps : List Position) → Prepared ps last tables.now → told_of result ≡ told ps first text.now }

@@ -13,6 +13,7 @@ use scanner::{Match, WalkEnd};
 // What one walk over a text of a byte or more tells. Row 1 leads to itself and has no winner, so that the walk
 // ends there. If the row that the latest byte led to has a winner, that is the longest match; otherwise the walk was in vain. The first
 // byte's entry stands in row 0, at the byte itself; a row that stays needs no new address.
+#[inline(always)]
 pub fn walk_rows<'a>(text: &'a [u8], table: &'a [u16], winners: &'a [u16]) -> WalkEnd
     requires { (1 ≤ length text.now) × RowsIn table.now winners.now }
     ensures { told_of result ≡ told_by_rows table.now winners.now text.now }

@@ -35,8 +35,8 @@ Lts-After-scan-found = lts.After-scan tie.the-claims reads.Pre reads.Post
 abbrev Lts-After-word_of : Type 0
 Lts-After-word_of = lts.After-word_of tie.the-claims reads.Pre reads.Post
 
-abbrev Lts-After-run_turns : Type 0
-Lts-After-run_turns = lts.After-run_turns tie.the-claims reads.Pre reads.Post
+abbrev Lts-After-turns_from : Type 0
+Lts-After-turns_from = lts.After-turns_from tie.the-claims reads.Pre reads.Post
 
 -- What one turn by the match leaves, as it is gone on from.
 gone_on : (i : Image) (m : Machine) (text : List ℕ) (place word more : ℕ) (whole : Ended) (stack : List ℕ)
@@ -93,20 +93,20 @@ ahead-here c i whole w =
     (e, λ rule n m. omega (arith, (match_within i.positions i.first (drop a.state.place a.text.now) rule n m).0))
 
 -- What the turn leaves.
-led : (c : Lts-After-run_turns) (i : Image) (whole : Ended)
+led : (c : Lts-After-turns_from) (i : Image) (whole : Ended)
     → let word = c.before.before.before.before.before in
     let s = start_of word.before.before in
     let a = s.args in
     Held s i whole
     → TurnsLead i a.machine.now a.text.now a.state.place (word.word_of.result ∷ []) (a.state.place + 1) (a.state.place + 1)
-    whole c.run_turns.new.stack c.run_turns.result
+    whole c.turns_from.new.stack c.turns_from.result
 led c i whole w =
     let word = c.before.before.before.before.before in
     let a = (start_of word.before.before).args in
     let m = a.machine.now in
     let e = c.without_rows-by_sets.ensures in
-    same_lead m _ e i a.text.now whole a.state.place (word.word_of.result ∷ []) (a.state.place + 1) (a.state.place + 1) c.run_turns.new.stack c.run_turns.result
-    (c.run_turns.ensures i whole _ (without_rows m _ e w.0) (same_going m _ e i _ whole w.1) (ahead-here word i whole w))
+    same_lead m _ e i a.text.now whole a.state.place (word.word_of.result ∷ []) (a.state.place + 1) (a.state.place + 1) c.turns_from.new.stack c.turns_from.result
+    (c.turns_from.ensures i whole _ (without_rows m _ e w.0) (same_going m _ e i _ whole w.1) (ahead-here word i whole w))
 
 pub overflow_add-p : goal.overflow_add-p
 overflow_add-p c = let s = c.before.before.before in omega (arith, inside s, s.requires.0)
@@ -130,8 +130,8 @@ word_of-requires c =
 pub overflow_add-stop : goal.overflow_add-stop
 overflow_add-stop c = let s = start_of c.before.before.before in omega (arith, inside s, s.requires.0, s.requires.1)
 
-pub run_turns-requires : goal.run_turns-requires
-run_turns-requires c =
+pub turns_from-requires : goal.turns_from-requires
+turns_from-requires c =
     let word = c.before.before.before.before.before in
     let s = start_of word.before.before in
     let w = s.requires.3 in
@@ -153,5 +153,5 @@ returns c =
     let held : Held s i whole = (w, g, e) in
     let m = word.word_of.ensures ∙ match_here word.before i whole held in
     gone_on i a.machine.now a.text.now a.state.place word.word_of.result (a.n + a.n) whole _
-    (λ v x. charged_again i a.text.now a.state.place a.n s.requires.2 e word.word_of.result v s.requires.1 m x) turns.run_turns.result
+    (λ v x. charged_again i a.text.now a.state.place a.n s.requires.2 e word.word_of.result v s.requires.1 m x) turns.turns_from.result
     (led turns i whole held)

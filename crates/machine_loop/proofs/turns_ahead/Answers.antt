@@ -32,13 +32,13 @@ of_image : (i : Image) (m : Machine) (text : List ℕ) (stop place : ℕ) (words
     → Ahead i.positions m.read.first text stop place words → Ahead i.positions i.first text stop place words
 of_image i m text stop place words w e = subst (λ (first : ℕ). Ahead i.positions first text stop place words) w.decoded.first e
 
-pub slice_bounds-run_turns-end : goal.slice_bounds-run_turns-end
-slice_bounds-run_turns-end c =
+pub slice_bounds-turns_from-end : goal.slice_bounds-turns_from-end
+slice_bounds-turns_from-end c =
     let ahead = c.find_ahead-ahead in
     sym (length-take-le ahead.result.count ahead.new.words (omega (arith, ahead.ensures.0, ahead.ensures.5)))
 
-pub run_turns-turned-requires : goal.run_turns-turned-requires
-run_turns-turned-requires c =
+pub turns_from-turned-requires : goal.turns_from-turned-requires
+turns_from-turned-requires c =
     let ahead = c.find_ahead-ahead in
     let w = c.requires.5 in
     let m = c.args.machine.now in
@@ -64,10 +64,10 @@ turn_left-requires c =
     let e = c.without_rows-by_sets.ensures in
     let stop = ahead.result.stop in
     let words = take ahead.result.count ahead.new.words in
-    let stack = c.run_turns-turned.new.stack in
-    no_walk w.0 m _ _ _ stop w.1 _ c.run_turns-turned.result
-    (same_lead m _ e w.0 a.text.now w.1 a.state.place words stop stop stack c.run_turns-turned.result
-    (c.run_turns-turned.ensures w.0 w.1 _ (without_rows m _ e w.3) (same_going m _ e w.0 _ w.1 w.4)
+    let stack = c.turns_from-turned.new.stack in
+    no_walk w.0 m _ _ _ stop w.1 _ c.turns_from-turned.result
+    (same_lead m _ e w.0 a.text.now w.1 a.state.place words stop stop stack c.turns_from-turned.result
+    (c.turns_from-turned.ensures w.0 w.1 _ (without_rows m _ e w.3) (same_going m _ e w.0 _ w.1 w.4)
     (of_image w.0 m _ _ _ _ w.3 (ahead.ensures.6 w.0.positions w.2 w.5).0)))
 
 pub returns : goal.returns
@@ -78,14 +78,14 @@ returns c =
     let e = c.without_rows-by_sets.ensures in
     let stop = ahead.result.stop in
     let words = take ahead.result.count ahead.new.words in
-    let stack = c.run_turns-turned.new.stack in (
+    let stack = c.turns_from-turned.new.stack in (
       ahead.ensures.4,
       ahead.ensures.5,
       λ i whole k w g h.
           let found = ahead.ensures.6 i.positions k h in
           subst (AheadLead i m a.text.now a.state.place whole stack ahead.new.block ahead.result.end) (sym c.turn_left.ensures)
           (gone_on i m _ _ _ stop whole _ ahead.new.block ahead.result.end (ahead.ensures.2 c.requires.1) ahead.ensures.3 found.1
-          c.run_turns-turned.result
-          (same_lead m _ e i a.text.now whole a.state.place words stop stop stack c.run_turns-turned.result
-          (c.run_turns-turned.ensures i whole _ (without_rows m _ e w) (same_going m _ e i _ whole g) (of_image i m _ _ _ _ w found.0)))),
+          c.turns_from-turned.result
+          (same_lead m _ e i a.text.now whole a.state.place words stop stop stack c.turns_from-turned.result
+          (c.turns_from-turned.ensures i whole _ (without_rows m _ e w) (same_going m _ e i _ whole g) (of_image i m _ _ _ _ w found.0)))),
     )

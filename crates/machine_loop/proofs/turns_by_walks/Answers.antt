@@ -22,17 +22,17 @@ use Rattle.machine_loop.proofs.turns_by_walks.Lts as lts
 use Rattle.machine_loop.proofs.turns_by_walks.Tie as tie
 use Rattle.machine_loop.proofs.turns_by_walks.Reads as reads
 
-abbrev Lts-After-run_turns-turned : Type 0
-Lts-After-run_turns-turned = lts.After-run_turns tie.the-claims reads.Pre reads.Post
+abbrev Lts-After-turns_from-turned : Type 0
+Lts-After-turns_from-turned = lts.After-turns_from tie.the-claims reads.Pre reads.Post
 
 abbrev Lts-In-InVain : Type 0
 Lts-In-InVain = lts.Past-After-known_told tie.the-claims reads.Pre reads.Post
 
 -- The start, from what the turns leave, and that, from a walk in vain.
-abbrev start_of : Lts-After-run_turns-turned → Start
+abbrev start_of : Lts-After-turns_from-turned → Start
 start_of c = c.before.before.before.before.before
 
-abbrev turns-of : Lts-In-InVain → Lts-After-run_turns-turned
+abbrev turns-of : Lts-In-InVain → Lts-After-turns_from-turned
 turns-of t = t.before.before.before
 
 abbrev tables-here : Start → ImageTables
@@ -45,18 +45,18 @@ Held s i whole =
     × Going i a.machine.now.image.now (tables-here s) a.text.now a.stack.now a.from whole
     × LeftAt i a.text.now a.from.place a.left
 
-abbrev stack-left : Lts-After-run_turns-turned → List ℕ
-stack-left c = c.run_turns-turned.new.stack
+abbrev stack-left : Lts-After-turns_from-turned → List ℕ
+stack-left c = c.turns_from-turned.new.stack
 
 -- What the turns leave, for any image that the tables hold.
-abbrev Led : Lts-After-run_turns-turned → Image → Ended → Turns → Type 0
+abbrev Led : Lts-After-turns_from-turned → Image → Ended → Turns → Type 0
 Led c i whole =
     let s = start_of c in
     let a = s.args in
     TurnsLead i a.machine.now a.text.now a.from.place [] a.from.place (length a.text.now) whole (stack-left c)
 
-led : (c : Lts-After-run_turns-turned) (i : Image) (whole : Ended) → Held (start_of c) i whole → Led c i whole c.run_turns-turned.result
-led c i whole w = c.run_turns-turned.ensures i whole (start_of c).args.from.place w.0 w.1 (omega arith)
+led : (c : Lts-After-turns_from-turned) (i : Image) (whole : Ended) → Held (start_of c) i whole → Led c i whole c.turns_from-turned.result
+led c i whole w = c.turns_from-turned.ensures i whole (start_of c).args.from.place w.0 w.1 (omega arith)
 
 -- Turns that end without a walk in vain come to the answer, or to the text's end.
 ended : (i : Image) (m : Machine) (text : List ℕ) (place left : ℕ) (whole : Ended) (stack : List ℕ) → LeftAt i text place left
@@ -93,8 +93,8 @@ inside t =
     let before = v.1 in
     (walk-inside w.0 s.args.text.now (state-of t).place (bytes_of t) v.3 v.4 (omega (arith, before)), s.requires.0)
 
-pub run_turns-turned-requires : goal.run_turns-turned-requires
-run_turns-turned-requires c =
+pub turns_from-turned-requires : goal.turns_from-turned-requires
+turns_from-turned-requires c =
     let s = c.before.before.before.before.before in
     let w = s.requires.1 in
     (omega arith, λ e. refl, (w.0, w.1, s.args.from.place, w.2, w.3, omega arith))
@@ -104,7 +104,7 @@ returns-in_default c =
     let turns = c.before.before.before.before in
     let a = (start_of turns).args in
     λ i whole w g h.
-    ended i a.machine.now a.text.now a.from.place a.left whole (stack-left turns) h turns.run_turns-turned.result
+    ended i a.machine.now a.text.now a.from.place a.left whole (stack-left turns) h turns.turns_from-turned.result
     c.in_default.not-InVain (led turns i whole (w, g, h))
 
 pub overflow_add-n : goal.overflow_add-n
