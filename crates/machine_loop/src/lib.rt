@@ -140,8 +140,9 @@ fn look<'a>(
 }
 
 // The turns of a readable image over a text, from a state on until a place is reached, a walk is in vain, or the run ends: the first by the
-// matches that were found ahead, the others by walks. There is one loop for all ways of finding a match, so that the compiler puts the code of
-// a turn into it: a function that is called from two places it leaves apart. So the walk that a walk in vain leads to is not made here.
+// matches that were found ahead, the others by walks. There is one loop for all ways of finding a match, and what a turn calls is marked to be
+// put into it: of itself the compiler leaves apart what is called from two places, and a turn took up to twice as long. So that the loop stays
+// small, the walk that a walk in vain leads to is not made here.
 #[inline(always)]
 fn run_turns<'a>(
     machine: &Machine<'a>,
