@@ -69,8 +69,7 @@ fn run_read<'a>(
     machine_loop::run_image(&machine, text, stack)
 }
 
-// Runs an image over a text with a lent stack, without a table. The run is called from here and from `run_table`, so that the compiler leaves
-// it a function of its own: put into another one, its loop would have fewer registers.
+// Runs an image over a text with a lent stack, without a table.
 pub fn run(image: &[u8], text: &[u8], stack: &mut [u8]) -> RunAnswer
     ensures { ran result (stack_alone stack.new)
         ≡ run image.now text.now (stack_alone stack.old) }

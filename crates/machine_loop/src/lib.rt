@@ -140,9 +140,9 @@ fn look<'a>(
 }
 
 // The turns of a readable image over a text, from a state on until a place is reached, a walk is in vain, or the run ends: the first by the
-// matches that were found ahead, the others by walks. There is one loop for all ways of finding a match, and what a turn calls is marked to be
-// put into it: of itself the compiler leaves apart what is called from two places, and a turn took up to twice as long. So that the loop stays
-// small, the walk that a walk in vain leads to is not made here.
+// matches that were found ahead, the others by walks. There is one loop for all ways of finding a match. It and what stands between it and a
+// walk or a turn are marked to be put into their callers: of itself the compiler leaves apart what is called from two places, and a run took up
+// to twice as long. So that the loop stays small, the walk that a walk in vain leads to is not made here.
 #[inline(always)]
 fn run_turns<'a>(
     machine: &Machine<'a>,
@@ -195,7 +195,7 @@ fn run_turns<'a>(
 }
 
 // The same turns. The loop stands here twice, for images with a scanner's table and for those without: then no turn asks which it is, and neither
-// loop holds what the other one needs. In one loop for both, reading with a table took up to 1.5 times as long.
+// loop holds what the other one needs. With the table in an Option and one loop for both, runs with a table took up to 1.5 times as long.
 #[inline(never)]
 fn turns_from<'a>(
     machine: &Machine<'a>,
